@@ -1,0 +1,4 @@
+pub mod Indices
+pub mod Worked
+pub mod VolumeLaws
+pub mod Levels
