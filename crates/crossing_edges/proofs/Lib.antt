@@ -1,0 +1,4 @@
+pub mod NextPoints
+pub mod SignFlags
+pub mod RowFlags
+pub mod Counting
