@@ -1,0 +1,27 @@
+//! Where bytes come from and go to: sources, sinks and shelves of files, in memory and of the system. Each has a
+//! count of faults that never falls, and a call fails only where that count rises.
+#![tactic(auto)]
+
+mod memory_shelf;
+mod memory_sink;
+mod memory_source;
+mod shelf;
+mod shelf_file;
+mod sink;
+mod source;
+mod staged;
+mod standard;
+
+pub use memory_shelf::MemShelf;
+pub use memory_sink::MemSink;
+pub use memory_source::MemSource;
+pub use shelf::{Shelf, ShelfError};
+pub use shelf_file::ShelfFile;
+pub use sink::{Sink, write_all_of};
+pub use source::{ReadFault, Source, read_all_of};
+pub use staged::stage;
+pub use standard::{StdSink, StdSource};
+
+/// A call of the outside failed, and its count of faults rose.
+#[derive(Clone, Copy, Debug, PartialEq, Eq)]
+pub struct Failed;
