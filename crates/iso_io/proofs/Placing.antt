@@ -1,15 +1,11 @@
 -- Files in places.
 use Rattle.std.proofs.Common.{◌≡◌, ℕ, suc, ◌+◌, ◌<◌, ◌≤◌, Bool, true, false, cond, List, [], ◌∷◌, ◌++◌, length, take, drop, get_or, set, Some, None, refl, sym, ap, subst, ◌∙◌, arith}
-use Rattle.std.specs.Prelude.{Option, unwrap_or, Result, Ok, Err, OnOk}
-use Rattle.std.proofs.lemmas.List.{take_more, take-append-drop, set_split, drop_more, take_all, get_or_default}
+use Rattle.std.specs.Prelude.{Option, Result, Ok, Err, OnOk}
+use Rattle.std.proofs.lemmas.List.{take_more, take-append-drop, set_split, drop_more, take_all}
 use Rattle.std.specs.Ordering.{nat_cmp, eq_by_cmp}
 use Rattle.std.specs.Cmp.Lexicographic.{slice_cmp, nat_list_cmp_total}
 use Rattle.std.specs.FinMap.{find, get, insert, get-insert, get-from_entries, same_map, from_entries_push, slice_cmp-IsAntisymmetric, nat_cmp-IsAntisymmetric}
 use Rattle.iso_io.specs.Files.{files_of}
-use Rattle.std.proofs.Common.{inl}
-use Rattle.iso_io.specs.Causes.{Rose}
-use Rattle.iso_io.specs.Memory.{KeptFiles, store_of}
-use Rattle.iso_io.specs.Shelves.{content, Starts, Grows}
 use Rattle.iso_io.specs.Places.{IsLacking, IsFound}
 use Rattle.iso_io.proofs.Shelving.{same_name, own_name}
 
@@ -90,36 +86,6 @@ set_file es name x i e f d =
 pub push_file : (es : Entries) (name x : List ℕ) → IsLacking es name → files_of (es ++ (name, x) ∷ []) ≡ insert (files_of es) name x
 push_file es name x h = from_entries_push nat_list_cmp_total (slice_cmp-IsAntisymmetric nat_cmp-IsAntisymmetric) es name x h
 
-pub entry_is : (es : Entries) (i : ℕ) (r : List ℕ × List ℕ) → i < length es → r ≡ get_or es i r → get_or es i ([], []) ≡ r
-entry_is es i r lt e = get_or_default es i ([], []) r lt ∙ sym e
-
-abbrev pair : List ℕ → List ℕ → List ℕ × List ℕ
-pair p q = (p, q)
-
-abbrev pub some_of : List ℕ → Option (List ℕ)
-some_of p = Some p
-
-pub set_found : (es : Entries) (name x : List ℕ) (i : ℕ) (e r : List ℕ × List ℕ) → IsFound es name i → r ≡ get_or es i r → e ≡ (r.0, x) → files_of (set es i e) ≡ insert (files_of es) name x
-set_found es name x i e r f a d = set_file es name x i e f (d ∙ ap (λ (p : List ℕ × List ℕ). pair p.0 x) (sym (entry_is es i r f.within a)))
-
-pub content_found : (es : Entries) (name : List ℕ) (i : ℕ) (r : List ℕ × List ℕ) → IsFound es name i → r ≡ get_or es i r → get (files_of es) name ≡ Some r.1
-content_found es name i r f a = found_file es name i f ∙ ap (λ (p : List ℕ × List ℕ). some_of p.1) (entry_is es i r f.within a)
-
-pub grown_found : (es : Entries) (name bytes : List ℕ) (i : ℕ) (e r : List ℕ × List ℕ) → IsFound es name i → r ≡ get_or es i r → e ≡ (r.0, r.1 ++ bytes)
-    → files_of (set es i e) ≡ insert (files_of es) name (content (files_of es) name ++ bytes)
-grown_found es name bytes i e r f a d =
-    set_found es name (r.1 ++ bytes) i e r f a d ∙ ap (λ (o : Option (List ℕ)). insert (files_of es) name (unwrap_or o [] ++ bytes)) (sym (content_found es name i r f a))
-
-pub grown_new : (es after : Entries) (name bytes : List ℕ) → IsLacking es name → after ≡ es ++ (name, bytes) ∷ [] → files_of after ≡ insert (files_of es) name (content (files_of es) name ++ bytes)
-grown_new es after name bytes h e =
-    ap files_of e ∙ push_file es name bytes h ∙ ap (λ (o : Option (List ℕ)). insert (files_of es) name (unwrap_or o [] ++ bytes)) (sym (lacking_file es name h))
-
 pub on_ok : {T E : Type 0} (r : Result T E) (A B : Type 0) → (A → B) → OnOk r A → OnOk r B
 on_ok (Ok x) A B f h = f h
 on_ok (Err e) A B f h = record {}
-
-pub start_fails : {T E : Type 0} (m n : KeptFiles) (name : List ℕ) (e : E) → n.files ≡ m.files → m.faults ≤ n.faults → Rose m.faults n.faults → Starts {T = T} (store_of m) (store_of n) (Err e) name
-start_fails m n name e same later rose = record { changed = inl (λ i. Some (same i)); cause = record { later = later; failed = rose } }
-
-pub append_fails : {T E : Type 0} (m n : KeptFiles) (name bytes : List ℕ) (e : E) → n.files ≡ m.files → m.faults ≤ n.faults → Rose m.faults n.faults → Grows {T = T} (store_of m) (store_of n) (Err e) name bytes
-append_fails m n name bytes e same later rose = record { changed = inl (λ i. Some (same i)); cause = record { later = later; failed = rose } }

@@ -1,9 +1,9 @@
 -- Sources and sinks in memory.
-use Rattle.std.specs.Prelude.{ℕ, ◌+◌, ◌-◌, ◌^◌, min, List, [], Some}
+use Rattle.std.specs.Prelude.{ℕ, ◌+◌, ◌-◌, ◌^◌, min, List, [], Some, Contains}
 use Rattle.std.specs.Prelude.{refl}
 use Rattle.std.specs.Coded.{Coded, code_by, coded×, coded_ℕ, coded_list}
-use Rattle.std.specs.FinMap.{code}
-use Rattle.iso_io.specs.Files.{Files, no_files}
+use Rattle.iso_io.specs.Files.{no_files}
+use Rattle.iso_io.specs.Places.{Places, placed, places_code}
 use Rattle.iso_io.specs.Shelves.{Store}
 use Rattle.iso_io.specs.Seen.{Feed, Tape}
 
@@ -33,18 +33,33 @@ feed_of m = record { left = Some m.left; faults = m.faults }
 abbrev pub tape_of : KeptBytes → Tape
 tape_of m = record { taken = Some m.taken; faults = m.faults; beside = record { held = []; others = Some ([], no_files) } }
 
--- files, the room of each, the calls that fail, and how many calls and faults there were
+-- files in places, the calls that fail, and how many calls and faults there were
 pub record KeptFiles : Type 0 where
-  pub files : Files
-  pub room : ℕ
+  pub places : Places
   pub failing : List ℕ
   pub calls : ℕ
   pub faults : ℕ
 
 abbrev pub store_of : KeptFiles → Store
-store_of m = record { files = Some m.files; faults = m.faults }
+store_of m = record { files = Some m.places.files; faults = m.faults }
+
+-- the file of that name is now these bytes
+abbrev pub stored : KeptFiles → List ℕ → List ℕ → KeptFiles
+stored m name bytes = record m { places = placed m.places name bytes }
+
+-- one more call
+abbrev pub called : KeptFiles → KeptFiles
+called m = record m { calls = one_more m.calls }
+
+-- one more call, which failed
+abbrev pub missed : KeptFiles → KeptFiles
+missed m = record m { calls = one_more m.calls; faults = one_more m.faults }
+
+-- the next call is one of those that fail
+abbrev pub IsFailing : KeptFiles → Type 0
+IsFailing m = Contains m.failing (one_more m.calls)
 
 -- as its fields, one in another
 abbrev pub kept_files_code : Coded KeptFiles
-kept_files_code = code_by (Files × (ℕ × (List ℕ × (ℕ × ℕ)))) (coded× (code (coded_list coded_ℕ) (coded_list coded_ℕ)) (coded× coded_ℕ (coded× (coded_list coded_ℕ) (coded× coded_ℕ coded_ℕ))))
-    (λ m. (m.files, (m.room, (m.failing, (m.calls, m.faults))))) (λ p. record { files = p.0; room = p.1.0; failing = p.1.1.0; calls = p.1.1.1.0; faults = p.1.1.1.1 }) (λ _. refl)
+kept_files_code = code_by (Places × (List ℕ × (ℕ × ℕ))) (coded× places_code (coded× (coded_list coded_ℕ) (coded× coded_ℕ coded_ℕ)))
+    (λ m. (m.places, (m.failing, (m.calls, m.faults)))) (λ c. record { places = c.0; failing = c.1.0; calls = c.1.1.0; faults = c.1.1.1 }) (λ _. refl)

@@ -1,5 +1,5 @@
 -- What is known of a source and of a sink, and what a call does to it.
-use Rattle.std.specs.Prelude.{◌≡◌, ℕ, ◌<◌, List, ◌++◌, length, take, Option, Result, MatchResult, IfOk, IfSome}
+use Rattle.std.specs.Prelude.{◌≡◌, ℕ, ◌<◌, List, [], ◌++◌, length, take, Option, None, Result, MatchResult, IfOk, IfSome}
 use Rattle.std.specs.Io.KnownBytes.{Appends, Consumes, ReadConsumes, IsAtEnd}
 use Rattle.std.specs.Borrow.{GName}
 use Rattle.iso_io.specs.Causes.{HasCause}
@@ -20,6 +20,13 @@ pub record Tape : Type 0 where
   pub taken : Option (List ℕ)
   pub faults : ℕ
   pub beside : Side
+
+-- a source and a sink that tell nothing of their bytes
+abbrev pub untold_feed : ℕ → Feed
+untold_feed faults = record { left = None; faults = faults }
+
+abbrev pub untold_tape : ℕ → Tape
+untold_tape faults = record { taken = None; faults = faults; beside = record { held = []; others = None } }
 
 -- a front of the text was appended
 abbrev pub AppendsFront : Option (List ℕ) → Option (List ℕ) → List ℕ → Type 0

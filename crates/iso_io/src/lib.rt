@@ -2,9 +2,12 @@
 //! count of faults that never falls, and a call fails only where that count rises.
 #![tactic(auto)]
 
+mod file_shelf;
 mod memory_shelf;
 mod memory_sink;
 mod memory_source;
+mod place;
+mod places;
 mod shelf;
 mod shelf_file;
 mod sink;
@@ -12,6 +15,7 @@ mod source;
 mod staged;
 mod standard;
 
+pub use file_shelf::FileShelf;
 pub use memory_shelf::MemShelf;
 pub use memory_sink::MemSink;
 pub use memory_source::MemSource;
@@ -25,3 +29,6 @@ pub use standard::{StdSink, StdSource};
 /// A call of the outside failed, and its count of faults rose.
 #[derive(Clone, Copy, Debug, PartialEq, Eq)]
 pub struct Failed;
+
+#[cfg(test)]
+mod tests;

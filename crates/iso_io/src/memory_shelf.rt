@@ -1,151 +1,22 @@
-ghost use Rattle.std.specs.Prelude.{◌≡◌, ◌+◌, ◌<◌, ◌≤◌, ◌↔◌, ◌++◌, ◌∷◌, [], length, min, ◌-◌, ◌^◌, take, set, get_or, unwrap_or, true, false, None, Some, IsTrue, MatchOption, IfOk, OnOk, OnErr, List, ℕ};
-ghost use Rattle.std.specs.FinMap.{from_entries, insert, empty, get};
+ghost use Rattle.std.specs.Prelude.{◌≡◌, ◌⊎◌, ◌*◌, ◌+◌, ◌^◌, ◌<◌, ◌≤◌, length, true, false, IfOk, IsTrue, IsErrOf, IsSome, ◌↔◌, Contains};
+ghost use Rattle.std.specs.FinMap.{get};
 ghost use Rattle.std.specs.Option.{option_map};
-ghost use Rattle.iso_io.specs.Files.{Files, files_of};
-ghost use Rattle.iso_io.specs.Shelves.{content};
-ghost use Rattle.iso_io.specs.Places.{IsFound, IsLacking};
-ghost use Rattle.iso_io.specs.Causes.{Rose};
+ghost use Rattle.iso_io.specs.Files.{no_files};
+ghost use Rattle.iso_io.specs.Places.{has_place};
+ghost use Rattle.iso_io.specs.Memory.{KeptFiles, stored, one_more};
 
 use crate::Failed;
+use crate::places::Places;
 use crate::shelf::{Shelf, ShelfError};
-use arrayvec::ArrayString;
 use iso_base::Memory;
-use std::alloc::{AllocError, Global};
+use std::alloc::Global;
 use std::marker::Model;
 
-/// A file in memory that was reserved.
-#[derive(Drop)]
-struct Place {
-    name: ArrayString<255>,
-    bytes: Vec<u8>,
-}
-
-impl Model for Place {
-    ghost use Rattle.std.specs.Prelude.{List, ℕ};
-
-    ghost Value = { List ℕ × List ℕ };
-
-    ghost view = { λ p. (p.name.bytes, p.bytes.items) };
-}
-
-impl Place {
-    fn is_named(&self, name: &str) -> bool
-        ensures { IsTrue result ↔ (self.now.0 ≡ name.now) }
-    {
-        self.name.as_str() == name
-    }
-
-    fn bytes(&self) -> &[u8]
-        ensures { result.now ≡ self.now.1 }
-    {
-        &self.bytes
-    }
-
-    fn clear(&mut self)
-        ensures { self.new ≡ (self.old.0, []) }
-    {
-        self.bytes.clear();
-    }
-
-    fn append(&mut self, bytes: &[u8]) -> Result<(), AllocError>
-        ensures ok { OnOk result (self.new ≡ (self.old.0, self.old.1 ++ bytes.now)) }
-        ensures err { OnErr result (self.new ≡ self.old) }
-    {
-        self.bytes.extend_from_slice(bytes)
-    }
-}
-
-/// Where the file of a name is.
-fn place_of(places: &[Place], name: &str) -> Option<usize>
-    ensures { MatchOption result (IsLacking places.now name.now) (λ i. IsFound places.now name.now i) }
-{
-    for i in 0..places.len() {
-        if places[i].is_named(name) {
-            return Some(i);
-        }
-    }
-    None
-}
-
-/// Puts a file of these bytes into a free place.
-fn add_place(
-    places: &mut Vec<Place>,
-    spare: &mut Vec<Vec<u8>>,
-    name: &str,
-    bytes: &[u8],
-) -> Result<(), Failed>
-    ensures added { OnOk result (places.new.items ≡ places.old.items ++ (name.now, bytes.now) ∷ []) }
-    ensures kept { OnErr result (places.new.items ≡ places.old.items) }
-{
-    let mut text = ArrayString::new();
-    if text.try_push_str(name).is_err() {
-        return Err(Failed);
-    }
-    let Some(mut buffer) = spare.pop() else {
-        return Err(Failed);
-    };
-    buffer.clear();
-    let Ok(()) = buffer.extend_from_slice(bytes) else {
-        return Err(Failed);
-    };
-    match places.push(Place {
-        name: text,
-        bytes: buffer,
-    }) {
-        Ok(()) => Ok(()),
-        Err(_) => Err(Failed),
-    }
-}
-
-/// Makes the name an empty file.
-fn start_in(places: &mut Vec<Place>, spare: &mut Vec<Vec<u8>>, name: &str) -> Result<(), Failed>
-    ensures started { OnOk result (files_of places.new.items ≡ insert (files_of places.old.items) name.now []) }
-    ensures kept { OnErr result (places.new.items ≡ places.old.items) }
-{
-    match place_of(places, name) {
-        Some(i) => {
-            places[i].clear();
-            Ok(())
-        }
-        None => add_place(places, spare, name, b""),
-    }
-}
-
-/// Puts bytes behind those of a file.
-fn append_in(
-    places: &mut Vec<Place>,
-    spare: &mut Vec<Vec<u8>>,
-    name: &str,
-    bytes: &[u8],
-) -> Result<(), Failed>
-    ensures appended { OnOk result (files_of places.new.items ≡ insert (files_of places.old.items) name.now (content (files_of places.old.items) name.now ++ bytes.now)) }
-    ensures kept { OnErr result (places.new.items ≡ places.old.items) }
-{
-    match place_of(places, name) {
-        Some(i) => match places[i].append(bytes) {
-            Ok(()) => Ok(()),
-            Err(_) => Err(Failed),
-        },
-        None => add_place(places, spare, name, bytes),
-    }
-}
-
-/// The bytes of a file.
-fn file_in<'a>(places: &'a [Place], name: &str) -> Option<&'a [u8]>
-    ensures { option_map (λ bytes. bytes.now) result ≡ get (files_of places.now) name.now }
-{
-    match place_of(places, name) {
-        Some(i) => Some(places[i].bytes()),
-        None => None,
-    }
-}
-
-/// Files in memory that was reserved, with calls that fail.
+/// Files in memory that was reserved, with calls that fail. It is seen as its files by name, the number of places that are
+/// free, the room of each, the calls that fail, and the numbers of calls and of faults so far.
 #[derive(Drop)]
 pub struct MemShelf {
-    places: Vec<Place>,
-    spare: Vec<Vec<u8>>,
-    room: u32,
+    places: Places,
     failing: Vec<u64>,
     calls: u64,
     faults: u64,
@@ -153,118 +24,109 @@ pub struct MemShelf {
 
 impl Model for MemShelf {
     ghost use Rattle.iso_io.specs.Memory.{KeptFiles, kept_files_code};
-    ghost use Rattle.iso_io.specs.Files.{files_of};
 
     ghost Value = { KeptFiles };
 
     ghost coded = { kept_files_code };
 
-    ghost view = { λ m. record { files = files_of m.places.items; room = m.room; failing = m.failing.items; calls = m.calls; faults = m.faults } };
-}
-
-fn reserved(alloc: Global, files: u32, room: u32) -> Result<Vec<Vec<u8>>, AllocError> {
-    let mut spare = Vec::with_capacity(alloc, files as usize)?;
-    for _ in 0..files {
-        spare.push(Vec::with_capacity(alloc, room as usize)?)?;
-    }
-    Ok(spare)
+    ghost view = { λ m. record { places = m.places; failing = m.failing.items; calls = m.calls; faults = m.faults } };
 }
 
 impl MemShelf {
-    ghost use Rattle.iso_io.specs.Files.{no_files};
-
-    /// Reserves places of `room` bytes each. The calls numbered in `failing` fail, counted from 1.
+    /// Reserves `files` places of `room` bytes each, for names of at most 255 bytes. The calls of `read`, `start` and
+    /// `append` whose numbers stand in `failing` fail, all counted together from 1.
     pub fn new(alloc: Global, files: u32, room: u32, failing: Vec<u64>) -> Result<MemShelf, Memory>
-        ensures { IfOk result (λ m. m ≡ record { files = no_files; room = room; failing = failing.items; calls = 0; faults = 0 }) }
+        requires { files * room ≤ 2 ^ 32 }
+        ensures { IfOk result (λ m. m ≡ record { places = record { files = no_files; free = files; room = room }; failing = failing.items; calls = 0; faults = 0 }) }
     {
-        let Ok(places) = Vec::with_capacity(alloc, files as usize) else {
-            return Err(Memory);
-        };
-        let Ok(spare) = reserved(alloc, files, room) else {
-            return Err(Memory);
-        };
+        let places = Places::new(alloc, files, room)?;
         Ok(MemShelf {
             places,
-            spare,
-            room,
             failing,
             calls: 0,
             faults: 0,
         })
     }
 
-    /// The bytes of a file.
+    /// Makes the name's file these bytes, with no call counted.
+    pub fn put(&mut self, name: &str, bytes: &[u8])
+        requires place { has_place self.old.places name.now ≡ true }
+        requires room { length bytes.now ≤ self.old.places.room }
+        ensures { self.new ≡ stored self.old name.now bytes.now }
+    {
+        let _ = self.places.put(name, bytes);
+    }
+
+    /// The bytes of a file; none exactly where there is no file of that name.
     pub fn file(&self, name: &str) -> Option<&[u8]>
-        ensures { option_map (λ bytes. bytes.now) result ≡ get self.now.files name.now }
+        ensures { option_map (λ bytes. bytes.now) result ≡ get self.now.places.files name.now }
     {
-        file_in(&self.places, name)
-    }
-
-    /// Whether the next call is to fail.
-    fn fails_now(&mut self) -> bool
-        ensures files { self.new.files ≡ self.old.files }
-        ensures faults { self.new.faults ≡ self.old.faults }
-    {
-        self.calls = self.calls.saturating_add(1);
-        self.failing.contains(&self.calls)
-    }
-
-    fn fail(&mut self)
-        ensures files { self.new.files ≡ self.old.files }
-        ensures rose { Rose self.old.faults self.new.faults }
-        ensures later { self.old.faults ≤ self.new.faults }
-    {
-        self.faults = self.faults.saturating_add(1);
+        self.places.file(name)
     }
 }
 
 impl Shelf for MemShelf {
-    ghost use Rattle.iso_io.specs.Memory.{store_of};
+    ghost use Rattle.std.specs.Prelude.{◌≡◌, ◌⊎◌, ◌+◌, ◌<◌, ◌≤◌, ◌↔◌, ◌++◌, [], length, false, None, Some, IfOk, IfErr, IfSome, IsErr, IsErrOf, OnOk, OnErr};
+    ghost use Rattle.std.specs.FinMap.{get};
+    ghost use Rattle.iso_io.specs.Causes.{Rose};
+    ghost use Rattle.iso_io.specs.Memory.{store_of, stored, called, missed, IsFailing};
+    ghost use Rattle.iso_io.specs.Places.{has_place, content_in};
+    ghost use Rattle.iso_io.specs.Shelves.{Starts, Grows};
 
     ghost seen = { store_of };
 
-    fn read(&mut self, alloc: Global, name: &str, limit: u64) -> Result<Vec<u8>, ShelfError> {
-        if self.fails_now() {
-            self.fail();
+    fn read(&mut self, alloc: Global, name: &str, limit: u64) -> Result<Vec<u8>, ShelfError>
+        ensures same { self.new.places ≡ self.old.places }
+        ensures later { self.old.faults ≤ self.new.faults }
+        ensures bytes { IfOk result (λ v. get self.old.places.files name.now ≡ Some v.items) }
+        ensures within { IfOk result (λ v. length v.items ≤ limit) }
+        ensures failed { IsErrOf result ShelfError.Failed → Rose self.old.faults self.new.faults ⊎ (get self.old.places.files name.now ≡ None) }
+        ensures too_long { IsErrOf result (ShelfError.TooLong limit) → limit < length (content_in self.old.places name.now) }
+        ensures limit { IfErr result (λ e. e ≡ ShelfError.Failed ⊎ e ≡ ShelfError.TooLong limit ⊎ e ≡ ShelfError.Memory) }
+        ensures fails { IsErrOf result ShelfError.Failed ↔ (IsFailing self.old ⊎ (get self.old.places.files name.now ≡ None)) }
+        ensures counted { IsFailing self.old → self.new ≡ missed self.old }
+        ensures uncounted { (IsFailing self.old → ⊥) → self.new ≡ called self.old }
+    {
+        self.calls = self.calls.saturating_add(1);
+        if self.failing.contains(&self.calls) {
+            self.faults = self.faults.saturating_add(1);
             return Err(ShelfError::Failed);
         }
-        let Some(bytes) = file_in(&self.places, name) else {
-            return Err(ShelfError::Failed);
-        };
-        if bytes.len() as u64 > limit {
-            return Err(ShelfError::TooLong { limit });
-        }
-        match bytes.to_vec(alloc) {
-            Ok(bytes) => Ok(bytes),
-            Err(_) => Err(ShelfError::Memory),
+        match self.places.file(name) {
+            None => Err(ShelfError::Failed),
+            Some(bytes) if bytes.len() as u64 > limit => Err(ShelfError::TooLong { limit }),
+            Some(bytes) => match bytes.to_vec(alloc) {
+                Ok(bytes) => Ok(bytes),
+                Err(_) => Err(ShelfError::Memory),
+            },
         }
     }
 
-    fn start(&mut self, name: &str) -> Result<(), Failed> {
-        if self.fails_now() {
-            self.fail();
+    fn start(&mut self, name: &str) -> Result<(), Failed>
+        ensures starts { Starts (store_of self.old) (store_of self.new) result name.now }
+        ensures fails { IsErr result ↔ (IsFailing self.old ⊎ (has_place self.old.places name.now ≡ false)) }
+        ensures started { OnOk result (self.new ≡ stored (called self.old) name.now []) }
+        ensures kept { OnErr result (self.new ≡ missed self.old) }
+    {
+        self.calls = self.calls.saturating_add(1);
+        if self.failing.contains(&self.calls) || self.places.put(name, b"").is_err() {
+            self.faults = self.faults.saturating_add(1);
             return Err(Failed);
         }
-        match start_in(&mut self.places, &mut self.spare, name) {
-            Ok(()) => Ok(()),
-            Err(Failed) => {
-                self.fail();
-                Err(Failed)
-            }
-        }
+        Ok(())
     }
 
-    fn append(&mut self, name: &str, bytes: &[u8]) -> Result<(), Failed> {
-        if self.fails_now() {
-            self.fail();
+    fn append(&mut self, name: &str, bytes: &[u8]) -> Result<(), Failed>
+        ensures grows { Grows (store_of self.old) (store_of self.new) result name.now bytes.now }
+        ensures fails { IsErr result ↔ (IsFailing self.old ⊎ (has_place self.old.places name.now ≡ false) ⊎ (self.old.places.room < length (content_in self.old.places name.now) + length bytes.now)) }
+        ensures appended { OnOk result (self.new ≡ stored (called self.old) name.now (content_in self.old.places name.now ++ bytes.now)) }
+        ensures kept { OnErr result (self.new ≡ missed self.old) }
+    {
+        self.calls = self.calls.saturating_add(1);
+        if self.failing.contains(&self.calls) || self.places.append(name, bytes).is_err() {
+            self.faults = self.faults.saturating_add(1);
             return Err(Failed);
         }
-        match append_in(&mut self.places, &mut self.spare, name, bytes) {
-            Ok(()) => Ok(()),
-            Err(Failed) => {
-                self.fail();
-                Err(Failed)
-            }
-        }
+        Ok(())
     }
 }
