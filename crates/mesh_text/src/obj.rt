@@ -1,0 +1,55 @@
+//! Lines of Wavefront OBJ texts.
+
+ghost use Rattle.std.specs.Prelude.{◌≡◌, ◌<◌, ◌^◌, unsigned_abs};
+ghost use Rattle.iso_io.specs.Seen.{Puts};
+ghost use Rattle.iso_base.specs.Triangles.{IsBelow, triangle_of};
+ghost use Rattle.mesh_text.specs.Lines.{along, obj_face_line, obj_vertex_line};
+
+use crate::digits::{ROOM, put_letter, put_numbers, put_vertex};
+use crate::line::Line;
+use iso_base::Thousandth;
+use iso_io::{Failed, Sink, write_all_of};
+
+/// The line of a vertex: `v X Y Z`.
+#[inline(always)]
+pub fn obj_vertex_text(at: &[Thousandth; 3]) -> Line
+    requires x { unsigned_abs (along at.now 0) < 2 ^ 44 }
+    requires y { unsigned_abs (along at.now 1) < 2 ^ 44 }
+    requires z { unsigned_abs (along at.now 2) < 2 ^ 44 }
+    ensures { result ≡ obj_vertex_line at.now }
+{
+    let mut bytes = [0; ROOM];
+    let end = put_vertex(at, &mut bytes);
+    let start = put_letter(b'v', &mut bytes, end);
+    Line::from_end(bytes, start)
+}
+
+/// Appends the line of a vertex: `v X Y Z`.
+pub fn put_obj_vertex<K: Sink>(sink: &mut K, at: [Thousandth; 3]) -> Result<(), Failed>
+    requires x { unsigned_abs (along at 0) < 2 ^ 44 }
+    requires y { unsigned_abs (along at 1) < 2 ^ 44 }
+    requires z { unsigned_abs (along at 2) < 2 ^ 44 }
+    ensures { Puts (K.seen sink.old) (K.seen sink.new) result (obj_vertex_line at) }
+{
+    write_all_of(sink, obj_vertex_text(&at).as_bytes())
+}
+
+/// The line of a face: `f A B C`. Its corners are handed in counted from 0 and printed counted from 1.
+#[inline(always)]
+pub fn obj_face_text(corners: &[u32; 3]) -> Line
+    requires { IsBelow (2 ^ 31) (triangle_of corners.now) }
+    ensures { result ≡ obj_face_line corners.now }
+{
+    let mut bytes = [0; ROOM];
+    let end = put_numbers(1, corners, &mut bytes);
+    let start = put_letter(b'f', &mut bytes, end);
+    Line::from_end(bytes, start)
+}
+
+/// Appends the line of a face: `f A B C`. Its corners are handed in counted from 0 and printed counted from 1.
+pub fn put_obj_face<K: Sink>(sink: &mut K, corners: [u32; 3]) -> Result<(), Failed>
+    requires { IsBelow (2 ^ 31) (triangle_of corners) }
+    ensures { Puts (K.seen sink.old) (K.seen sink.new) result (obj_face_line corners) }
+{
+    write_all_of(sink, obj_face_text(&corners).as_bytes())
+}
