@@ -150,7 +150,7 @@ module _ (P : ℕ × ℕ → Bool) where
   part_below t zero = 0
   part_below t (suc v) = part_below t v + count_by (at_vertex v) (arc_of v t)
 
-  abbrev total_below : List Triangle → ℕ → ℕ
+  abbrev pub total_below : List Triangle → ℕ → ℕ
   total_below ts zero = 0
   total_below ts (suc v) = total_below ts v + count_by (at_vertex v) (arcs ts v)
 
@@ -238,7 +238,7 @@ module _ (P : ℕ × ℕ → Bool) where
   total_none zero = refl
   total_none (suc v) = omega (arith, total_none v)
 
-  total_is : (ts : List Triangle) (n : ℕ) → AllByRecursion HasThreeCorners ts → AllByRecursion (IsBelow n) ts → total_below ts n ≡ count_by P (all_runs ts)
+  pub total_is : (ts : List Triangle) (n : ℕ) → AllByRecursion HasThreeCorners ts → AllByRecursion (IsBelow n) ts → total_below ts n ≡ count_by P (all_runs ts)
   total_is [] n d b = total_none n
   total_is (t ∷ ts) n d b =
       total_parts t ts n ∙ (ap (λ k. k + total_below ts n) (part_is t n d.0 b.0)
