@@ -1,0 +1,12 @@
+//! Laws of the surface. Each call says its law and does nothing else: a caller of it has the law as its clause.
+#![tactic(auto)]
+
+mod cells;
+mod grids;
+mod lists;
+
+pub use cells::{cell_successor_is_permutation, face_agrees, wedge};
+pub use grids::{
+    levels_by_thousands, mesh_by_rows, mesh_sizes, one_vertex, pair_determines_face, plane_of_mesh,
+};
+pub use lists::{one_verdict, walk_decides_fan};
