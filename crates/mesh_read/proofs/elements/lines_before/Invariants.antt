@@ -1,0 +1,13 @@
+use Rattle.std.proofs.Common.{◌≡◌, ◌+◌, length}
+use Rattle.mesh_read.specs.Ply.{before_faces, total}
+use Rattle.mesh_read.specs.SeenElements.{seen_elements}
+use Rattle.mesh_read.proofs.elements.lines_before.Given as goal
+
+abbrev pub invariant-loop-rest : goal.invariant-loop-rest
+invariant-loop-rest l = record {
+  before : l.sum + before_faces (seen_elements l.rest) ≡ before_faces (seen_elements l.elements);
+  all : l.sum + total (seen_elements l.rest) ≡ total (seen_elements l.elements);
+}
+
+abbrev pub decreases-loop-rest : goal.decreases-loop-rest
+decreases-loop-rest l = length l.rest

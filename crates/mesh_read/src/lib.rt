@@ -1,0 +1,18 @@
+//! Triangle lists from PLY and OBJ texts, read once from the front.
+//! Memory is taken for the triangles that are there and for the elements of a header, and for nothing else.
+#![tactic(auto)]
+
+mod body;
+mod elements;
+mod fault;
+mod header;
+mod heading;
+mod obj;
+mod ply;
+
+pub use fault::MeshFault;
+pub use obj::read_obj;
+pub use ply::read_ply;
+
+#[cfg(test)]
+mod tests;

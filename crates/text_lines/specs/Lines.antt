@@ -1,0 +1,34 @@
+-- The lines of a text.
+use Rattle.std.specs.Prelude.{ℕ, zero, suc, Bool, false, ◌==◌, ◌&&◌, List, [], ◌∷◌, get_or, map, if◌then◌else◌}
+
+-- a line, and the bytes after it
+pub record Line : Type 0 where
+  pub text : List ℕ
+  pub after : List ℕ
+
+-- whether the next byte is a line feed
+abbrev pub begins_feed : List ℕ → Bool
+begins_feed [] = false
+begins_feed (b ∷ bs) = b == 10
+
+-- a byte stands before the first of these lines, or alone in the last line
+abbrev pub joined : ℕ → List Line → List Line
+joined b [] = record { text = b ∷ []; after = [] } ∷ []
+joined b (l ∷ ls) = record { text = b ∷ l.text; after = l.after } ∷ ls
+
+-- all lines: each ends at a line feed or at the end, and a return just before a line feed is dropped
+abbrev pub lines_of : List ℕ → List Line
+lines_of [] = []
+lines_of (b ∷ bs) =
+    if b == 10 then record { text = []; after = bs } ∷ lines_of bs else
+    if b == 13 && begins_feed bs then lines_of bs else
+    joined b (lines_of bs)
+
+-- the texts of all lines
+abbrev pub texts_of : List ℕ → List (List ℕ)
+texts_of bytes = map (λ (l : Line). l.text) (lines_of bytes)
+
+-- where the text of a line ends whose line feed stands at a place
+abbrev pub text_end : List ℕ → ℕ → ℕ
+text_end bs zero = zero
+text_end bs (suc i) = if get_or bs i 0 == 13 then i else suc i

@@ -1,0 +1,16 @@
+use super::*;
+use std::test::Fail;
+
+#[test]
+fn a_line_its_words_and_a_number(rt: HostRuntime) -> Result<(), Fail> {
+    let (text, rest) = next_line(b" Sizes\t3 -0004 2\r\n\r").ok_or("a line")?;
+    assert!(rt; rest == b"\r".as_slice());
+    let (name, values) = next_word(text).ok_or("a word")?;
+    assert!(rt; same_word(name, b"sizes"));
+    assert!(rt; without_blanks(values) == b"3 -0004 2".as_slice());
+    let (_, second, third) = three_words(values).ok_or("three words")?;
+    assert_eq!(rt; number(second), Some(-4));
+    assert_eq!(rt; whole(second), None);
+    assert_eq!(rt; digits(third), Some(2));
+    Ok(())
+}
