@@ -1,0 +1,4 @@
+pub mod Prefixes
+pub mod Ending
+pub mod Completing
+pub mod Volumes

@@ -1,0 +1,10 @@
+-- What the commands on a volume write.
+use Rattle.std.specs.Prelude.{ℕ, List, ℤ}
+use Rattle.iso_defs.specs.Texts.{points_text}
+use Rattle.iso_base.specs.Shifted.{field}
+use Rattle.iso_base.specs.Volume.{Voxels}
+use Rattle.mesh_write.specs.Edges.{edge_points}
+
+-- the text of the vertices on the crossing edges of a volume at a level
+unfoldable pub points_of : Voxels → ℤ → List ℕ
+points_of v level = points_text (edge_points v.grid (field v.samples level))

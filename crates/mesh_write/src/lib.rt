@@ -1,0 +1,9 @@
+//! Meshes and points written as texts to a sink, in blocks of 32 KiB and more.
+#![tactic(auto)]
+
+mod points;
+
+pub use points::put_points;
+
+/// What waits to be written is no longer than a block and a line.
+pub const STAGE: usize = 32_768 + 256;

@@ -1,0 +1,104 @@
+//! The vertices on crossing edges as a PLY text.
+
+ghost use Rattle.std.specs.Prelude.{◌≡◌, ◌+◌, ◌*◌, ◌<◌, ◌≤◌, ◌^◌, ◌++◌, length, slice_index, unsigned_abs, pos, [], IfOk, All};
+ghost use Rattle.iso_defs.specs.Grid.{name_bound};
+ghost use Rattle.iso_io.specs.Seen.{Puts, Stages};
+ghost use Rattle.mesh_text.specs.Lines.{along, points_head};
+ghost use Rattle.mesh_write.specs.Edges.{ArePlaced, placed_line, placed_lines};
+
+use crossing_edges::{EdgeVertices, position_on};
+use iso_base::{Sizes, Thousandth};
+use iso_io::{Failed, Sink, stage, write_all_of};
+use mesh_text::{ply_vertex_text, points_head_text};
+
+fn coordinate(at: &[u32; 3], axis: usize) -> Thousandth
+    requires { axis < 3 }
+    ensures value { result.0 ≡ pos (slice_index at.now axis) }
+    ensures bound { unsigned_abs result.0 < 2 ^ 44 }
+{
+    Thousandth(i64::from(at[axis]))
+}
+
+fn thousandths(at: &[u32; 3]) -> [Thousandth; 3]
+    ensures x { along result 0 ≡ pos (slice_index at.now 0) }
+    ensures y { along result 1 ≡ pos (slice_index at.now 1) }
+    ensures z { along result 2 ≡ pos (slice_index at.now 2) }
+    ensures x_bound { unsigned_abs (along result 0) < 2 ^ 44 }
+    ensures y_bound { unsigned_abs (along result 1) < 2 ^ 44 }
+    ensures z_bound { unsigned_abs (along result 2) < 2 ^ 44 }
+{
+    [coordinate(at, 0), coordinate(at, 1), coordinate(at, 2)]
+}
+
+#[tactic(auto, unfolding(crate::specs::Edges::placed_line))]
+fn stage_vertex<K: Sink>(
+    sink: &mut K,
+    waiting: &mut Vec<u8>,
+    sizes: &Sizes,
+    name: u32,
+    place: u16,
+) -> Result<(), Failed>
+    requires name { name < name_bound sizes.now }
+    requires place { place ≤ 1000 }
+    ensures { Stages (K.seen sink.old) (K.seen sink.new) waiting.old.items waiting.new.items result (placed_line sizes.now name place) }
+{
+    let at = position_on(sizes, name, place);
+    stage(sink, waiting, ply_vertex_text(&thousandths(&at)).as_bytes())
+}
+
+fn put_vertices<K: Sink>(
+    sink: &mut K,
+    waiting: &mut Vec<u8>,
+    sizes: &Sizes,
+    names: &[u32],
+    places: &[u16],
+) -> Result<(), Failed>
+    requires none { waiting.old.items ≡ [] }
+    requires placed { ArePlaced sizes.now names.now places.now }
+    ensures { Puts (K.seen sink.old) (K.seen sink.new) result (placed_lines sizes.now names.now places.now) }
+{
+    for i in 0..names.len() {
+        stage_vertex(sink, waiting, sizes, names[i], places[i])?;
+    }
+    write_all_of(sink, waiting)
+}
+
+fn put_head<K: Sink>(sink: &mut K, vertices: u32) -> Result<(), Failed>
+    ensures { Puts (K.seen sink.old) (K.seen sink.new) result (points_head vertices) }
+{
+    write_all_of(sink, points_head_text(vertices).as_str().as_bytes())
+}
+
+fn put_parts<K: Sink>(
+    sink: &mut K,
+    waiting: &mut Vec<u8>,
+    sizes: &Sizes,
+    names: &[u32],
+    places: &[u16],
+    vertices: u32,
+) -> Result<(), Failed>
+    requires none { waiting.old.items ≡ [] }
+    requires placed { ArePlaced sizes.now names.now places.now }
+    ensures { Puts (K.seen sink.old) (K.seen sink.new) result (points_head vertices ++ placed_lines sizes.now names.now places.now) }
+{
+    put_head(sink, vertices)?;
+    put_vertices(sink, waiting, sizes, names, places)
+}
+
+/// Appends the PLY text of vertices on lattice edges, without faces, in order of name. `waiting` is the empty buffer
+/// in which blocks are gathered. `Failed` comes only where the sink's count rose; a front of the text was then taken.
+pub fn put_points<K: Sink>(
+    sink: &mut K,
+    waiting: &mut Vec<u8>,
+    sizes: &Sizes,
+    edges: &EdgeVertices,
+) -> Result<(), Failed>
+    requires none { waiting.old.items ≡ [] }
+    requires few { length edges.now.names.items < 2 ^ 32 }
+    requires placed { ArePlaced sizes.now edges.now.names.items edges.now.places.items }
+    ensures { Puts (K.seen sink.old) (K.seen sink.new) result
+        (points_head (length edges.now.names.items) ++ placed_lines sizes.now edges.now.names.items edges.now.places.items) }
+{
+    let vertices = edges.names.len() as u32;
+    put_parts(sink, waiting, sizes, &edges.names, &edges.places, vertices)
+}
