@@ -92,7 +92,7 @@ pub fn ends_of(marks: &[Mark], arcs: &[(u32, u32)], stamp: u32) -> Ends
     ensures loose { result.loose ≡ count_by (λ (p : ℕ × ℕ). not (ends arcs.now p.0)) arcs.now }
 {
     let (mut start, _) = arcs[0];
-    let mut loose = 0;
+    let mut loose = 0u32;
     for &(begin, _) in arcs {
         if marks[begin as usize].ended != stamp {
             start = begin;
