@@ -1,0 +1,5 @@
+pub mod Flags
+pub mod Joined
+pub mod Numbering
+pub mod Table
+pub mod Values

@@ -1,0 +1,93 @@
+ghost use Rattle.std.specs.Prelude.{◌≡◌, ℕ, ◌+◌, ◌*◌, ◌/◌, ◌%◌, ◌^◌, ◌<◌, ◌≤◌, ◌==◌, ◌&&◌, IsTrue, if◌then◌else◌, slice_index, unsigned_abs};
+ghost use Rattle.std.specs.List.{All};
+ghost use Rattle.iso_defs.specs.Face.{is_ambiguous};
+ghost use Rattle.iso_defs.specs.Cell.{joined_of, signs_of};
+ghost use Rattle.iso_defs.specs.Bricks.{bits_of, number_of_bits};
+ghost use Rattle.face_decider.specs.Cycle.{cycle_joined};
+ghost use Rattle.case_table.specs.Cases.{ambiguous_flags, are_ambiguous};
+
+use corner_signs::sign_byte;
+use face_decider::face_joined;
+
+/// The ambiguous faces by sign byte: bit f is face f.
+const AMBIGUOUS: [u8; 256] = [
+    0, 0, 0, 0, 0, 0, 16, 0, 0, 16, 0, 0, 0, 0, 0, 0, 0, 0, 4, 0, 1, 0, 21, 0, 0, 16, 4, 0, 1, 0,
+    5, 0, 0, 4, 0, 0, 0, 4, 16, 0, 2, 22, 0, 0, 2, 6, 0, 0, 0, 0, 0, 0, 1, 0, 17, 0, 2, 18, 0, 0,
+    3, 2, 1, 0, 0, 1, 0, 1, 0, 0, 16, 0, 8, 25, 8, 9, 0, 0, 0, 0, 0, 0, 4, 0, 0, 0, 20, 0, 8, 24,
+    12, 8, 0, 0, 4, 0, 32, 37, 32, 33, 32, 36, 48, 32, 42, 63, 40, 41, 34, 38, 32, 32, 0, 0, 0, 0,
+    0, 0, 16, 0, 10, 26, 8, 8, 2, 2, 0, 0, 0, 0, 2, 2, 8, 8, 26, 10, 0, 16, 0, 0, 0, 0, 0, 0, 32,
+    32, 38, 34, 41, 40, 63, 42, 32, 48, 36, 32, 33, 32, 37, 32, 0, 4, 0, 0, 8, 12, 24, 8, 0, 20, 0,
+    0, 0, 4, 0, 0, 0, 0, 0, 0, 9, 8, 25, 8, 0, 16, 0, 0, 1, 0, 1, 0, 0, 1, 2, 3, 0, 0, 18, 2, 0,
+    17, 0, 1, 0, 0, 0, 0, 0, 0, 6, 2, 0, 0, 22, 2, 0, 16, 4, 0, 0, 0, 4, 0, 0, 5, 0, 1, 0, 4, 16,
+    0, 0, 21, 0, 1, 0, 4, 0, 0, 0, 0, 0, 0, 0, 0, 16, 0, 0, 16, 0, 0, 0, 0, 0, 0,
+];
+
+/// The set of the ambiguous faces of a sign byte. Bit f is face f.
+pub fn ambiguous_set(signs: u8) -> u8
+    ensures faces { bits_of 6 result ≡ ambiguous_flags (bits_of 8 signs) }
+    ensures bound { result < 64 }
+{
+    AMBIGUOUS[signs as usize]
+}
+
+/// Whether a face is in a set of faces.
+fn has_face(set: u8, face: u8) -> bool
+    requires { face < 6 }
+    ensures { result ≡ (set / 2 ^ face % 2 == 1) }
+{
+    (set >> face) % 2 == 1
+}
+
+/// 1 where a face with these shifted values in cycle order is ambiguous and joined, else 0.
+fn joined_digit(ambiguous: bool, cycle: [i64; 4]) -> u8
+    requires known { ambiguous ≡ is_ambiguous (signs_of cycle) }
+    requires small { All (λ v. unsigned_abs v < 2 ^ 44) cycle }
+    ensures value { result ≡ (if is_ambiguous (signs_of cycle) && cycle_joined cycle then 1 else 0) }
+    ensures bound { result ≤ 1 }
+{
+    if !ambiguous {
+        0
+    } else if face_joined(cycle) {
+        1
+    } else {
+        0
+    }
+}
+
+/// One digit of the joined set: that of a face, by its corner cycle.
+macro_rules! digit {
+    ($faces:ident, $values:ident, $face:literal, $a:literal, $b:literal, $c:literal, $d:literal) => {
+        joined_digit(
+            has_face($faces, $face),
+            [$values[$a], $values[$b], $values[$c], $values[$d]],
+        )
+    };
+}
+
+/// The joined faces, where the ambiguous ones are known. Only these are decided.
+pub(crate) fn joined_among(values: &[i64; 8], faces: u8) -> u8
+    requires known { bits_of 6 faces ≡ ambiguous_flags (signs_of values.now) }
+    requires small { All (λ v. unsigned_abs v < 2 ^ 44) values.now }
+    ensures { result ≡ number_of_bits (joined_of values.now) }
+{
+    if faces == 0 {
+        return 0;
+    }
+    let d0 = digit!(faces, values, 0, 0, 4, 6, 2);
+    let d1 = digit!(faces, values, 1, 1, 3, 7, 5);
+    let d2 = digit!(faces, values, 2, 0, 1, 5, 4);
+    let d3 = digit!(faces, values, 3, 2, 6, 7, 3);
+    let d4 = digit!(faces, values, 4, 0, 2, 3, 1);
+    let d5 = digit!(faces, values, 5, 4, 5, 7, 6);
+    d0 + 2 * (d1 + 2 * (d2 + 2 * (d3 + 2 * (d4 + 2 * d5))))
+}
+
+/// The set of the faces that are ambiguous and joined, from the shifted values of the corners. Bit f is face f.
+pub fn joined_faces(values: &[i64; 8]) -> u8
+    requires { All (λ v. unsigned_abs v < 2 ^ 44) values.now }
+    ensures number { result ≡ number_of_bits (joined_of values.now) }
+    ensures faces { bits_of 6 result ≡ joined_of values.now }
+    ensures ambiguous { IsTrue (are_ambiguous (signs_of values.now) (bits_of 8 result)) }
+{
+    joined_among(values, ambiguous_set(sign_byte(values)))
+}
