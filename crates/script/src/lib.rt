@@ -1,0 +1,17 @@
+//! Command lines of a script, and the texts of their replies. No call takes memory.
+#![tactic(auto)]
+
+mod command;
+mod numbers;
+mod parts;
+mod read;
+mod reply;
+mod words;
+
+pub use command::{Command, FileName, LineFault};
+pub use numbers::{count, number};
+pub use read::read_line;
+pub use reply::{Reply, put_reply};
+
+#[cfg(test)]
+mod tests;
