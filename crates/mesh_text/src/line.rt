@@ -1,4 +1,4 @@
-ghost use Rattle.std.specs.Prelude.{◌≡◌};
+ghost use Rattle.std.specs.Prelude.{◌≡◌, ◌≤◌, length};
 
 use std::marker::Model;
 
@@ -35,7 +35,8 @@ impl Line {
     /// The bytes.
     #[inline(always)]
     pub fn as_bytes(&self) -> &[u8]
-        ensures { result.now ≡ self.now }
+        ensures value { result.now ≡ self.now }
+        ensures short { length self.now ≤ 64 }
     {
         &self.bytes[self.start..]
     }
