@@ -2,6 +2,7 @@
 use Rattle.std.proofs.Common.{◌≡◌, ℕ, suc, ◌+◌, ◌<◌, ◌≤◌, Bool, true, false, cond, List, [], ◌∷◌, ◌++◌, length, take, drop, set, get_or, refl, sym, ap, subst, ◌∙◌, append_assoc, arith, ℤ, pos}
 use Rattle.std.proofs.lemmas.List.{drop_more, take_more, take_more_set, drop-set-lt, length-set, drop_all, take_all, append-nil}
 use Rattle.iso_defs.specs.Grid.{Grid}
+use Rattle.iso_base.specs.Volume.{Volume}
 use Rattle.iso_base.specs.Points.{point_at, index_of}
 use Rattle.iso_base.specs.declared.point.Point.{Point}
 use Rattle.voxel_list.specs.Areas.{Area, is_in_area}
@@ -42,3 +43,22 @@ filled_all g a v old now i le h = sym (h.whole ∙ ap (λ (l : List ℤ). take i
 pub length-filled_from : (i : ℕ) (g : Grid) (a : Area) (v : ℤ) (samples : List ℤ) → length (filled_from i g a v samples) ≡ length samples
 length-filled_from i g a v [] = refl
 length-filled_from i g a v (s ∷ samples) = ap (λ (n : ℕ). suc n) (length-filled_from (i + 1) g a v samples)
+
+-- a volume that differs from another in its samples alone
+only_samples : (v w : Volume) → w.grid ≡ v.grid → w.kind ≡ v.kind → w.pad ≡ v.pad → w ≡ record v { samples = w.samples }
+only_samples v w g k p =
+    ap (λ x. record { grid = x; kind = w.kind; pad = w.pad; samples = w.samples }) g
+    ∙ (ap (λ x. record { grid = v.grid; kind = x; pad = w.pad; samples = w.samples }) k
+    ∙ ap (λ x. record { grid = v.grid; kind = v.kind; pad = x; samples = w.samples }) p)
+
+-- one more point of the box is filled
+pub filled_next : (v0 v w : Volume) (g : Grid) (a : Area) (value : ℤ) (i : ℕ) (p : Point) → i < length v.samples → g ≡ v0.grid
+    → v ≡ record v0 { samples = v.samples } → index_of g p ≡ i → is_in_area g a i ≡ true → HasFilled g a value v0.samples v.samples i
+    → w ≡ record v { samples = with_sample v.grid p value v.samples }
+    → HasFilled g a value v0.samples w.samples (i + 1) × (w ≡ record v0 { samples = w.samples })
+filled_next v0 v w g a value i p low grid same at inside h put =
+    let samples : w.samples ≡ with_sample g p value v.samples
+    = ap (λ (x : Volume). x.samples) put ∙ ap (λ k. with_sample k p value v.samples) (ap (λ (x : Volume). x.grid) same ∙ sym grid) in
+    (subst (λ (l : List ℤ). HasFilled g a value v0.samples l (i + 1)) (sym samples) (filled_in g a value v0.samples v.samples i p low at inside h),
+    only_samples v0 w (ap (λ (x : Volume). x.grid) put ∙ ap (λ (x : Volume). x.grid) same) (ap (λ (x : Volume). x.kind) put ∙ ap (λ (x : Volume). x.kind) same)
+    (ap (λ (x : Volume). x.pad) put ∙ ap (λ (x : Volume). x.pad) same))

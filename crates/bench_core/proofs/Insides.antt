@@ -17,12 +17,12 @@ inner g p lx hx ly hy lz hz =
     let x : coordinate g 0 (index_of g p) ≡ p.x = x_index g p.x p.y p.z (omega arith) (omega arith) (omega arith) in
     let y : coordinate g 1 (index_of g p) ≡ p.y = y_index g p.x p.y p.z (omega arith) (omega arith) (omega arith) in
     let z : coordinate g 2 (index_of g p) ≡ p.z = z_index g p.x p.y p.z (omega arith) (omega arith) (omega arith) in
-    let x0 : eqb p.x 0 ≡ false = ne_eqb (omega arith) in
-    let x1 : eqb p.x (g.nx - 1) ≡ false = ne_eqb (omega arith) in
-    let y0 : eqb p.y 0 ≡ false = ne_eqb (omega arith) in
-    let y1 : eqb p.y (g.ny - 1) ≡ false = ne_eqb (omega arith) in
-    let z0 : eqb p.z 0 ≡ false = ne_eqb (omega arith) in
-    let z1 : eqb p.z (g.nz - 1) ≡ false = ne_eqb (omega arith) in
+    let x0 : eqb p.x 0 ≡ false = ne_eqb _ _ (omega arith) in
+    let x1 : eqb p.x (g.nx - 1) ≡ false = ne_eqb _ _ (omega arith) in
+    let y0 : eqb p.y 0 ≡ false = ne_eqb _ _ (omega arith) in
+    let y1 : eqb p.y (g.ny - 1) ≡ false = ne_eqb _ _ (omega arith) in
+    let z0 : eqb p.z 0 ≡ false = ne_eqb _ _ (omega arith) in
+    let z1 : eqb p.z (g.nz - 1) ≡ false = ne_eqb _ _ (omega arith) in
     rw (x, y, z, x0, x1, y0, y1, z0, z1) refl
 
 -- a point inside holds no pad
@@ -53,3 +53,14 @@ inside_area v a p low high h =
       low_z = omega (arith, low.low_z, leb-true _ _ z.0);
       high_z = omega (arith, high.high_z, leb-true _ _ z.1);
     }
+
+-- what is inside depends on the grid and the pad alone
+pub inside_same : (v w : Volume) (p : Point) → w.grid ≡ v.grid → w.pad ≡ v.pad → IsInside v p → IsInside w p
+inside_same v w p grid pad is = record {
+  low_x = rw pad is.low_x;
+  high_x = rw (pad, grid) is.high_x;
+  low_y = rw pad is.low_y;
+  high_y = rw (pad, grid) is.high_y;
+  low_z = rw pad is.low_z;
+  high_z = rw (pad, grid) is.high_z;
+}

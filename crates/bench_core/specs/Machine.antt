@@ -140,13 +140,22 @@ abbrev pub pad_fault : Option ℤ → ℤ → Option BenchFault
 pad_fault None v = None
 pad_fault (Some pad) v = if int_lt pad v then None else Some (LevelNotAbovePad v pad)
 
-abbrev pub level_by : State → ℤ → Option BenchFault → Result State BenchFault
-level_by s v None = Ok (changed s s.volume.samples v None)
-level_by s v (Some fault) = Err fault
+-- the level, unless a fault is there
+abbrev pub unless_fault : Option BenchFault → ℤ → Result ℤ BenchFault
+unless_fault None v = Ok v
+unless_fault (Some fault) v = Err fault
+
+-- a level within the limit and above the pad, or why it is none
+abbrev pub checked_level : Option ℤ → ℤ → Result ℤ BenchFault
+checked_level pad v = if nat_lt (unsigned_abs v) (2 ^ 33) then unless_fault (pad_fault pad v) v else Err LevelOutside
+
+abbrev pub level_by : State → Result ℤ BenchFault → Result State BenchFault
+level_by s (Ok v) = Ok (changed s s.volume.samples v None)
+level_by s (Err fault) = Err fault
 
 -- `level`
 abbrev pub level_step : State → ℤ → Result State BenchFault
-level_step s v = if nat_lt (unsigned_abs v) (2 ^ 33) then level_by s v (pad_fault s.volume.pad v) else Err LevelOutside
+level_step s v = level_by s (checked_level s.volume.pad v)
 
 abbrev pub undo_by : State → List Was → Result State BenchFault
 undo_by s [] = Err NothingToUndo

@@ -1,7 +1,7 @@
 ghost use Rattle.std.specs.Prelude.{◌≡◌, ◌⊎◌, ◌+◌, ◌<◌, ◌≤◌, [], ◌∷◌, take, get_or, pos, IfSome, IfNone, None, Some, IfOk, IfErr, OnOk, OnErr, IsErrOf};
 ghost use Rattle.iso_base.specs.Samples.{least_of, greatest_of};
 ghost use Rattle.bench_core.specs.Inner.{IsInside};
-ghost use Rattle.bench_core.specs.Machine.{IsAbovePad, Steps, area_by, begin_fault, fill_at, fill_step, level_step, pad_fault, place_of, set_at, set_step, stored, undo_step};
+ghost use Rattle.bench_core.specs.Machine.{IsAbovePad, Steps, area_by, begin_fault, checked_level, fill_at, fill_step, level_step, pad_fault, place_of, set_at, set_step, stored, undo_step};
 
 use crate::earlier::Earlier;
 use crate::edits::{fill_area, is_in_range, put_sample};
@@ -89,7 +89,7 @@ impl Bench {
         let Ok(()) = remember(self.alloc, &mut self.past, &self.volume, self.level, Some(area)) else {
             return Err(BenchFault::Memory);
         };
-        put_sample(&mut self.volume, point, value);
+        put_sample(&mut self.volume, point, &value);
         Ok(())
     }
 
@@ -124,7 +124,7 @@ impl Bench {
         let Ok(()) = remember(self.alloc, &mut self.past, &self.volume, self.level, Some(area)) else {
             return Err(BenchFault::Memory);
         };
-        fill_area(&mut self.volume, &area, value);
+        fill_area(&mut self.volume, &area, &value);
         Ok(())
     }
 
@@ -134,12 +134,10 @@ impl Bench {
         ensures step { Steps self.old self.new result (level_step self.old value) }
         ensures not_shelf { IsErrOf result BenchFault.ShelfFailed → ⊥ }
     {
-        let Some(level) = Level::new(value) else {
-            return Err(BenchFault::LevelOutside);
+        let level = match checked(self.volume.pad(), value) {
+            Ok(level) => level,
+            Err(fault) => return Err(fault),
         };
-        if let Some(fault) = not_above(self.volume.pad(), value) {
-            return Err(fault);
-        }
         let Ok(()) = remember(self.alloc, &mut self.past, &self.volume, self.level, None) else {
             return Err(BenchFault::Memory);
         };
@@ -221,6 +219,21 @@ fn not_above(pad: Option<i64>, value: i64) -> Option<BenchFault>
     match pad {
         Some(pad) if value <= pad => Some(BenchFault::LevelNotAbovePad { level: value, pad }),
         _ => None,
+    }
+}
+
+/// A level within the limit and above the pad.
+fn checked(pad: Option<i64>, value: i64) -> Result<Level, BenchFault>
+    ensures level { result ≡ checked_level pad value }
+    ensures above { IfOk result (IsAbovePad pad) }
+    ensures not_shelf { IsErrOf result BenchFault.ShelfFailed → ⊥ }
+{
+    let Some(level) = Level::new(value) else {
+        return Err(BenchFault::LevelOutside);
+    };
+    match not_above(pad, value) {
+        None => Ok(level),
+        Some(fault) => Err(fault),
     }
 }
 
