@@ -1,14 +1,14 @@
 -- Points inside hold no pad.
-use Rattle.std.proofs.Common.{◌≡◌, ℕ, ◌+◌, ◌-◌, ◌<◌, ◌≤◌, Bool, true, false, refl, sym, ◌∙◌, ap, subst, arith, ne_eqb, eqb, ℤ, set, All}
+use Rattle.std.proofs.Common.{◌≡◌, ◌+◌, ◌-◌, ◌<◌, ◌≤◌, true, false, refl, ap, arith, ne_eqb, eqb, ℤ}
 use Rattle.std.specs.Prelude.{Option, Some, None, IfSome, ◌&&◌, nat_le}
 use Rattle.std.proofs.lemmas.Bool.{and_parts, leb-true}
-use Rattle.iso_defs.specs.Grid.{Grid, coordinate, index, point_count}
+use Rattle.iso_defs.specs.Grid.{Grid, coordinate}
 use Rattle.iso_defs.specs.Outside.{is_outer}
 use Rattle.iso_defs.proofs.Points.{x_index, y_index, z_index}
-use Rattle.iso_base.specs.Points.{IsPoint, index_of, point_at}
+use Rattle.iso_base.specs.Points.{index_of}
 use Rattle.iso_base.specs.declared.point.Point.{Point}
 use Rattle.iso_base.specs.Volume.{Volume}
-use Rattle.voxel_list.specs.Areas.{Area, is_within, is_in_area}
+use Rattle.voxel_list.specs.Areas.{Area, is_within}
 use Rattle.bench_core.specs.Machine.{layer}
 use Rattle.bench_core.specs.Inner.{IsInside}
 

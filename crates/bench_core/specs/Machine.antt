@@ -71,9 +71,9 @@ point_by None y z = None
 -- the stored point of a command's coordinates, where it is inside
 unfoldable pub place_of : Volume → ℤ × ℤ × ℤ → Option Point
 place_of v at = point_by
-  (stored v.grid.nx (layer v.pad) at.0)
-  (stored v.grid.ny (layer v.pad) at.1)
-  (stored v.grid.nz (layer v.pad) at.2)
+    (stored v.grid.nx (layer v.pad) at.0)
+    (stored v.grid.ny (layer v.pad) at.1)
+    (stored v.grid.nz (layer v.pad) at.2)
 
 -- the box of two points that are both there
 abbrev pub area_by : Option Point → Option Point → Option Area
@@ -127,8 +127,8 @@ abbrev pub fill_at : State → ℤ → Option Area → Result State BenchFault
 fill_at s v None = Err Outside
 fill_at s v (Some a) =
     if is_of_kind s.volume.kind v then
-      (if nat_lt 1048576 (area_count a) then Err (FillTooLarge (area_count a))
-      else Ok (changed s (filled_from 0 s.volume.grid a v s.volume.samples) s.level (Some a)))
+    (if nat_lt 1048576 (area_count a) then Err (FillTooLarge (area_count a))
+    else Ok (changed s (filled_from 0 s.volume.grid a v s.volume.samples) s.level (Some a)))
     else Err (value_fault s)
 
 -- `fill`
@@ -166,6 +166,6 @@ abbrev pub undo_step : State → Result State BenchFault
 undo_step s = undo_by s s.past
 
 -- The call is the machine's step; or the step is not refused, the call wants memory, and nothing is changed.
-pub record Steps {T : Type 0} (old new : State) (result : Result T BenchFault) (step : Result State BenchFault) : Type 0 where
+pub record IsStep {T : Type 0} (old new : State) (result : Result T BenchFault) (step : Result State BenchFault) : Type 0 where
   pub done : OnOk result (step ≡ Ok new)
   pub refused : IfErr result (λ fault. (new ≡ old) × ((step ≡ Err fault) ⊎ ((fault ≡ Memory) × ((next : State) × (step ≡ Ok next)))))

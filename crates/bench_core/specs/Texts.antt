@@ -1,10 +1,10 @@
 -- The text of the mesh of a state, and what a write of it does.
-use Rattle.std.specs.Prelude.{◌≡◌, ℕ, List, length, is_some, Result, Ok, Err}
+use Rattle.std.specs.Prelude.{◌≡◌, ◌⊎◌, ℕ, ◌≤◌, List, length, is_some, Result, IfOk, IfErr}
 use Rattle.iso_defs.specs.Scratch.{vertices, triangles}
 use Rattle.iso_defs.specs.Texts.{scratch_ply}
 use Rattle.iso_base.specs.Shifted.{field}
 use Rattle.iso_base.specs.declared.fault.BenchFault.{BenchFault}
-use Rattle.iso_base.specs.declared.fault.BenchFault.TheVariants as faults
+use Rattle.iso_base.specs.declared.fault.BenchFault.TheVariants.{Memory, ShelfFailed}
 use Rattle.iso_base.specs.declared.fault.Written.{Written}
 use Rattle.iso_io.specs.Causes.{Rose}
 use Rattle.iso_io.specs.Shelves.{Store, FilesCut, with_file}
@@ -22,16 +22,15 @@ ply_written s = record {
   bytes = length (ply_text s);
 }
 
--- The file is now the text, and all others stay. Where memory is wanted the shelf was not touched; where the shelf
--- failed its count rose, and the file is as before or a front of the text. Nothing else is answered.
-abbrev pub WritesFile : Store → Store → Result Written BenchFault → List ℕ → List ℕ → Written → Type 0
-WritesFile old new (Ok w) name text written = (w ≡ written) × (new.files ≡ with_file name text old.files)
-WritesFile old new (Err faults.Memory) name text written = new ≡ old
-WritesFile old new (Err faults.ShelfFailed) name text written = FilesCut name text old.files new.files × Rose old.faults new.faults
-WritesFile old new (Err faults.Outside) name text written = ⊥
-WritesFile old new (Err (faults.ValueOutside least greatest)) name text written = ⊥
-WritesFile old new (Err faults.LevelOutside) name text written = ⊥
-WritesFile old new (Err (faults.LevelNotAbovePad level pad)) name text written = ⊥
-WritesFile old new (Err faults.NothingToUndo) name text written = ⊥
-WritesFile old new (Err (faults.FillTooLarge n)) name text written = ⊥
-WritesFile old new (Err (faults.NoSuchPlane k)) name text written = ⊥
+-- Memory was wanted and the shelf was not touched; or the shelf failed, its count rose, and the file is as before or a
+-- front of the text.
+abbrev pub FailsToWrite : Store → Store → BenchFault → List ℕ → List ℕ → Type 0
+FailsToWrite old new fault name text =
+    ((fault ≡ Memory) × (new ≡ old)) ⊎ ((fault ≡ ShelfFailed) × FilesCut name text old.files new.files × Rose old.faults new.faults)
+
+-- The file is now the text, and all others stay; or it could not be written.
+pub record WritesFile (old new : Store) (result : Result Written BenchFault) (name text : List ℕ) (written : Written) : Type 0 where
+  pub numbers : IfOk result (λ w. w ≡ written)
+  pub file : IfOk result (λ _. new.files ≡ with_file name text old.files)
+  pub fault : IfErr result (λ fault. FailsToWrite old new fault name text)
+  pub later : old.faults ≤ new.faults

@@ -1,15 +1,20 @@
 ghost use Rattle.std.specs.Prelude.{◌≡◌, ◌⊎◌, ◌+◌, ◌<◌, ◌≤◌, [], ◌∷◌, take, get_or, pos, IfSome, IfNone, None, Some, IfOk, IfErr, OnOk, OnErr, IsErrOf};
 ghost use Rattle.iso_base.specs.Samples.{least_of, greatest_of};
 ghost use Rattle.bench_core.specs.Inner.{IsInside};
-ghost use Rattle.bench_core.specs.Machine.{IsAbovePad, Steps, area_by, begin_fault, checked_level, fill_at, fill_step, level_step, pad_fault, place_of, set_at, set_step, stored, undo_step};
+ghost use Rattle.bench_core.specs.Texts.{WritesFile, ply_text, ply_written};
+ghost use Rattle.bench_core.specs.Machine.{IsAbovePad, IsStep, area_by, begin_fault, checked_level, fill_at, fill_step, level_step, pad_fault, place_of, set_at, set_step, stored, undo_step};
 
 use crate::earlier::Earlier;
 use crate::edits::{fill_area, is_in_range, put_sample};
 use crate::fault::BeginFault;
-use iso_base::{BenchFault, Level, Memory, Point, SampleKind};
+use crate::mesh_file::write_mesh;
+use flat_mesh::extract_flat;
+use iso_base::{BenchFault, Level, Memory, Point, SampleKind, Steps, Written};
+use iso_io::{Failed, Shelf};
 use mesh_write::STAGE;
 use std::alloc::Global;
 use std::marker::Model;
+use std::sync::ledger::Ledger;
 use voxel_list::{FillBox, VoxelList};
 
 /// A volume, a level, and what was before. Contracts see it as the state of the machine.
@@ -67,7 +72,7 @@ impl Bench {
     /// Replaces one sample. Coordinates do not count the pad's layer. Refused, in this order: `Outside` exactly where
     /// the point is not in the unpadded volume; `ValueOutside` exactly where the value is not of the kind; `Memory`.
     pub fn set(&mut self, x: i64, y: i64, z: i64, value: i64) -> Result<(), BenchFault>
-        ensures step { Steps self.old self.new result (set_step self.old (x, y, z) value) }
+        ensures step { IsStep self.old self.new result (set_step self.old (x, y, z) value) }
         ensures not_shelf { IsErrOf result BenchFault.ShelfFailed → ⊥ }
     {
         match self.place(x, y, z) {
@@ -78,7 +83,7 @@ impl Bench {
 
     fn set_at(&mut self, point: Point, value: i64) -> Result<(), BenchFault>
         requires { IsInside self.old.volume point }
-        ensures step { Steps self.old self.new result (set_at self.old value (Some point)) }
+        ensures step { IsStep self.old self.new result (set_at self.old value (Some point)) }
         ensures not_shelf { IsErrOf result BenchFault.ShelfFailed → ⊥ }
     {
         let kind = self.volume.kind();
@@ -86,7 +91,13 @@ impl Bench {
             return Err(value_fault(kind));
         }
         let area = FillBox::between(&self.volume.sizes(), point, point);
-        let Ok(()) = remember(self.alloc, &mut self.past, &self.volume, self.level, Some(area)) else {
+        let Ok(()) = remember(
+            self.alloc,
+            &mut self.past,
+            &self.volume,
+            self.level,
+            Some(area),
+        ) else {
             return Err(BenchFault::Memory);
         };
         put_sample(&mut self.volume, point, &value);
@@ -97,7 +108,7 @@ impl Bench {
     /// order: `Outside` and `ValueOutside` as for `set`; `FillTooLarge` exactly where the box has more than 1,048,576
     /// points; `Memory`.
     pub fn fill(&mut self, corners: [i64; 6], value: i64) -> Result<(), BenchFault>
-        ensures step { Steps self.old self.new result (fill_step self.old (get_or corners 0 (pos 0), get_or corners 1 (pos 0), get_or corners 2 (pos 0)) (get_or corners 3 (pos 0), get_or corners 4 (pos 0), get_or corners 5 (pos 0)) value) }
+        ensures step { IsStep self.old self.new result (fill_step self.old (get_or corners 0 (pos 0), get_or corners 1 (pos 0), get_or corners 2 (pos 0)) (get_or corners 3 (pos 0), get_or corners 4 (pos 0), get_or corners 5 (pos 0)) value) }
         ensures not_shelf { IsErrOf result BenchFault.ShelfFailed → ⊥ }
     {
         let [ax, ay, az, bx, by, bz] = corners;
@@ -110,7 +121,7 @@ impl Bench {
     fn fill_at(&mut self, area: FillBox, value: i64) -> Result<(), BenchFault>
         requires low { IsInside self.old.volume area.low }
         requires high { IsInside self.old.volume area.high }
-        ensures step { Steps self.old self.new result (fill_at self.old value (Some area)) }
+        ensures step { IsStep self.old self.new result (fill_at self.old value (Some area)) }
         ensures not_shelf { IsErrOf result BenchFault.ShelfFailed → ⊥ }
     {
         let kind = self.volume.kind();
@@ -121,7 +132,13 @@ impl Bench {
         if n > MOST_FILLED {
             return Err(BenchFault::FillTooLarge { n });
         }
-        let Ok(()) = remember(self.alloc, &mut self.past, &self.volume, self.level, Some(area)) else {
+        let Ok(()) = remember(
+            self.alloc,
+            &mut self.past,
+            &self.volume,
+            self.level,
+            Some(area),
+        ) else {
             return Err(BenchFault::Memory);
         };
         fill_area(&mut self.volume, &area, &value);
@@ -131,7 +148,7 @@ impl Bench {
     /// Replaces the level. Refused, in this order: `LevelOutside` exactly where its absolute value is 2^33 or more;
     /// `LevelNotAbovePad` exactly where there is a pad and the level is not above it; `Memory`.
     pub fn level(&mut self, value: i64) -> Result<(), BenchFault>
-        ensures step { Steps self.old self.new result (level_step self.old value) }
+        ensures step { IsStep self.old self.new result (level_step self.old value) }
         ensures not_shelf { IsErrOf result BenchFault.ShelfFailed → ⊥ }
     {
         let level = match checked(self.volume.pad(), value) {
@@ -147,7 +164,7 @@ impl Bench {
 
     /// Goes back to the newest earlier volume and level. `NothingToUndo` comes exactly where there is none.
     pub fn undo(&mut self) -> Result<(), BenchFault>
-        ensures step { Steps self.old self.new result (undo_step self.old) }
+        ensures step { IsStep self.old self.new result (undo_step self.old) }
         ensures not_shelf { IsErrOf result BenchFault.ShelfFailed → ⊥ }
     {
         if self.past.is_empty() {
@@ -159,11 +176,39 @@ impl Bench {
         Ok(())
     }
 
-    /// A refresh turn. Nothing is kept yet that could be refreshed, so it does nothing.
-    pub fn work(&mut self, n: u32)
-        ensures { self.new ≡ self.old }
+    /// A refresh turn. Nothing is kept yet that could be refreshed, so it does nothing and classifies no cell.
+    pub fn work<L: Ledger>(&mut self, n: u32, steps: &mut Steps<L>)
+        ensures state { self.new ≡ self.old }
+        ensures counted { steps.new ≡ steps.old }
     {
         let _ = n;
+        let _ = &*steps;
+    }
+
+    /// Makes the name's file the PLY text of the mesh, in blocks of 32 KiB and more. `Memory` comes before the shelf is
+    /// touched. `ShelfFailed` comes only where the shelf's count of faults rose; the file is then as before or a front
+    /// of the text, and all other files are as before. The bench's state stays in every case.
+    pub fn write_ply<H: Shelf, L: Ledger>(
+        &mut self,
+        shelf: &mut H,
+        name: &str,
+        steps: &mut Steps<L>,
+    ) -> Result<Written, BenchFault>
+        ensures state { self.new ≡ self.old }
+        ensures file { WritesFile (H.seen shelf.old) (H.seen shelf.new) result name.now (ply_text self.old) (ply_written self.old) }
+        ensures counted { steps.new ≡ steps.old }
+    {
+        let _ = &*steps;
+        let Ok(mesh) = extract_flat(self.alloc, &self.volume, self.level) else {
+            return Err(BenchFault::Memory);
+        };
+        let padded = self.volume.pad().is_some();
+        let written = write_mesh(shelf, name, &mut self.waiting, &mesh, padded);
+        self.waiting.clear();
+        match written {
+            Ok(written) => Ok(written),
+            Err(Failed) => Err(BenchFault::ShelfFailed),
+        }
     }
 
     /// The stored point of coordinates that do not count the pad's layer.

@@ -6,6 +6,7 @@ mod bench;
 mod earlier;
 mod edits;
 mod fault;
+mod mesh_file;
 
 pub use bench::Bench;
 pub use fault::BeginFault;
