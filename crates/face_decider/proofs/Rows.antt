@@ -16,7 +16,7 @@ same_numbers [] (y ∷ ys) = false
 same_numbers (x ∷ xs) [] = false
 same_numbers (x ∷ xs) (y ∷ ys) = x == y && same_numbers xs ys
 
-same_numbers-true : (xs ys : List ℕ) → same_numbers xs ys ≡ true → xs ≡ ys
+pub same_numbers-true : (xs ys : List ℕ) → same_numbers xs ys ≡ true → xs ≡ ys
 same_numbers-true [] [] h = refl
 same_numbers-true [] (y ∷ ys) h = cc
 same_numbers-true (x ∷ xs) [] h = cc

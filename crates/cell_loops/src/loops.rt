@@ -1,0 +1,125 @@
+ghost use Rattle.std.specs.Prelude.{◌≡◌, ◌<◌, ◌≤◌, length, slice_index_or, []};
+ghost use Rattle.cell_loops.specs.Loops.{IsLoop, row_loops};
+
+use crate::table::{loop_count, loop_edges};
+use arrayvec::ArrayVec;
+use case_table::CaseRow;
+use std::marker::Model;
+
+/// The loops of a cell: at most four lists of three to twelve cell edges. Contracts see it as the list of these lists.
+#[derive(Drop)]
+pub struct CellLoops {
+    loops: ArrayVec<&'static [u8], 4>,
+}
+
+impl Model for CellLoops {
+    ghost use Rattle.std.specs.Prelude.{ℕ, List, map};
+    ghost use Rattle.std.specs.List.{All};
+    ghost use Rattle.cell_loops.specs.Loops.{IsLoop};
+
+    ghost Value = { List (List ℕ) };
+
+    ghost view = { λ c. map (λ l. l.now) c.loops.items };
+
+    ghost invariant = { λ c. All IsLoop (map (λ l. l.now) c.loops.items) };
+}
+
+impl CellLoops {
+    /// How many loops there are.
+    pub fn count(&self) -> u8
+        ensures value { result ≡ length self.now }
+        ensures bound { result ≤ 4 }
+    {
+        self.loops.len() as u8
+    }
+
+    /// The edges of a loop, from its least edge on.
+    pub fn edges(&self, i: u8) -> &[u8]
+        requires { i < length self.now }
+        ensures value { result.now ≡ slice_index_or self.now i [] }
+        ensures shape { IsLoop result.now }
+    {
+        self.loops.as_slice()[i as usize]
+    }
+}
+
+/// The loops of a case.
+pub fn loops_of(row: CaseRow) -> CellLoops
+    ensures { result ≡ row_loops row }
+{
+    let mut loops = ArrayVec::new();
+    for turn in 0..loop_count(row) {
+        loops.push(loop_edges(row, turn));
+    }
+    CellLoops { loops }
+}
+
+#[cfg(test)]
+mod tests {
+    use super::*;
+    use crate::table::{centre_count, triangle_count};
+    use case_table::row_of;
+    use std::test::Fail;
+
+    fn counts(row: CaseRow) -> [u8; 3] {
+        [
+            loops_of(row).count(),
+            triangle_count(row),
+            centre_count(row),
+        ]
+    }
+
+    fn listed(loops: &CellLoops, i: u8) -> &[u8] {
+        if i < loops.count() {
+            loops.edges(i)
+        } else {
+            &[]
+        }
+    }
+
+    #[test]
+    fn loops_of_some_cases(rt: HostRuntime) -> Result<(), Fail> {
+        assert_eq!(rt; listed(&loops_of(row_of(1, 0)), 0), [0, 4, 8].as_slice());
+        assert_eq!(rt; listed(&loops_of(row_of(9, 0)), 1), [1, 5, 11].as_slice());
+        assert_eq!(rt;
+            listed(&loops_of(row_of(9, 16)), 0),
+            [0, 5, 11, 1, 4, 8].as_slice()
+        );
+        assert_eq!(rt;
+            listed(&loops_of(row_of(15, 0)), 0),
+            [8, 9, 11, 10].as_slice()
+        );
+        let full = loops_of(row_of(105, 63));
+        assert_eq!(rt; listed(&full, 0), [0, 5, 9].as_slice());
+        assert_eq!(rt; listed(&full, 1), [1, 4, 10].as_slice());
+        assert_eq!(rt; listed(&full, 2), [2, 6, 8].as_slice());
+        assert_eq!(rt; listed(&full, 3), [3, 7, 11].as_slice());
+        Ok(())
+    }
+
+    #[test]
+    fn counts_of_some_cases(rt: HostRuntime) -> Result<(), Fail> {
+        assert_eq!(rt; counts(row_of(1, 0)), [1, 1, 0]);
+        assert_eq!(rt; counts(row_of(9, 0)), [2, 2, 0]);
+        assert_eq!(rt; counts(row_of(9, 16)), [1, 6, 1]);
+        assert_eq!(rt; counts(row_of(15, 0)), [1, 4, 1]);
+        assert_eq!(rt; counts(row_of(105, 63)), [4, 4, 0]);
+        assert_eq!(rt; counts(row_of(255, 0)), [0, 0, 0]);
+        Ok(())
+    }
+
+    #[test]
+    fn totals(rt: HostRuntime) -> Result<(), Fail> {
+        let mut loops = 0u32;
+        let mut triangles = 0u32;
+        let mut centres = 0u32;
+        for number in 0..656u16 {
+            let row = CaseRow::of(number);
+            loops += u32::from(loop_count(row));
+            triangles += u32::from(triangle_count(row));
+            centres += u32::from(centre_count(row));
+        }
+        assert_eq!(rt; (loops, triangles, centres), (1026, 4424, 610));
+        Ok(())
+    }
+}
