@@ -11,3 +11,6 @@ mod mesh_file;
 pub use bench::Bench;
 pub use fault::BeginFault;
 pub use iso_base::{BenchFault, Written};
+
+#[cfg(test)]
+mod tests;
