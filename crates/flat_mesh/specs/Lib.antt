@@ -1,0 +1,9 @@
+pub mod Lattice
+pub mod Numbers
+pub mod Faces
+pub mod Centres
+pub mod Cases
+pub mod Rows
+pub mod Found
+pub mod Shim
+pub mod Mesh
