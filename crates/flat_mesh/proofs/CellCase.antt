@@ -5,7 +5,7 @@ use Rattle.iso_defs.specs.Grid.{Grid}
 use Rattle.iso_defs.specs.Bricks.{bits_of}
 use Rattle.iso_defs.specs.Cell.{case_loops, corner_point, joined_of, signs_of}
 use Rattle.case_table.specs.Cases.{ambiguous_flags, are_ambiguous, case_at}
-use Rattle.flat_mesh.specs.Shim.{row_loops}
+use Rattle.cell_loops.specs.Loops.{row_loops}
 use Rattle.flat_mesh.specs.Faces.{loops_at}
 use Rattle.case_table.proofs.Values.{none_joined}
 use Rattle.flat_mesh.specs.Lattice.{Leveled, heights}

@@ -20,3 +20,4 @@ pub mod Quiet
 pub mod SignBytes
 pub mod RowEnds
 pub mod MeshParts
+pub mod MeshMade

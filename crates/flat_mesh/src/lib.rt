@@ -5,10 +5,13 @@ mod cases;
 mod cells;
 mod centres;
 mod corners;
+mod extract;
 mod faces;
 mod lattice;
 mod mesh;
 mod ranks;
 mod rows;
-mod shim;
 mod slices;
+
+pub use extract::extract_flat;
+pub use mesh::{Mesh, VertexName};

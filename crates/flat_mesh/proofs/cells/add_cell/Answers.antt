@@ -1,7 +1,7 @@
 use Rattle.std.proofs.Common.{◌≡◌, ◌+◌, ◌*◌, ◌<◌, ◌≤◌, ◌++◌, List, [], ◌∙◌, ap, sym, subst, arith, length}
 use Rattle.iso_defs.specs.Grid.{point_count}
 use Rattle.iso_defs.specs.Scratch.{crossing_edges}
-use Rattle.flat_mesh.specs.Shim.{row_loops}
+use Rattle.cell_loops.specs.Loops.{row_loops}
 use Rattle.flat_mesh.specs.Lattice.{heights}
 use Rattle.flat_mesh.specs.Centres.{loop_centres}
 use Rattle.flat_mesh.specs.Faces.{cell_faces, loops_at}

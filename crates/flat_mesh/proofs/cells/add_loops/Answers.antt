@@ -2,7 +2,7 @@ use Rattle.std.proofs.Common.{◌≡◌, ◌+◌, ◌<◌, ◌≤◌, ◌++◌, 
 use Rattle.std.specs.List.{sum_by}
 use Rattle.std.proofs.lemmas.List.Sums.{sum_by_more}
 use Rattle.crossing_edges.proofs.Counting.{put_further}
-use Rattle.flat_mesh.specs.Shim.{row_loops}
+use Rattle.cell_loops.specs.Loops.{row_loops}
 use Rattle.flat_mesh.specs.Centres.{loop_centre, loop_centres}
 use Rattle.flat_mesh.specs.Faces.{AllCross, IsLoop, cell_faces, centres_of, loop_faces, loops_at}
 use Rattle.flat_mesh.proofs.CellParts.{cell_faces_more, few_centres, loop_centres_more}

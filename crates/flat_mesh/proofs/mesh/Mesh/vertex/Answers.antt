@@ -1,4 +1,4 @@
-use Rattle.std.proofs.Common.{◌≡◌, ◌+◌, ◌-◌, ◌<◌, ◌≤◌, ◌∙◌, ℕ, ap, ap₂, sym, subst, arith, get_or, length}
+use Rattle.std.proofs.Common.{◌≡◌, ◌+◌, ◌-◌, ◌^◌, ◌<◌, ◌≤◌, ◌∙◌, ℕ, ap, ap₂, sym, subst, arith, get_or, length}
 use Rattle.std.proofs.lemmas.List.{get_or_read}
 use Rattle.iso_defs.specs.Grid.{name_bound}
 use Rattle.iso_defs.specs.Place.{Position}
@@ -75,3 +75,81 @@ returns-clause-position c =
     let vertex = vertex_at_centre _ _ _ _ _ c.self.invariant i none c.index-2.result.now (omega (arith, c.len-edges.ensures)) (omega (arith, c.len-edges.ensures, c.requires)) in
     subst (λ (m : FlatMesh). c.centre_vertex.result.1 ≡ thousandths_of (get_or m.vertex_list i none).1) c.self.view_is
     (c.centre_vertex.ensures.position ∙ (ap (λ (m : LoopCentre). thousandths_of (at_centre m).1) at ∙ ap (λ (u : ℕ × Position). thousandths_of u.1) (sym vertex)))
+
+pub returns-then-i-edges-clause-x_bound : goal.returns-then-i-edges-clause-x_bound
+returns-then-i-edges-clause-x_bound c =
+    let g = c.self.inside.sizes in
+    let names = c.self.inside.edges.names.items in
+    let places = c.self.inside.edges.places.items in
+    let i = c.args.i in
+    let low : i < length names = omega (arith, c.len-edges.ensures) in
+    let n : c.index.result.now ≡ get_or names i 0 = get_or_read names i _ low c.index.ensures 0 in
+    let d : c.index-then-i-edges.result.now ≡ get_or places i 0 = get_or_read places i _ (omega (arith, low, c.self.invariant.same_length)) c.index-then-i-edges.ensures 0 in
+    subst (λ (m : FlatMesh). (get_or m.vertex_list i none).1.0 < 2 ^ 32) c.self.view_is
+    (subst (λ (u : ℕ × Position). u.1.0 < 2 ^ 32) (sym (vertex_on_edge _ _ _ _ _ c.self.invariant i none low))
+    (subst (λ d. placed g (get_or names i 0) d 0 < 2 ^ 32) d (subst (λ n. placed g n c.index-then-i-edges.result.now 0 < 2 ^ 32) n c.edge_vertex.ensures.x_bound)))
+
+pub returns-clause-x_bound : goal.returns-clause-x_bound
+returns-clause-x_bound c =
+    let i = c.args.i in
+    let edges = length c.self.inside.edges.names.items in
+    let same : edges + length c.self.inside.centres.items ≡ length c.args.self.now.vertex_list
+    = sym (count_is _ _ _ _ _ c.self.invariant) ∙ ap (λ (m : FlatMesh). length m.vertex_list) c.self.view_is in
+    let len : c.len-edges.result ≡ edges = omega (arith, c.len-edges.ensures) in
+    let at : c.index-2.result.now ≡ get_or c.self.inside.centres.items (i - edges) c.index-2.result.now
+    = c.index-2.ensures ∙ ap (λ n. get_or c.self.inside.centres.items (i - n) c.index-2.result.now) len in
+    let vertex = vertex_at_centre _ _ _ _ _ c.self.invariant i none c.index-2.result.now (omega (arith, c.len-edges.ensures)) (omega (arith, c.len-edges.ensures, c.requires)) in
+    subst (λ (m : FlatMesh). (get_or m.vertex_list i none).1.0 < 2 ^ 32) c.self.view_is
+    (subst (λ (u : ℕ × Position). u.1.0 < 2 ^ 32) (sym vertex) (subst (λ (m : LoopCentre). (at_centre m).1.0 < 2 ^ 32) at c.centre_vertex.ensures.x_bound))
+
+pub returns-then-i-edges-clause-y_bound : goal.returns-then-i-edges-clause-y_bound
+returns-then-i-edges-clause-y_bound c =
+    let g = c.self.inside.sizes in
+    let names = c.self.inside.edges.names.items in
+    let places = c.self.inside.edges.places.items in
+    let i = c.args.i in
+    let low : i < length names = omega (arith, c.len-edges.ensures) in
+    let n : c.index.result.now ≡ get_or names i 0 = get_or_read names i _ low c.index.ensures 0 in
+    let d : c.index-then-i-edges.result.now ≡ get_or places i 0 = get_or_read places i _ (omega (arith, low, c.self.invariant.same_length)) c.index-then-i-edges.ensures 0 in
+    subst (λ (m : FlatMesh). (get_or m.vertex_list i none).1.1 < 2 ^ 32) c.self.view_is
+    (subst (λ (u : ℕ × Position). u.1.1 < 2 ^ 32) (sym (vertex_on_edge _ _ _ _ _ c.self.invariant i none low))
+    (subst (λ d. placed g (get_or names i 0) d 1 < 2 ^ 32) d (subst (λ n. placed g n c.index-then-i-edges.result.now 1 < 2 ^ 32) n c.edge_vertex.ensures.y_bound)))
+
+pub returns-clause-y_bound : goal.returns-clause-y_bound
+returns-clause-y_bound c =
+    let i = c.args.i in
+    let edges = length c.self.inside.edges.names.items in
+    let same : edges + length c.self.inside.centres.items ≡ length c.args.self.now.vertex_list
+    = sym (count_is _ _ _ _ _ c.self.invariant) ∙ ap (λ (m : FlatMesh). length m.vertex_list) c.self.view_is in
+    let len : c.len-edges.result ≡ edges = omega (arith, c.len-edges.ensures) in
+    let at : c.index-2.result.now ≡ get_or c.self.inside.centres.items (i - edges) c.index-2.result.now
+    = c.index-2.ensures ∙ ap (λ n. get_or c.self.inside.centres.items (i - n) c.index-2.result.now) len in
+    let vertex = vertex_at_centre _ _ _ _ _ c.self.invariant i none c.index-2.result.now (omega (arith, c.len-edges.ensures)) (omega (arith, c.len-edges.ensures, c.requires)) in
+    subst (λ (m : FlatMesh). (get_or m.vertex_list i none).1.1 < 2 ^ 32) c.self.view_is
+    (subst (λ (u : ℕ × Position). u.1.1 < 2 ^ 32) (sym vertex) (subst (λ (m : LoopCentre). (at_centre m).1.1 < 2 ^ 32) at c.centre_vertex.ensures.y_bound))
+
+pub returns-then-i-edges-clause-z_bound : goal.returns-then-i-edges-clause-z_bound
+returns-then-i-edges-clause-z_bound c =
+    let g = c.self.inside.sizes in
+    let names = c.self.inside.edges.names.items in
+    let places = c.self.inside.edges.places.items in
+    let i = c.args.i in
+    let low : i < length names = omega (arith, c.len-edges.ensures) in
+    let n : c.index.result.now ≡ get_or names i 0 = get_or_read names i _ low c.index.ensures 0 in
+    let d : c.index-then-i-edges.result.now ≡ get_or places i 0 = get_or_read places i _ (omega (arith, low, c.self.invariant.same_length)) c.index-then-i-edges.ensures 0 in
+    subst (λ (m : FlatMesh). (get_or m.vertex_list i none).1.2 < 2 ^ 32) c.self.view_is
+    (subst (λ (u : ℕ × Position). u.1.2 < 2 ^ 32) (sym (vertex_on_edge _ _ _ _ _ c.self.invariant i none low))
+    (subst (λ d. placed g (get_or names i 0) d 2 < 2 ^ 32) d (subst (λ n. placed g n c.index-then-i-edges.result.now 2 < 2 ^ 32) n c.edge_vertex.ensures.z_bound)))
+
+pub returns-clause-z_bound : goal.returns-clause-z_bound
+returns-clause-z_bound c =
+    let i = c.args.i in
+    let edges = length c.self.inside.edges.names.items in
+    let same : edges + length c.self.inside.centres.items ≡ length c.args.self.now.vertex_list
+    = sym (count_is _ _ _ _ _ c.self.invariant) ∙ ap (λ (m : FlatMesh). length m.vertex_list) c.self.view_is in
+    let len : c.len-edges.result ≡ edges = omega (arith, c.len-edges.ensures) in
+    let at : c.index-2.result.now ≡ get_or c.self.inside.centres.items (i - edges) c.index-2.result.now
+    = c.index-2.ensures ∙ ap (λ n. get_or c.self.inside.centres.items (i - n) c.index-2.result.now) len in
+    let vertex = vertex_at_centre _ _ _ _ _ c.self.invariant i none c.index-2.result.now (omega (arith, c.len-edges.ensures)) (omega (arith, c.len-edges.ensures, c.requires)) in
+    subst (λ (m : FlatMesh). (get_or m.vertex_list i none).1.2 < 2 ^ 32) c.self.view_is
+    (subst (λ (u : ℕ × Position). u.1.2 < 2 ^ 32) (sym vertex) (subst (λ (m : LoopCentre). (at_centre m).1.2 < 2 ^ 32) at c.centre_vertex.ensures.z_bound))

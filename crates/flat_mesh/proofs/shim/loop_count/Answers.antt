@@ -1,4 +1,0 @@
-use Rattle.flat_mesh.proofs.shim.loop_count.Goals as goal
-
-pub returns-clause-value : goal.returns-clause-value
-returns-clause-value c = ?
