@@ -140,6 +140,27 @@ fn add_points(
     Ok(())
 }
 
+/// How many crossing edges a point has, by its flags.
+#[inline(always)]
+fn edges_at(flags: u8) -> usize
+    requires { flags < 8 }
+    ensures { result ≤ 3 }
+{
+    usize::from(flags % 2 + flags / 2 % 2 + flags / 4)
+}
+
+/// How many crossing edges points of these flags have.
+fn edges_of(flags: &[u8]) -> usize
+    requires flags { All (λ f. f < 8) flags.now }
+    requires few { length flags.now ≤ 160000000 }
+{
+    let mut count = 0;
+    for flag in flags {
+        count += edges_at(*flag);
+    }
+    count
+}
+
 /// The crossing edges of a volume at a level, in order of name, and where each is crossed, from the flags of all points.
 pub fn edge_vertices(
     alloc: Global,
@@ -154,9 +175,11 @@ pub fn edge_vertices(
     ensures names { IfOk result (λ v. v.names.items ≡ crossing_edges sizes.now (field samples.now level)) }
     ensures places { IfOk result (λ v. v.places.items ≡ map (edge_place sizes.now (field samples.now level)) (crossing_edges sizes.now (field samples.now level))) }
 {
+    let _ = sizes.count();
+    let count = edges_of(flags);
     let mut edges = EdgeVertices {
-        names: Vec::new(alloc),
-        places: Vec::new(alloc),
+        names: Vec::with_capacity(alloc, count)?,
+        places: Vec::with_capacity(alloc, count)?,
     };
     add_points(sizes, samples, level, 0, flags, &mut edges)?;
     Ok(edges)

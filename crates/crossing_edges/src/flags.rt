@@ -168,6 +168,30 @@ fn flags_of(alloc: Global, sizes: &Sizes, signs: &[u8]) -> Result<Vec<u8>, Alloc
     Ok(flags)
 }
 
+/// The signs and the flags of all points of a volume at a level, by index. A sign is 1 for a point above and 0 for one below;
+/// bit `axis` of the flags is set where the lattice edge from the point along that axis is crossing.
+#[derive(Drop)]
+pub struct PointBits {
+    pub signs: Vec<u8>,
+    pub flags: Vec<u8>,
+}
+
+/// The signs and the flags of all points of a volume at a level.
+pub fn point_bits(
+    alloc: Global,
+    sizes: &Sizes,
+    samples: &[i64],
+    level: Level,
+) -> Result<PointBits, Memory>
+    requires { length samples.now ≡ point_count sizes.now }
+    ensures signs { IfOk result (λ b. b.signs.items ≡ map (sign_of level) samples.now) }
+    ensures flags { IfOk result (λ b. b.flags.items ≡ flags_from sizes.now (field samples.now level) 0 (point_count sizes.now)) }
+{
+    let signs = signs(alloc, samples, level)?;
+    let flags = flags_of(alloc, sizes, &signs)?;
+    Ok(PointBits { signs, flags })
+}
+
 /// The flags of all points of a volume at a level, by index: bit `axis` is set where the lattice edge from the point
 /// along that axis is crossing.
 pub fn crossing_flags(
@@ -179,7 +203,6 @@ pub fn crossing_flags(
     requires { length samples.now ≡ point_count sizes.now }
     ensures { IfOk result (λ v. v.items ≡ flags_from sizes.now (field samples.now level) 0 (point_count sizes.now)) }
 {
-    let signs = signs(alloc, samples, level)?;
-    let flags = flags_of(alloc, sizes, &signs)?;
+    let PointBits { flags, .. } = point_bits(alloc, sizes, samples, level)?;
     Ok(flags)
 }

@@ -6,4 +6,4 @@ mod edges;
 mod flags;
 
 pub use edges::{EdgeVertices, edge_vertices, position_on};
-pub use flags::crossing_flags;
+pub use flags::{PointBits, crossing_flags, point_bits};

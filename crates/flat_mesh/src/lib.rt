@@ -1,0 +1,17 @@
+//! The mesh of a volume at a level, from scratch.
+#![tactic(auto)]
+
+mod cases;
+mod cells;
+mod centres;
+mod corners;
+mod extract;
+mod faces;
+mod lattice;
+mod mesh;
+mod ranks;
+mod rows;
+mod slices;
+
+pub use extract::extract_flat;
+pub use mesh::{Mesh, VertexName};

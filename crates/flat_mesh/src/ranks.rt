@@ -1,0 +1,70 @@
+//! The numbers of crossing edges.
+ghost use Rattle.std.specs.Prelude.{◌≡◌, ℕ, ◌+◌, ◌*◌, ◌<◌, ◌≤◌, ◌^◌, length, slice_index, take, All};
+ghost use Rattle.std.specs.List.{sum_by};
+ghost use Rattle.crossing_edges.specs.Flags.{before_axis, edges_in};
+ghost use Rattle.flat_mesh.specs.Numbers.{edge_numbers};
+
+/// How many crossing edges a point has, by its flags.
+#[inline(always)]
+fn count_edges(flags: u8) -> u32
+    requires { flags < 8 }
+    ensures value { result ≡ edges_in flags }
+    ensures bound { result ≤ 3 }
+{
+    u32::from(flags % 2 + (flags / 2 % 2 + flags / 4))
+}
+
+/// Writes the number of the first crossing edge of each point of a run, and behind them that of the next point.
+pub fn rank_points(flags: &[u8], start: u32, out: &mut [u32])
+    requires flags { All (λ f. f < 8) flags.now }
+    requires lengths { length out.old ≡ length flags.now + 1 }
+    requires room { start + 3 * length flags.now < 2 ^ 32 }
+    ensures { (i : ℕ) → i ≤ length flags.now → slice_index out.new i ≡ start + sum_by edges_in (take i flags.now) }
+{
+    let mut number = start;
+    for i in 0..flags.len() {
+        out[i] = number;
+        number += count_edges(flags[i]);
+    }
+    out[flags.len()] = number;
+}
+
+/// The number of the edge of a point along an axis, from that of its first edge.
+#[inline(always)]
+fn number_along(first: u32, flags: u8, axis: u8) -> u32
+    requires axis { axis < 3 }
+    requires flags { flags < 8 }
+    requires room { first < 2 ^ 31 }
+    ensures { result ≡ first + before_axis flags axis }
+{
+    if axis == 0 {
+        first
+    } else if axis == 1 {
+        first + u32::from(flags % 2)
+    } else {
+        first + u32::from(flags % 2 + flags / 2 % 2)
+    }
+}
+
+/// The numbers of the twelve edges of a cell, from those of the first edges of its corners and their flags.
+#[inline(always)]
+pub fn cell_numbers(first: &[u32; 7], flags: &[u8; 7]) -> [u32; 12]
+    requires flags { All (λ f. f < 8) flags.now }
+    requires room { All (λ n. n < 2 ^ 31) first.now }
+    ensures { result ≡ edge_numbers first.now flags.now }
+{
+    [
+        number_along(first[0], flags[0], 0),
+        number_along(first[2], flags[2], 0),
+        number_along(first[4], flags[4], 0),
+        number_along(first[6], flags[6], 0),
+        number_along(first[0], flags[0], 1),
+        number_along(first[1], flags[1], 1),
+        number_along(first[4], flags[4], 1),
+        number_along(first[5], flags[5], 1),
+        number_along(first[0], flags[0], 2),
+        number_along(first[1], flags[1], 2),
+        number_along(first[2], flags[2], 2),
+        number_along(first[3], flags[3], 2),
+    ]
+}
