@@ -75,10 +75,10 @@ impl Bench {
         ensures step { IsStep self.old self.new result (set_step self.old (x, y, z) value) }
         ensures not_shelf { IsErrOf result BenchFault.ShelfFailed → ⊥ }
     {
-        match self.place(x, y, z) {
-            None => Err(BenchFault::Outside),
-            Some(point) => self.set_at(point, value),
-        }
+        let Some(point) = self.place(x, y, z) else {
+            return Err(BenchFault::Outside);
+        };
+        self.set_at(point, value)
     }
 
     fn set_at(&mut self, point: Point, value: i64) -> Result<(), BenchFault>

@@ -1,10 +1,20 @@
-ghost use Rattle.std.specs.Prelude.{◌≡◌, IfSome, IfOk};
+ghost use Rattle.std.specs.Prelude.{◌≡◌, ◌<◌, IfSome};
 
 use crate::{Bench, BenchFault};
-use iso_base::{Level, Memory, SampleKind, Sizes, VoxelData};
+use iso_base::{Level, Memory, SampleKind, Sizes, Steps, VoxelData, Written};
+use iso_io::MemShelf;
 use std::alloc::Global;
+use std::marker::Brand;
+use std::process::Abort;
+use std::sync::ledger::{Blank, Ledger};
 use std::test::Fail;
 use voxel_list::VoxelList;
+
+const NO_FACES: &str =
+    "ply\nformat ascii 1.0\nelement vertex 0\nproperty float x\nproperty float y\nproperty float z\nelement face 0\nproperty list uchar int vertex_indices\nend_header\n";
+
+const ONE_FACE: &str =
+    "ply\nformat ascii 1.0\nelement vertex 3\nproperty float x\nproperty float y\nproperty float z\nelement face 1\nproperty list uchar int vertex_indices\nend_header\n0.500 0.000 0.000\n0.000 0.500 0.000\n0.000 0.000 0.500\n3 0 1 2\n";
 
 fn sizes() -> Option<Sizes>
     ensures { IfSome result (λ g. g ≡ record { nx = 2; ny = 2; nz = 2 }) }
@@ -61,4 +71,52 @@ fn refusals_have_their_reasons(rt: HostRuntime) -> Result<(), Fail> {
     assert_eq!(rt; bench.undo(), Ok(()));
     assert_eq!(rt; bench.undo(), Err(BenchFault::NothingToUndo));
     Ok(())
+}
+
+fn holds(shelf: &MemShelf, name: &str, text: &str) -> bool {
+    match shelf.file(name) {
+        Some(bytes) => bytes == text.as_bytes(),
+        None => false,
+    }
+}
+
+/// The mesh of the corner, a shelf that fails once, and the mesh where all is below the level.
+fn write_meshes<L: Ledger>(rt: &impl Abort, alloc: Global, blank: Blank) -> Result<(), Fail>
+    requires name { blank.name ≡ L.name }
+    requires parts { blank.parts ≡ L.parts }
+    requires some { 0 < blank.parts }
+{
+    let (book, share) = blank.open::<L>();
+    let mut steps = Steps::new(book, share);
+    let mut bench = bench(alloc).ok_or("no bench")?;
+    let failing = vec![in alloc; 4]?;
+    let mut shelf = MemShelf::new(alloc, 2, 256, failing).ok().ok_or("memory")?;
+    let written = Written {
+        vertices: 3,
+        faces: 1,
+        bytes: 216,
+    };
+    assert_eq!(rt; bench.write_ply(&mut shelf, "a", &mut steps), Ok(written));
+    assert!(rt; holds(&shelf, "a", ONE_FACE));
+    assert_eq!(rt;
+        bench.write_ply(&mut shelf, "b", &mut steps),
+        Err(BenchFault::ShelfFailed)
+    );
+    assert!(rt; holds(&shelf, "b", ""));
+    assert_eq!(rt; bench.level(11), Ok(()));
+    bench.work(9, &mut steps);
+    let nothing = Written {
+        vertices: 0,
+        faces: 0,
+        bytes: 154,
+    };
+    assert_eq!(rt; bench.write_ply(&mut shelf, "b", &mut steps), Ok(nothing));
+    assert!(rt; holds(&shelf, "b", NO_FACES));
+    assert!(rt; holds(&shelf, "a", ONE_FACE));
+    Ok(())
+}
+
+#[test]
+fn meshes_go_to_the_shelf(rt: HostRuntime) -> Result<(), Fail> {
+    write_meshes::<Brand>(&rt, rt.alloc(), Blank::new(1))
 }
