@@ -80,3 +80,70 @@ staged_end old mid new whole waiting (Err d) h p =
 -- nothing is staged at no cost
 pub nothing_staged : {T E : Type 0} (t : Tape) (waiting : List ℕ) (x : T) → Stages {E = E} t t waiting waiting (Ok x) []
 nothing_staged t waiting x = record { gained = ([], append-nil waiting, Appends-nil t.taken); beside = refl; cause = record { later = omega arith; failed = tt } }
+
+-- two texts, one after the other
+pub stages_both : {T U E : Type 0} (t0 t1 t2 : Tape) (x : U) (r : Result T E) (w0 w1 w2 a b : List ℕ) → Stages {E = E} t0 t1 w0 w1 (Ok x) a → Stages t1 t2 w1 w2 r b → Stages t0 t2 w0 w2 r (a ++ b)
+stages_both t0 t1 t2 x (Ok y) w0 w1 w2 a b s q =
+    let f = s.gained.0 in
+    let h = q.gained.0 in
+    record {
+      gained = (
+        f ++ h,
+        sym (append_assoc w0 a b) ∙ ap (λ (l : List ℕ). l ++ b) s.gained.1 ∙ append_assoc f w1 b ∙ ap (λ (l : List ℕ). f ++ l) q.gained.1 ∙ sym (append_assoc f h w2),
+        Appends-trans t0.taken t1.taken t2.taken f h s.gained.2 q.gained.2,
+      );
+      beside = q.beside ∙ s.beside;
+      cause = record { later = omega (arith, s.cause.later, q.cause.later); failed = tt };
+    }
+stages_both t0 t1 t2 x (Err e) w0 w1 w2 a b s q =
+    let f = s.gained.0 in
+    let h = q.gained.0 in
+    record {
+      gained = (
+        f ++ h,
+        q.gained.1,
+        sym (append_assoc w0 a b) ∙ ap (λ (l : List ℕ). l ++ b) s.gained.1 ∙ append_assoc f w1 b ∙ ap (λ (l : List ℕ). f ++ l) q.gained.2 ∙ sym (append_assoc f h q.gained.1),
+        Appends-trans t0.taken t1.taken t2.taken f h s.gained.2 q.gained.3,
+      );
+      beside = q.beside ∙ s.beside;
+      cause = record { later = omega (arith, s.cause.later, q.cause.later); failed = omega (arith, s.cause.later, q.cause.failed) };
+    }
+
+-- the first of two texts failed
+pub stages_first : {T U E E' : Type 0} (t0 t1 : Tape) (e : E) (e' : E') (w0 w1 w1' a b : List ℕ) → Stages {T = U} t0 t1 w0 w1 (Err e) a → Stages {T = T} t0 t1 w0 w1' (Err e') (a ++ b)
+stages_first t0 t1 e e' w0 w1 w1' a b s = record {
+  gained = (
+    s.gained.0,
+    s.gained.1 ++ b,
+    sym (append_assoc w0 a b) ∙ ap (λ (l : List ℕ). l ++ b) s.gained.2 ∙ append_assoc s.gained.0 s.gained.1 b,
+    s.gained.3,
+  );
+  beside = s.beside;
+  cause = record { later = s.cause.later; failed = s.cause.failed };
+}
+
+-- a text that was staged, and then all that waits was written
+pub stages_written : {T U E : Type 0} (t0 t1 t2 : Tape) (x : U) (r : Result T E) (w1 text : List ℕ) → Stages {E = E} t0 t1 [] w1 (Ok x) text → Puts t1 t2 r w1 → Puts t0 t2 r text
+stages_written t0 t1 t2 x r w1 text s p =
+    let h : HasStaged t0 t1 text w1 [] = record {
+      front = s.gained.0;
+      parts = s.gained.1 ∙ ap (λ (l : List ℕ). s.gained.0 ++ l) (sym (append-nil w1));
+      gained = s.gained.2;
+      beside = s.beside;
+      later = s.cause.later;
+    } in
+    staged_end t0 t1 t2 text w1 r h p
+
+-- a text that was not staged was not put
+pub stages_not_put : {T U E E' : Type 0} (t0 t1 : Tape) (e : E) (e' : E') (w1 text : List ℕ) → Stages {T = U} t0 t1 [] w1 (Err e) text → Puts {T = T} t0 t1 (Err e') text
+stages_not_put t0 t1 e e' w1 text s = record { gained = s.gained; beside = s.beside; cause = record { later = s.cause.later; failed = s.cause.failed } }
+
+-- the same with another value in the answer
+pub stages_with : {T U E : Type 0} (t0 t1 : Tape) (x : T) (y : U) (w0 w1 text : List ℕ) → Stages {E = E} t0 t1 w0 w1 (Ok x) text → Stages {E = E} t0 t1 w0 w1 (Ok y) text
+stages_with t0 t1 x y w0 w1 text s = record { gained = s.gained; beside = s.beside; cause = record { later = s.cause.later; failed = tt } }
+
+-- a text that was staged, and then not all that waits was written
+pub stages_unwritten : {T U V E E' : Type 0} (t0 t1 t2 : Tape) (x : U) (e : E) (e' : E') (w1 text : List ℕ) → Stages {E = E} t0 t1 [] w1 (Ok x) text → Puts {T = V} t1 t2 (Err e) w1 → Puts {T = T} t0 t2 (Err e') text
+stages_unwritten {V = V} t0 t1 t2 x e e' w1 text s p =
+    let h = stages_written {T = V} t0 t1 t2 x (Err e) w1 text s p in
+    record { gained = h.gained; beside = h.beside; cause = record { later = h.cause.later; failed = h.cause.failed } }

@@ -1,8 +1,10 @@
 //! Meshes and points written as texts to a sink, in blocks of 32 KiB and more.
 #![tactic(auto)]
 
+mod mesh;
 mod points;
 
+pub use mesh::put_mesh;
 pub use points::put_points;
 
 /// What waits to be written is no longer than a block and a line.

@@ -1,8 +1,9 @@
 -- Which commands lines are.
 use Rattle.std.specs.Prelude.{ℕ, Bool, false, ◌==◌, nat_lt, if◌then◌else◌, List, [], ◌∷◌, length, bytes_eq, codes, Option, Some, None, Result, Ok, Err, ℤ}
 use Rattle.std.specs.Option.{option_map}
-use Rattle.script.specs.Words.{words_of}
-use Rattle.script.specs.Numbers.{number_of, count_of}
+use Rattle.text_lines.specs.Words.{words_of}
+use Rattle.text_lines.specs.Numbers.{number_of}
+use Rattle.script.specs.Counts.{count_of}
 use Rattle.script.specs.Names.{is_name}
 use Rattle.script.specs.declared.command.Command.{Command}
 use Rattle.script.specs.declared.command.Command.TheVariants.{Set, Fill, Level, Undo, Work, Ply, Quit}

@@ -1,5 +1,4 @@
-pub mod Words
-pub mod Numbers
+pub mod Counts
 pub mod Names
 pub mod Commands
 pub mod Replies

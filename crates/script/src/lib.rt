@@ -2,14 +2,13 @@
 #![tactic(auto)]
 
 mod command;
-mod numbers;
+mod counts;
 mod parts;
 mod read;
 mod reply;
-mod words;
 
 pub use command::{Command, FileName, LineFault};
-pub use numbers::{count, number};
+pub use counts::count;
 pub use read::read_line;
 pub use reply::{Reply, put_reply};
 

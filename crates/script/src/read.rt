@@ -1,11 +1,11 @@
 //! Which command a line is.
 ghost use Rattle.std.specs.Prelude.{◌≡◌, ◌<◌, ◌∷◌, length, Some, None};
-ghost use Rattle.script.specs.Words.{words_of};
+ghost use Rattle.text_lines.specs.Words.{words_of};
 ghost use Rattle.script.specs.Commands.{set_of, fill_of, level_of, work_of, ply_of, command_of, ended, read_of};
 
 use crate::command::{Command, LineFault};
 use crate::parts::{count_at, name_at, number_at};
-use crate::words::next_word;
+use text_lines::next_word;
 
 /// The command, where no further word stands.
 fn end_at(text: &[u8], command: Command) -> Option<Command>
@@ -117,7 +117,7 @@ pub fn read_line(line: &[u8]) -> Result<Option<Command>, LineFault>
     let Some((word, text)) = next_word(line) else {
         return Ok(None);
     };
-    if word[0] == b'#' {
+    if let [b'#', ..] = word {
         return Ok(None);
     }
     match command_line(word, text) {

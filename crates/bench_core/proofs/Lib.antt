@@ -1,0 +1,4 @@
+pub mod States
+pub mod Insides
+pub mod Filling
+pub mod Meshes

@@ -1,0 +1,185 @@
+//! A mesh as a PLY text.
+
+ghost use Rattle.std.specs.Prelude.{◌≡◌, ◌*◌, ◌<◌, ◌≤◌, ◌^◌, ◌++◌, ℕ, [], length, get_or, pos, unsigned_abs, IfOk};
+ghost use Rattle.iso_defs.specs.Texts.{printed};
+ghost use Rattle.iso_io.specs.Seen.{Puts, Stages};
+ghost use Rattle.mesh_text.specs.Lines.{along, ply_head};
+ghost use Rattle.mesh_write.specs.Mesh.{vertex_line, face_line, vertex_lines, face_lines, ply_of, ply_written};
+
+use flat_mesh::Mesh;
+use iso_base::{Thousandth, Written};
+use iso_io::{Failed, Sink, stage, write_all_of};
+use mesh_text::{Line, ply_face_text, ply_head_text, ply_vertex_text};
+
+/// A pad's layer along an axis, in thousandths.
+const LAYER: i64 = 1000;
+
+/// A stored coordinate as it is printed: with a pad, without the pad's layer.
+#[inline(always)]
+fn printed_along(at: &[Thousandth; 3], axis: usize, padded: bool) -> Thousandth
+    requires axis { axis < 3 }
+    requires bound { unsigned_abs (along at.now axis) < 2 ^ 32 }
+    ensures value { (n : ℕ) → along at.now axis ≡ pos n → result.0 ≡ printed padded n }
+    ensures bound { unsigned_abs result.0 < 2 ^ 44 }
+{
+    let stored = at[axis].0;
+    Thousandth(if padded { stored - LAYER } else { stored })
+}
+
+#[inline(always)]
+fn printed_position(at: &[Thousandth; 3], padded: bool) -> [Thousandth; 3]
+    requires x { unsigned_abs (along at.now 0) < 2 ^ 32 }
+    requires y { unsigned_abs (along at.now 1) < 2 ^ 32 }
+    requires z { unsigned_abs (along at.now 2) < 2 ^ 32 }
+    ensures x { (n : ℕ) → along at.now 0 ≡ pos n → along result 0 ≡ printed padded n }
+    ensures y { (n : ℕ) → along at.now 1 ≡ pos n → along result 1 ≡ printed padded n }
+    ensures z { (n : ℕ) → along at.now 2 ≡ pos n → along result 2 ≡ printed padded n }
+    ensures x_bound { unsigned_abs (along result 0) < 2 ^ 44 }
+    ensures y_bound { unsigned_abs (along result 1) < 2 ^ 44 }
+    ensures z_bound { unsigned_abs (along result 2) < 2 ^ 44 }
+{
+    [
+        printed_along(at, 0, padded),
+        printed_along(at, 1, padded),
+        printed_along(at, 2, padded),
+    ]
+}
+
+/// The line of a vertex.
+#[tactic(auto, unfolding(crate::specs::Mesh::vertex_line))]
+#[inline(always)]
+fn vertex_text(mesh: &Mesh, padded: bool, i: u32) -> Line
+    requires { i < length mesh.now.vertex_list }
+    ensures { result ≡ vertex_line padded (get_or mesh.now.vertex_list i (0, (0, 0, 0))) }
+{
+    let (_, at) = mesh.vertex(i);
+    ply_vertex_text(&printed_position(&at, padded))
+}
+
+/// The line of a triangle.
+#[tactic(auto, unfolding(crate::specs::Mesh::face_line))]
+#[inline(always)]
+fn face_text(mesh: &Mesh, i: u32) -> Line
+    requires { i < length mesh.now.triangle_list }
+    ensures { result ≡ face_line (get_or mesh.now.triangle_list i (0, 0, 0)) }
+{
+    ply_face_text(&mesh.triangle(i))
+}
+
+/// Puts a text behind what waits, and counts its bytes.
+#[inline(always)]
+fn stage_text<K: Sink>(sink: &mut K, waiting: &mut Vec<u8>, text: &[u8]) -> Result<u64, Failed>
+    ensures staged { Stages (K.seen sink.old) (K.seen sink.new) waiting.old.items waiting.new.items result text.now }
+    ensures bytes { IfOk result (λ n. n ≡ length text.now) }
+{
+    match stage(sink, waiting, text) {
+        Ok(()) => Ok(text.len() as u64),
+        Err(Failed) => Err(Failed),
+    }
+}
+
+#[inline(always)]
+fn stage_line<K: Sink>(sink: &mut K, waiting: &mut Vec<u8>, line: &Line) -> Result<u64, Failed>
+    ensures staged { Stages (K.seen sink.old) (K.seen sink.new) waiting.old.items waiting.new.items result line.now }
+    ensures bytes { IfOk result (λ n. n ≡ length line.now) }
+    ensures few { IfOk result (λ n. n ≤ 64) }
+{
+    stage_text(sink, waiting, line.as_bytes())
+}
+
+fn stage_head<K: Sink>(
+    sink: &mut K,
+    waiting: &mut Vec<u8>,
+    vertices: u32,
+    faces: u32,
+) -> Result<u64, Failed>
+    ensures staged { Stages (K.seen sink.old) (K.seen sink.new) waiting.old.items waiting.new.items result (ply_head vertices faces) }
+    ensures bytes { IfOk result (λ n. n ≡ length (ply_head vertices faces)) }
+    ensures few { IfOk result (λ n. n ≤ 256) }
+{
+    stage_text(
+        sink,
+        waiting,
+        ply_head_text(vertices, faces).as_str().as_bytes(),
+    )
+}
+
+fn stage_vertices<K: Sink>(
+    sink: &mut K,
+    waiting: &mut Vec<u8>,
+    mesh: &Mesh,
+    padded: bool,
+) -> Result<u64, Failed>
+    ensures staged { Stages (K.seen sink.old) (K.seen sink.new) waiting.old.items waiting.new.items result (vertex_lines padded mesh.now.vertex_list) }
+    ensures bytes { IfOk result (λ n. n ≡ length (vertex_lines padded mesh.now.vertex_list)) }
+    ensures few { IfOk result (λ n. n ≤ 2 ^ 38) }
+{
+    let mut bytes = 0;
+    for i in 0..mesh.vertex_count() {
+        bytes += stage_line(sink, waiting, &vertex_text(mesh, padded, i))?;
+    }
+    Ok(bytes)
+}
+
+fn stage_faces<K: Sink>(sink: &mut K, waiting: &mut Vec<u8>, mesh: &Mesh) -> Result<u64, Failed>
+    ensures staged { Stages (K.seen sink.old) (K.seen sink.new) waiting.old.items waiting.new.items result (face_lines mesh.now.triangle_list) }
+    ensures bytes { IfOk result (λ n. n ≡ length (face_lines mesh.now.triangle_list)) }
+    ensures few { IfOk result (λ n. n ≤ 2 ^ 38) }
+{
+    let mut bytes = 0;
+    for i in 0..mesh.triangle_count() {
+        bytes += stage_line(sink, waiting, &face_text(mesh, i))?;
+    }
+    Ok(bytes)
+}
+
+fn stage_lines<K: Sink>(
+    sink: &mut K,
+    waiting: &mut Vec<u8>,
+    mesh: &Mesh,
+    padded: bool,
+) -> Result<u64, Failed>
+    ensures staged { Stages (K.seen sink.old) (K.seen sink.new) waiting.old.items waiting.new.items result (vertex_lines padded mesh.now.vertex_list ++ face_lines mesh.now.triangle_list) }
+    ensures bytes { IfOk result (λ n. n ≡ length (vertex_lines padded mesh.now.vertex_list ++ face_lines mesh.now.triangle_list)) }
+    ensures few { IfOk result (λ n. n ≤ 2 ^ 39) }
+{
+    let vertices = stage_vertices(sink, waiting, mesh, padded)?;
+    let faces = stage_faces(sink, waiting, mesh)?;
+    Ok(vertices + faces)
+}
+
+fn stage_mesh<K: Sink>(
+    sink: &mut K,
+    waiting: &mut Vec<u8>,
+    mesh: &Mesh,
+    padded: bool,
+) -> Result<u64, Failed>
+    ensures staged { Stages (K.seen sink.old) (K.seen sink.new) waiting.old.items waiting.new.items result (ply_of padded mesh.now) }
+    ensures bytes { IfOk result (λ n. n ≡ length (ply_of padded mesh.now)) }
+{
+    let head = stage_head(sink, waiting, mesh.vertex_count(), mesh.triangle_count())?;
+    let lines = stage_lines(sink, waiting, mesh, padded)?;
+    Ok(head + lines)
+}
+
+/// Appends the PLY text of a mesh, and says how many vertices, faces and bytes were written. With a pad, the pad's
+/// layer is taken off each coordinate. `waiting` is the empty buffer in which blocks are gathered; what it holds
+/// afterwards is open. `Failed` comes only where the sink's count rose; a front of the text was then taken.
+pub fn put_mesh<K: Sink>(
+    sink: &mut K,
+    waiting: &mut Vec<u8>,
+    mesh: &Mesh,
+    padded: bool,
+) -> Result<Written, Failed>
+    requires none { waiting.old.items ≡ [] }
+    ensures text { Puts (K.seen sink.old) (K.seen sink.new) result (ply_of padded mesh.now) }
+    ensures written { IfOk result (λ w. w ≡ ply_written padded mesh.now) }
+{
+    let bytes = stage_mesh(sink, waiting, mesh, padded)?;
+    write_all_of(sink, waiting)?;
+    Ok(Written {
+        vertices: mesh.vertex_count(),
+        faces: mesh.triangle_count(),
+        bytes,
+    })
+}
