@@ -198,15 +198,15 @@ fn add_rows(
 
 /// How many crossing edges a point has, by its flags.
 #[inline(always)]
-fn edges_at(flags: u8) -> usize
+fn edges_at(flags: u8) -> u32
     requires { flags < 8 }
     ensures { result ≤ 3 }
 {
-    usize::from(flags % 2 + flags / 2 % 2 + flags / 4)
+    u32::from(flags % 2 + flags / 2 % 2 + flags / 4)
 }
 
 /// How many crossing edges points of these flags have.
-fn edges_of(flags: &[u8]) -> usize
+fn edges_of(flags: &[u8]) -> u32
     requires flags { All (λ f. f < 8) flags.now }
     requires few { length flags.now ≤ 160000000 }
 {
@@ -232,7 +232,7 @@ pub fn edge_vertices(
     ensures places { IfOk result (λ v. v.places.items ≡ map (edge_place sizes.now (field samples.now level)) (crossing_edges sizes.now (field samples.now level))) }
 {
     let _ = sizes.count();
-    let count = edges_of(flags);
+    let count = edges_of(flags) as usize;
     let mut edges = EdgeVertices {
         names: Vec::with_capacity(alloc, count)?,
         places: Vec::with_capacity(alloc, count)?,
