@@ -140,17 +140,73 @@ fn add_points(
     Ok(())
 }
 
+/// The greatest of some flags, or 0 where there are none.
+fn greatest(flags: &[u8]) -> u8
+    ensures { All (λ f. f ≤ result) flags.now }
+{
+    let mut greatest = 0;
+    for flag in flags {
+        greatest = greatest.max(*flag);
+    }
+    greatest
+}
+
+/// Puts the vertices of the edges of a run of points behind the others. A run without crossing edges is left at once.
+fn add_run(
+    sizes: &Sizes,
+    samples: &[i64],
+    level: Level,
+    start: u32,
+    flags: &[u8],
+    edges: &mut EdgeVertices,
+) -> Result<(), AllocError>
+    requires points { start + length flags.now ≤ length samples.now }
+    requires count { length samples.now ≡ point_count sizes.now }
+    requires samples { All IsSample samples.now }
+    requires flags { flags.now ≡ flags_from sizes.now (field samples.now level) start (length flags.now) }
+    ensures names { IfOk result (λ _. edges.new.names.items ≡ edges.old.names.items ++ names_in sizes.now (field samples.now level) (3 * start) (3 * length flags.now)) }
+    ensures places { IfOk result (λ _. edges.new.places.items ≡ edges.old.places.items ++ places_in sizes.now (field samples.now level) (3 * start) (3 * length flags.now)) }
+{
+    if greatest(flags) == 0 {
+        return Ok(());
+    }
+    add_points(sizes, samples, level, start, flags, edges)
+}
+
+/// Puts the vertices of the edges of all points behind the others, row by row.
+fn add_rows(
+    sizes: &Sizes,
+    samples: &[i64],
+    level: Level,
+    flags: &[u8],
+    edges: &mut EdgeVertices,
+) -> Result<(), AllocError>
+    requires count { length samples.now ≡ point_count sizes.now }
+    requires samples { All IsSample samples.now }
+    requires flags { flags.now ≡ flags_from sizes.now (field samples.now level) 0 (point_count sizes.now) }
+    ensures names { IfOk result (λ _. edges.new.names.items ≡ edges.old.names.items ++ names_in sizes.now (field samples.now level) 0 (3 * point_count sizes.now)) }
+    ensures places { IfOk result (λ _. edges.new.places.items ≡ edges.old.places.items ++ places_in sizes.now (field samples.now level) 0 (3 * point_count sizes.now)) }
+{
+    let nx = sizes.nx();
+    for row in 0..sizes.ny() * sizes.nz() {
+        let start = nx * row;
+        let run = &flags[start as usize..start as usize + nx as usize];
+        add_run(sizes, samples, level, start, run, edges)?;
+    }
+    Ok(())
+}
+
 /// How many crossing edges a point has, by its flags.
 #[inline(always)]
-fn edges_at(flags: u8) -> usize
+fn edges_at(flags: u8) -> u32
     requires { flags < 8 }
     ensures { result ≤ 3 }
 {
-    usize::from(flags % 2 + flags / 2 % 2 + flags / 4)
+    u32::from(flags % 2 + flags / 2 % 2 + flags / 4)
 }
 
 /// How many crossing edges points of these flags have.
-fn edges_of(flags: &[u8]) -> usize
+fn edges_of(flags: &[u8]) -> u32
     requires flags { All (λ f. f < 8) flags.now }
     requires few { length flags.now ≤ 160000000 }
 {
@@ -176,12 +232,12 @@ pub fn edge_vertices(
     ensures places { IfOk result (λ v. v.places.items ≡ map (edge_place sizes.now (field samples.now level)) (crossing_edges sizes.now (field samples.now level))) }
 {
     let _ = sizes.count();
-    let count = edges_of(flags);
+    let count = edges_of(flags) as usize;
     let mut edges = EdgeVertices {
         names: Vec::with_capacity(alloc, count)?,
         places: Vec::with_capacity(alloc, count)?,
     };
-    add_points(sizes, samples, level, 0, flags, &mut edges)?;
+    add_rows(sizes, samples, level, flags, &mut edges)?;
     Ok(edges)
 }
 

@@ -1,27 +1,23 @@
 -- What a cell adds to what was found before it.
-use Rattle.std.proofs.Common.{◌≡◌, ℕ, zero, suc, ◌+◌, ◌-◌, ◌*◌, ◌<◌, ◌≤◌, Bool, true, false, cond, List, [], ◌∷◌, ◌++◌, map, take, length, get_or, All, refl, sym, ◌∙◌, ap, ap₂, subst, inl, inr, arith, ltb, ℤ, zero-add, append-nil, length-append}
+use Rattle.std.proofs.Common.{◌≡◌, ℕ, suc, ◌+◌, ◌-◌, ◌*◌, ◌<◌, ◌≤◌, true, false, cond, List, [], ◌∷◌, ◌++◌, map, take, length, get_or, All, refl, sym, ◌∙◌, ap, ap₂, inl, inr, arith, ltb, zero-add, append-nil, length-append}
 use Rattle.std.specs.List.{filter, flat_map, range_with_len, count_by, enumerate_from, sum_by}
-use Rattle.std.proofs.lemmas.Bool.{le-ltb}
 use Rattle.std.proofs.lemmas.List.{map-append, length-map}
 use Rattle.std.proofs.lemmas.List.Elements.{filter-append}
 use Rattle.std.proofs.lemmas.List.FromFn.{length-range_with_len}
 use Rattle.std.proofs.lemmas.List.Concat.{flat_map-append}
-use Rattle.iso_defs.specs.Lists.{below}
-use Rattle.iso_defs.specs.Grid.{Grid, cells, is_cell, name_bound, point_count}
-use Rattle.iso_defs.specs.Cell.{Triangle, case_loops, case_triangles, cell_edge, cell_joined, cell_signs, loop_triangles}
+use Rattle.iso_defs.specs.Grid.{cells, is_cell, point_count}
+use Rattle.iso_defs.specs.Cell.{Triangle, case_triangles, cell_edge, cell_joined, cell_signs, loop_triangles}
 use Rattle.iso_defs.specs.Place.{Position, centre_position}
-use Rattle.iso_defs.specs.Scratch.{cell_centres, cell_loops, cell_triangles, centre_name, crossing_edges, has_centre, number_of, on_corners, vertex_name}
+use Rattle.iso_defs.specs.Scratch.{cell_centres, cell_loops, centre_name, crossing_edges, has_centre, number_of, on_corners, vertex_name}
 use Rattle.iso_defs.proofs.Ranges.{range_append}
 use Rattle.verdict_laws.proofs.Lists.{In, In-filter}
 use Rattle.mesh_laws.proofs.Cells.{cell_in, range_at_least}
 use Rattle.mesh_laws.proofs.Names.{edge_in, name_of_centre, name_of_edge}
-use Rattle.mesh_laws.proofs.Wedge.{enumerated}
-use Rattle.crossing_edges.specs.Flags.{rank}
 use Rattle.flat_mesh.specs.declared.centres.LoopCentre.{LoopCentre}
 use Rattle.flat_mesh.specs.Lattice.{Leveled, heights}
 use Rattle.flat_mesh.specs.Numbers.{AreNumbers}
 use Rattle.flat_mesh.specs.Centres.{centre_of, loop_centre, loop_centres}
-use Rattle.flat_mesh.specs.Faces.{IsLoop, cell_faces, centres_of, corners_of, loops_at}
+use Rattle.flat_mesh.specs.Faces.{cell_faces, centres_of, corners_of, loops_at}
 use Rattle.flat_mesh.specs.Found.{IsFound, cells_below, centres_below, numbered, triangles_below}
 use Rattle.flat_mesh.proofs.NumberOf.{number_is_rank}
 use Rattle.flat_mesh.proofs.CentreNumbers.{centre_number}

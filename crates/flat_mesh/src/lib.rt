@@ -15,3 +15,6 @@ mod slices;
 
 pub use extract::extract_flat;
 pub use mesh::{Mesh, VertexName};
+
+#[cfg(test)]
+mod tests;

@@ -7,7 +7,7 @@ use Rattle.nrrd.specs.declared.fault.NrrdFault.TheVariants as faults
 use Rattle.isobench.specs.Notes.{status_of}
 use Rattle.isobench.specs.Outcome.{Call, Rejects, Serves, Gives, volume_limit}
 use Rattle.isobench.specs.declared.words.Request.{Request}
-use Rattle.isobench.specs.declared.words.Request.TheVariants.{Points}
+use Rattle.isobench.specs.declared.words.Request.TheVariants.{Points, Extract}
 use Rattle.isobench.specs.declared.answer.Answer.{Answer}
 use Rattle.isobench.specs.declared.answer.Answer.TheVariants as answers
 use Rattle.isobench.specs.declared.answer.Status.TheVariants as statuses
@@ -28,6 +28,14 @@ served (Points level) call answers.InputFault bytes text h told within gives rea
 served (Points level) call answers.InputTooLong bytes text h told within gives reads writes = let long : volume_limit < length bytes = at_told (λ all. volume_limit < length all) call.input.left bytes told h.0 in absurd (omega arith)
 served (Points level) call answers.OutputFault bytes text h told within gives reads writes = absurd (writes h.3)
 served (Points level) call answers.Memory bytes text h told within gives reads writes = inr refl
+served (Extract level) call answers.Done bytes text h told within gives reads writes = inl refl
+served (Extract level) call answers.BadWords bytes text h told within gives reads writes = absurd h
+served (Extract level) call (answers.BadVolume faults.NotPlain) bytes text h told within gives reads writes = absurd (at_told IsNotPlain call.input.left bytes told h.1 gives.0 gives.1 gives.2)
+served (Extract level) call (answers.BadVolume faults.Memory) bytes text h told within gives reads writes = absurd (at_told (λ _. ⊥) call.input.left bytes told h.1)
+served (Extract level) call answers.InputFault bytes text h told within gives reads writes = absurd (reads h.0)
+served (Extract level) call answers.InputTooLong bytes text h told within gives reads writes = let long : volume_limit < length bytes = at_told (λ all. volume_limit < length all) call.input.left bytes told h.0 in absurd (omega arith)
+served (Extract level) call answers.OutputFault bytes text h told within gives reads writes = absurd (writes h.3)
+served (Extract level) call answers.Memory bytes text h told within gives reads writes = inr refl
 
 same_some : (a b : Request) → Some a ≡ Some b → a ≡ b
 same_some a b e = cc

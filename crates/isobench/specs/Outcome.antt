@@ -7,7 +7,7 @@ use Rattle.iso_io.specs.Seen.{Feed, Tape, AppendsFront}
 use Rattle.nrrd.specs.Plain.{IsPlain, IsNotPlain}
 use Rattle.nrrd.specs.declared.fault.NrrdFault.{NrrdFault}
 use Rattle.nrrd.specs.declared.fault.NrrdFault.TheVariants as faults
-use Rattle.isobench.specs.Output.{points_of}
+use Rattle.isobench.specs.Output.{points_of, mesh_text_of}
 use Rattle.isobench.specs.Words.{request_of}
 use Rattle.isobench.specs.declared.words.Request.{Request}
 use Rattle.isobench.specs.declared.words.Request.TheVariants as requests
@@ -48,9 +48,14 @@ Converts limit Gives Refuses call answers.Memory = NothingWritten call
 abbrev pub GivesPoints : ℤ → List ℕ → List ℕ → Type 0
 GivesPoints level bytes text = (v : Voxels) × (surplus : ℕ) × IsPlain bytes v surplus × (text ≡ points_of v level)
 
+-- the bytes hold a volume, and this is the text of its mesh
+abbrev pub GivesMesh : ℤ → List ℕ → List ℕ → Type 0
+GivesMesh level bytes text = (v : Voxels) × (surplus : ℕ) × IsPlain bytes v surplus × (text ≡ mesh_text_of v level)
+
 -- which text a command gives for an input
 abbrev pub Gives : Request → List ℕ → List ℕ → Type 0
 Gives (requests.Points level) bytes text = GivesPoints level bytes text
+Gives (requests.Extract level) bytes text = GivesMesh level bytes text
 
 -- the bytes hold no volume, for this reason
 abbrev pub RefusesVolume : List ℕ → NrrdFault → Type 0
@@ -60,6 +65,7 @@ RefusesVolume bytes faults.Memory = ⊥
 -- each command by its own meaning
 abbrev pub Serves : Request → Call → Answer → Type 0
 Serves (requests.Points level) call answer = Converts volume_limit (GivesPoints level) RefusesVolume call answer
+Serves (requests.Extract level) call answer = Converts volume_limit (GivesMesh level) RefusesVolume call answer
 
 -- what is no command line is refused, and nothing is read
 pub record Rejects (call : Call) (answer : Answer) : Type 0 where

@@ -3,7 +3,7 @@ use Rattle.std.specs.Prelude.{◌^◌, ◌==◌, nat_lt, if◌then◌else◌, �
 use Rattle.std.specs.Option.{option_map, option_and_then}
 use Rattle.text_lines.specs.Numbers.{number_of}
 use Rattle.isobench.specs.declared.words.Request.{Request}
-use Rattle.isobench.specs.declared.words.Request.TheVariants.{Points}
+use Rattle.isobench.specs.declared.words.Request.TheVariants.{Points, Extract}
 
 -- what follows a prefix
 abbrev pub after_prefix : List ℕ → List ℕ → Option (List ℕ)
@@ -23,5 +23,7 @@ level_of word = option_and_then as_level (option_and_then number_of (after_prefi
 unfoldable pub request_of : List (List ℕ) → Option Request
 request_of [] = None
 request_of (command ∷ []) = None
-request_of (command ∷ (option ∷ [])) = if bytes_eq command (codes "points") then option_map Points (level_of option) else None
+request_of (command ∷ (option ∷ [])) =
+    if bytes_eq command (codes "points") then option_map Points (level_of option) else
+    if bytes_eq command (codes "extract") then option_map Extract (level_of option) else None
 request_of (command ∷ (option ∷ (more ∷ words))) = None

@@ -2,6 +2,7 @@
 #![tactic(auto)]
 
 mod answer;
+mod meshes;
 mod points;
 mod run;
 #[cfg(test)]

@@ -5,11 +5,12 @@ ghost use Rattle.nrrd.specs.Plain.{IsNotPlain};
 ghost use Rattle.iso_io.specs.Causes.{Rose};
 ghost use Rattle.isobench.specs.Words.{request_of};
 ghost use Rattle.isobench.specs.Notes.{status_of, note_of};
-ghost use Rattle.isobench.specs.Outcome.{Call, Converts, GivesPoints, Gives, HoldsVolume, HoldsNone, RefusesVolume, volume_limit, Ends, Serves, Tries};
+ghost use Rattle.isobench.specs.Outcome.{Call, Converts, GivesMesh, GivesPoints, Gives, HoldsVolume, HoldsNone, RefusesVolume, volume_limit, Ends, Serves, Tries};
 ghost use Rattle.isobench.specs.declared.answer.Answer.{Answer};
 ghost use Rattle.isobench.specs.declared.words.Request.{Request};
 
 use crate::answer::{Answer, Status};
+use crate::meshes::{extracted, put_extracted};
 use crate::points::{edges_of, put_volume_points};
 use crate::words::{Request, read_words};
 use iso_base::{Level, VoxelData};
@@ -63,6 +64,31 @@ fn points<S: Source, K: Sink>(alloc: Global, level: Level, input: &mut S, output
     }
 }
 
+/// Writes the mesh of a volume.
+fn extract<S: Source, K: Sink>(alloc: Global, level: Level, input: &mut S, output: &mut K) -> Answer
+    ensures { Converts volume_limit (GivesMesh level) RefusesVolume (record {
+      input = S.seen input.old;
+      input_after = S.seen input.new;
+      output = K.seen output.old;
+      output_after = K.seen output.new;
+    }) result }
+{
+    let volume = match volume_of(alloc, input) {
+        Ok(volume) => volume,
+        Err(answer) => return answer,
+    };
+    let Ok(mesh) = extracted(alloc, volume, level) else {
+        return Answer::Memory;
+    };
+    let Ok(mut waiting) = Vec::with_capacity(alloc, STAGE) else {
+        return Answer::Memory;
+    };
+    match put_extracted(output, &mut waiting, &mesh) {
+        Ok(()) => Answer::Done,
+        Err(Failed) => Answer::OutputFault,
+    }
+}
+
 fn carry_out<S: Source, K: Sink>(
     alloc: Global,
     request: Request,
@@ -78,6 +104,7 @@ fn carry_out<S: Source, K: Sink>(
 {
     match request {
         Request::Points { level } => points(alloc, level, input, output),
+        Request::Extract { level } => extract(alloc, level, input, output),
     }
 }
 

@@ -9,7 +9,10 @@ use text_lines::number;
 /// What the program is asked to do.
 #[derive(Clone, Copy, Debug, PartialEq, Eq)]
 pub enum Request {
+    /// The points at which the surface crosses lattice edges.
     Points { level: Level },
+    /// The mesh.
+    Extract { level: Level },
 }
 
 /// What follows a prefix.
@@ -36,6 +39,10 @@ pub fn read_words(words: &[String]) -> Option<Request>
         [command, option] if command.as_bytes() == b"points".as_slice() => {
             let level = level(option.as_bytes())?;
             Some(Request::Points { level })
+        }
+        [command, option] if command.as_bytes() == b"extract".as_slice() => {
+            let level = level(option.as_bytes())?;
+            Some(Request::Extract { level })
         }
         _ => None,
     }

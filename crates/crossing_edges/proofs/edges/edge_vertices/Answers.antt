@@ -1,7 +1,6 @@
-use Rattle.std.proofs.Common.{rules, All, ◌≡◌, ◌<◌, ◌*◌, ◌∙◌, subst, ap, sym, arith, length}
+use Rattle.std.proofs.Common.{rules, All, ◌≡◌, ◌<◌, ◌∙◌, subst, ap, sym, arith, length}
 use Rattle.iso_defs.specs.Grid.{point_count}
 use Rattle.iso_base.specs.Shifted.{field}
-use Rattle.crossing_edges.specs.Flags.{flags_from, names_in, places_in}
 use Rattle.crossing_edges.proofs.Counting.{all_flags_low, length-flags_from, names_all, places_all, put_first}
 use Rattle.crossing_edges.proofs.edges.edge_vertices.Goals as goal
 
@@ -16,28 +15,14 @@ edges_of-count-requires-clause-few c =
     let n : length c.args.flags.now ≡ point_count g = ap length c.requires.flags ∙ length-flags_from g (field c.args.samples.now c.args.level) 0 (point_count g) in
     omega (arith, c.count.ensures.grid.count)
 
-pub add_points-requires-clause-points : goal.add_points-requires-clause-points
-add_points-requires-clause-points c =
-    let n : length c.args.flags.now ≡ point_count c.args.sizes.now = ap length c.requires.flags ∙ length-flags_from c.args.sizes.now (field c.args.samples.now c.args.level) 0 (point_count c.args.sizes.now) in
-    omega (arith, c.requires.count)
-
-pub add_points-requires-clause-flags : goal.add_points-requires-clause-flags
-add_points-requires-clause-flags c =
-    let g = c.args.sizes.now in
-    let s = field c.args.samples.now c.args.level in
-    let n : length c.args.flags.now ≡ point_count g = ap length c.requires.flags ∙ length-flags_from g s 0 (point_count g) in
-    c.requires.flags ∙ ap (flags_from g s 0) (sym n)
-
 pub returns-clause-names : goal.returns-clause-names
 returns-clause-names c =
     let g = c.args.sizes.now in
     let s = field c.args.samples.now c.args.level in
-    let n : length c.args.flags.now ≡ point_count g = ap length c.requires.flags ∙ length-flags_from g s 0 (point_count g) in
-    put_first c.in_ok-with_capacity.field-0.items _ _ (search rules) c.in_ok-add_points.ensures.names (ap (λ k. names_in g s 0 (3 * k)) n ∙ names_all g s)
+    put_first c.in_ok-with_capacity.field-0.items _ _ (search rules) c.in_ok-add_rows.ensures.names (names_all g s)
 
 pub returns-clause-places : goal.returns-clause-places
 returns-clause-places c =
     let g = c.args.sizes.now in
     let s = field c.args.samples.now c.args.level in
-    let n : length c.args.flags.now ≡ point_count g = ap length c.requires.flags ∙ length-flags_from g s 0 (point_count g) in
-    put_first c.in_ok-with_capacity-2.field-0.items _ _ (search rules) c.in_ok-add_points.ensures.places (ap (λ k. places_in g s 0 (3 * k)) n ∙ places_all g s)
+    put_first c.in_ok-with_capacity-2.field-0.items _ _ (search rules) c.in_ok-add_rows.ensures.places (places_all g s)
