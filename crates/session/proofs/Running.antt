@@ -1,0 +1,213 @@
+-- Lines that are run one after another.
+use Rattle.std.proofs.Common.{◌≡◌, ℕ, ◌+◌, ◌≤◌, Bool, true, false, cond, List, [], ◌∷◌, ◌++◌, Ok, refl, sym, ap, subst, ◌∙◌, append_assoc, arith}
+use Rattle.std.specs.Prelude.{Option, None, not, ◌&&◌}
+use Rattle.std.proofs.lemmas.List.{append-nil}
+use Rattle.std.proofs.lemmas.List.Concat.{flat_map-append}
+use Rattle.iso_io.proofs.Known.{Appends-nil, Appends-trans}
+use Rattle.iso_io.specs.Files.{Files}
+use Rattle.bench_core.specs.Machine.{State}
+use Rattle.script.specs.declared.command.LineFault.{LineFault}
+use Rattle.script.specs.declared.command.LineFault.TheVariants.{Syntax, LineTooLong}
+use Rattle.iso_base.specs.declared.fault.BenchFault.{BenchFault}
+use Rattle.iso_base.specs.declared.fault.BenchFault.TheVariants as faults
+use Rattle.iso_base.specs.declared.fault.Written.{Written}
+use Rattle.iso_defs.specs.Texts.{line}
+use Rattle.script.specs.Replies.{fault_text, line_fault_text, written_text}
+use Rattle.script.specs.Commands.{read_of}
+use Rattle.session.specs.Lines.{Saying, is_quit, has_no_quit}
+use Rattle.session.specs.Following.{LineTurn, Followed, World, Runs, Breaks, QuitsLast, joined, shelf_errors, is_shelf_error, CountsBy}
+use Rattle.session.specs.Sessions.{Ran, Told}
+use Rattle.session.specs.declared.session.After.{After}
+use Rattle.session.specs.declared.session.After.TheVariants.{On, Quit, Fault}
+
+followed_from : (s s0 : State) (f f0 : Option Files) (ls rs : List (List ℕ)) (s' : State) (f' : Option Files) → s ≡ s0 → f ≡ f0 → Followed s f ls rs s' f' → Followed s0 f0 ls rs s' f'
+followed_from s s0 f f0 ls rs s' f' e d h = subst (λ (x : State). Followed x f0 ls rs s' f') e (subst (λ (x : Option Files). Followed s x ls rs s' f') d h)
+
+pub followed_both : (s : State) (f : Option Files) (ls rs : List (List ℕ)) (m : State) (g : Option Files) (ls' rs' : List (List ℕ)) (s' : State) (f' : Option Files)
+    → Followed s f ls rs m g → Followed m g ls' rs' s' f' → Followed s f (ls ++ ls') (rs ++ rs') s' f'
+followed_both s f [] rs m g ls' rs' s' f' h k = followed_from m s g f ls' (rs ++ rs') s' f' h.1 h.2 (subst (λ (r : List (List ℕ)). Followed m g ls' (r ++ rs') s' f') (sym h.0) k)
+followed_both s f (l ∷ ls) rs m g ls' rs' s' f' h k =
+    (h.0, h.1 ++ rs', h.2, h.3, ap (λ (r : List (List ℕ)). r ++ rs') h.4 ∙ append_assoc h.0 h.1 rs', h.5, followed_both h.2 h.3 ls h.1 m g ls' rs' s' f' h.6 k)
+
+joined-append : (xs ys : List (List ℕ)) → joined (xs ++ ys) ≡ joined xs ++ joined ys
+joined-append xs ys = flat_map-append (λ (r : List ℕ). r) xs ys
+
+shelf_errors-append : (xs ys : List (List ℕ)) → shelf_errors (xs ++ ys) ≡ shelf_errors xs + shelf_errors ys
+shelf_errors-append [] ys = omega arith
+shelf_errors-append (x ∷ xs) ys = omega (arith, shelf_errors-append xs ys)
+
+counts_both : (a b c : ℕ) (xs ys : List (List ℕ)) → CountsBy a b xs → b ≤ c → CountsBy b c ys → CountsBy a c (xs ++ ys)
+counts_both a b c xs ys p l q = λ lt.
+    let p' : a + shelf_errors xs ≤ b = p (omega arith) in
+    let q' : b + shelf_errors ys ≤ c = q lt in
+    omega (arith, shelf_errors-append xs ys)
+
+pub runs_none : (w : World) → Runs w w []
+runs_none w = record { replies = []; followed = (refl, refl, refl); written = Appends-nil w.tape.taken; beside = refl; later = omega arith; shelf_later = omega arith; counted = λ _. omega arith }
+
+pub runs_both : (w v x : World) (ls ls' : List (List ℕ)) → Runs w v ls → Runs v x ls' → Runs w x (ls ++ ls')
+runs_both w v x ls ls' a b = record {
+  replies = a.replies ++ b.replies;
+  followed = followed_both w.state w.store.files ls a.replies v.state v.store.files ls' b.replies x.state x.store.files a.followed b.followed;
+  written = rw (joined-append a.replies b.replies) (Appends-trans w.tape.taken v.tape.taken x.tape.taken (joined a.replies) (joined b.replies) a.written b.written);
+  beside = b.beside ∙ a.beside;
+  later = omega (arith, a.later, b.later);
+  shelf_later = omega (arith, a.shelf_later, b.shelf_later);
+  counted = counts_both w.store.faults v.store.faults x.store.faults a.replies b.replies a.counted b.shelf_later b.counted;
+}
+
+no_quit_step : (p q : Bool) (r : Bool) → (p && q) ≡ true → (q ≡ true → r ≡ true) → (p && r) ≡ true
+no_quit_step true q r e h = h e
+no_quit_step false q r e h = absurd cc
+
+pub no_quit_both : (a b : List (List ℕ)) → has_no_quit a ≡ true → has_no_quit b ≡ true → has_no_quit (a ++ b) ≡ true
+no_quit_both [] b p q = q
+no_quit_both (l ∷ a) b p q = no_quit_step (not (is_quit (read_of l))) (has_no_quit a) (has_no_quit (a ++ b)) p (λ e. no_quit_both a b e q)
+
+pub runs_breaks : (w v x : World) (ls ls' : List (List ℕ)) → Runs w v ls → has_no_quit ls ≡ true → Breaks v x ls' → Breaks w x (ls ++ ls')
+runs_breaks w v x ls ls' a q b = record {
+  before = ls ++ b.before;
+  line = b.line;
+  parts = ap (λ (m : List (List ℕ)). ls ++ m) b.parts ∙ sym (append_assoc ls b.before (b.line ∷ []));
+  no_quit = no_quit_both ls b.before q b.no_quit;
+  replies = a.replies ++ b.replies;
+  reply = b.reply;
+  followed = subst (λ (r : List (List ℕ)). Followed w.state w.store.files (ls ++ ls') r x.state x.store.files) (sym (append_assoc a.replies b.replies (b.reply ∷ [])))
+      (followed_both w.state w.store.files ls a.replies v.state v.store.files ls' (b.replies ++ b.reply ∷ []) x.state x.store.files a.followed b.followed);
+  front = b.front;
+  back = b.back;
+  cut = b.cut;
+  written = rw (joined-append a.replies b.replies, append_assoc (joined a.replies) (joined b.replies) b.front) (Appends-trans w.tape.taken v.tape.taken x.tape.taken (joined a.replies) (joined b.replies ++ b.front) a.written b.written);
+  beside = b.beside ∙ a.beside;
+  cause = omega (arith, a.later, b.cause);
+  shelf_later = omega (arith, a.shelf_later, b.shelf_later);
+  counted = subst (λ (r : List (List ℕ)). CountsBy w.store.faults x.store.faults r) (sym (append_assoc a.replies b.replies (b.reply ∷ []))) (counts_both w.store.faults v.store.faults x.store.faults a.replies (b.replies ++ b.reply ∷ []) a.counted b.shelf_later b.counted);
+}
+
+quits_after : (ls run : List (List ℕ)) → has_no_quit ls ≡ true → QuitsLast run → QuitsLast (ls ++ run)
+quits_after ls run p q = record {
+  before = ls ++ q.before;
+  line = q.line;
+  parts = ap (λ (m : List (List ℕ)). ls ++ m) q.parts ∙ sym (append_assoc ls q.before (q.line ∷ []));
+  no_quit = no_quit_both ls q.before p q.no_quit;
+  quit = q.quit;
+}
+
+-- more lines, where the session went on
+pub ran_both : (w v x : World) (ls ls' : List (List ℕ)) (a : After) → Ran w v ls On → Ran v x ls' a → Ran w x (ls ++ ls') a
+ran_both w v x ls ls' On p q = (runs_both w v x ls ls' p.0 q.0, no_quit_both ls ls' p.1 q.1)
+ran_both w v x ls ls' Quit p q = (ls ++ q.0, q.1, ap (λ (m : List (List ℕ)). ls ++ m) q.2 ∙ sym (append_assoc ls q.0 q.1), quits_after ls q.0 p.1 q.3, runs_both w v x ls q.0 p.0 q.4)
+ran_both w v x ls ls' Fault p q = (ls ++ q.0, q.1, ap (λ (m : List (List ℕ)). ls ++ m) q.2 ∙ sym (append_assoc ls q.0 q.1), runs_breaks w v x ls q.0 p.0 p.1 q.3)
+
+-- more lines make no difference where it ended
+abbrev pub IsStop : After → Type 0
+IsStop On = ⊥
+IsStop Quit = Unit {0}
+IsStop Fault = Unit {0}
+
+pub ran_stop : (w v : World) (ls ls' : List (List ℕ)) (a : After) → IsStop a → Ran w v ls a → Ran w v (ls ++ ls') a
+ran_stop w v ls ls' On s p = absurd s
+ran_stop w v ls ls' Quit s p = (p.0, p.1 ++ ls', ap (λ (m : List (List ℕ)). m ++ ls') p.2 ∙ append_assoc p.0 p.1 ls', p.3, p.4)
+ran_stop w v ls ls' Fault s p = (p.0, p.1 ++ ls', ap (λ (m : List (List ℕ)). m ++ ls') p.2 ∙ append_assoc p.0 p.1 ls', p.3)
+
+-- ---- one line
+
+one_followed : (s : State) (f : Option Files) (line : List ℕ) (replies : List (List ℕ)) (says : Saying) (s' : State) (f' : Option Files) → says ≡ read_of line → LineTurn s f says replies s' f' → Followed s f (line ∷ []) replies s' f'
+one_followed s f line replies says s' f' e t = (replies, [], s', f', sym (append-nil replies), subst (λ (m : Saying). LineTurn s f m replies s' f') e t, (refl, refl, refl))
+
+no_quit_one : (line : List ℕ) (says : Saying) → says ≡ read_of line → is_quit says ≡ false → has_no_quit (line ∷ []) ≡ true
+no_quit_one line says e q = let t : is_quit (read_of line) ≡ false = ap is_quit (sym e) ∙ q in rw t refl
+
+pub ran_told : (w v : World) (line : List ℕ) (says : Saying) (text : List ℕ) (quits : Bool) (a : After) → says ≡ read_of line → is_quit says ≡ quits
+    → LineTurn w.state w.store.files says (text ∷ []) v.state v.store.files → w.store.faults ≤ v.store.faults → CountsBy w.store.faults v.store.faults (text ∷ []) → Told w.tape v.tape text quits a → Ran w v (line ∷ []) a
+ran_told w v line says text quits On e q t l n d = (
+  record {
+    replies = text ∷ [];
+    followed = one_followed w.state w.store.files line (text ∷ []) says v.state v.store.files e t;
+    written = rw (append-nil text) d.1.gained;
+    beside = d.1.beside;
+    later = d.1.later;
+    shelf_later = l;
+    counted = n;
+  },
+  no_quit_one line says e (q ∙ d.0),
+)
+ran_told w v line says text quits Quit e q t l n d = (
+  line ∷ [],
+  [],
+  refl,
+  record { before = []; line = line; parts = refl; no_quit = refl; quit = ap is_quit (sym e) ∙ q ∙ d.0 },
+  record {
+    replies = text ∷ [];
+    followed = one_followed w.state w.store.files line (text ∷ []) says v.state v.store.files e t;
+    written = rw (append-nil text) d.1.gained;
+    beside = d.1.beside;
+    later = d.1.later;
+    shelf_later = l;
+    counted = n;
+  },
+)
+ran_told w v line says text quits Fault e q t l n d = (
+  line ∷ [],
+  [],
+  refl,
+  record {
+    before = [];
+    line = line;
+    parts = refl;
+    no_quit = refl;
+    replies = [];
+    reply = text;
+    followed = one_followed w.state w.store.files line (text ∷ []) says v.state v.store.files e t;
+    front = d.0;
+    back = d.1;
+    cut = d.2;
+    written = d.3;
+    beside = d.4;
+    cause = d.5;
+    shelf_later = l;
+    counted = n;
+  },
+)
+
+pub ran_blank : (w : World) (line : List ℕ) → Ok None ≡ read_of line → Ran w w (line ∷ []) On
+ran_blank w line e = (
+  record {
+    replies = [];
+    followed = one_followed w.state w.store.files line [] (Ok None) w.state w.store.files e (refl, refl, refl);
+    written = Appends-nil w.tape.taken;
+    beside = refl;
+    later = omega arith;
+    shelf_later = omega arith;
+    counted = λ _. omega arith;
+  },
+  no_quit_one line (Ok None) e refl,
+)
+
+pub line_no_error : (fault : LineFault) → shelf_errors (line (line_fault_text fault) ∷ []) ≡ 0
+unfolding line_fault_text
+line_no_error Syntax = refl
+line_no_error (LineTooLong n) = refl
+
+pub fault_no_error : (fault : BenchFault) → (fault ≡ faults.ShelfFailed → ⊥) → shelf_errors (line (fault_text fault) ∷ []) ≡ 0
+unfolding fault_text
+fault_no_error faults.Memory ne = refl
+fault_no_error faults.Outside ne = refl
+fault_no_error (faults.ValueOutside least greatest) ne = refl
+fault_no_error faults.LevelOutside ne = refl
+fault_no_error (faults.LevelNotAbovePad level pad) ne = refl
+fault_no_error faults.NothingToUndo ne = refl
+fault_no_error (faults.FillTooLarge n) ne = refl
+fault_no_error faults.ShelfFailed ne = absurd (ne refl)
+fault_no_error (faults.NoSuchPlane k) ne = refl
+
+one_or_none : (b : Bool) → cond b 1 0 + 0 ≤ 1
+one_or_none true = omega arith
+one_or_none false = omega arith
+
+pub one_error : (text : List ℕ) → shelf_errors (text ∷ []) ≤ 1
+one_error text = one_or_none (is_shelf_error text)
+
+pub written_no_error : (w : Written) → shelf_errors (line (written_text w) ∷ []) ≡ 0
+unfolding written_text
+written_no_error w = refl

@@ -1,0 +1,100 @@
+-- The commands of a script on the machine's state.
+use Rattle.std.specs.Prelude.{◌≡◌, ◌⊎◌, ℕ, Bool, true, false, List, get_or, codes, Option, Some, None, Result, Ok, Err, MatchResult, ℤ, pos}
+use Rattle.iso_base.specs.declared.fault.BenchFault.{BenchFault}
+use Rattle.iso_base.specs.declared.fault.BenchFault.TheVariants as faults
+use Rattle.iso_io.specs.Files.{Files}
+use Rattle.iso_io.specs.Shelves.{with_file, FilesCut}
+use Rattle.bench_core.specs.Machine.{State, set_step, fill_step, level_step, undo_step}
+use Rattle.bench_core.specs.Texts.{ply_text, ply_written}
+use Rattle.script.specs.declared.command.Command.{Command}
+use Rattle.script.specs.declared.command.Command.TheVariants.{Set, Fill, Level, Undo, Work, Ply, Quit}
+use Rattle.iso_base.specs.declared.fault.Written.{Written}
+use Rattle.script.specs.declared.reply.Reply.{Reply}
+use Rattle.script.specs.declared.reply.Reply.TheVariants.{Done, Meshed, Refused}
+use Rattle.iso_defs.specs.Texts.{line}
+use Rattle.script.specs.Replies.{fault_text, written_text}
+
+-- three numbers of a list, from this place on
+abbrev pub at_place : List ℤ → ℕ → ℕ → ℕ → ℤ × ℤ × ℤ
+at_place numbers i j k = (get_or numbers i (pos 0), get_or numbers j (pos 0), get_or numbers k (pos 0))
+
+-- the new state, or the first refusal
+abbrev pub step_of : State → Command → Result State BenchFault
+step_of s (Set at value) = set_step s (at_place at 0 1 2) value
+step_of s (Fill corners value) = fill_step s (at_place corners 0 1 2) (at_place corners 3 4 5) value
+step_of s (Level value) = level_step s value
+step_of s Undo = undo_step s
+step_of s (Work n) = Ok s
+step_of s (Ply name) = Ok s
+step_of s Quit = Ok s
+
+-- the file that a command writes, and its text
+abbrev pub writes_of : State → Command → Option (List ℕ × List ℕ)
+writes_of s (Set at value) = None
+writes_of s (Fill corners value) = None
+writes_of s (Level value) = None
+writes_of s Undo = None
+writes_of s (Work n) = None
+writes_of s (Ply name) = Some (name, ply_text s)
+writes_of s Quit = None
+
+-- the reply to a command that is not refused
+abbrev pub says_of : State → Command → List ℕ
+says_of s (Set at value) = line (codes "ok")
+says_of s (Fill corners value) = line (codes "ok")
+says_of s (Level value) = line (codes "ok")
+says_of s Undo = line (codes "ok")
+says_of s (Work n) = line (codes "ok")
+says_of s (Ply name) = line (written_text (ply_written s))
+says_of s Quit = line (codes "ok")
+
+-- the commands that may want memory
+abbrev pub may_want_memory : Command → Bool
+may_want_memory (Set at value) = true
+may_want_memory (Fill corners value) = true
+may_want_memory (Level value) = true
+may_want_memory Undo = true
+may_want_memory (Work n) = false
+may_want_memory (Ply name) = true
+may_want_memory Quit = false
+
+abbrev pub after_writing : Option (List ℕ × List ℕ) → Option Files → Option Files
+after_writing None files = files
+after_writing (Some file) files = with_file file.0 file.1 files
+
+-- the machine's step
+abbrev pub Answers : State → Option Files → Command → List ℕ → State → Option Files → Type 0
+Answers s files command reply s' files' = MatchResult (step_of s command)
+    (λ next. (s' ≡ next) × (reply ≡ says_of s command) × (files' ≡ after_writing (writes_of s command) files))
+    (λ fault. (s' ≡ s) × (reply ≡ line (fault_text fault)) × (files' ≡ files))
+
+-- the step is not refused, but memory is wanted
+pub record WantsMemory (s : State) (files : Option Files) (command : Command) (reply : List ℕ) (s' : State) (files' : Option Files) : Type 0 where
+  pub may : may_want_memory command ≡ true
+  pub next : State
+  pub step : step_of s command ≡ Ok next
+  pub reply_is : reply ≡ line (fault_text faults.Memory)
+  pub same_state : s' ≡ s
+  pub same_files : files' ≡ files
+
+-- the shelf fails while a file is written, which is then as before or a front of its text
+pub record FailsToWrite (s : State) (files : Option Files) (command : Command) (reply : List ℕ) (s' : State) (files' : Option Files) : Type 0 where
+  pub name : List ℕ
+  pub text : List ℕ
+  pub writes : writes_of s command ≡ Some (name, text)
+  pub reply_is : reply ≡ line (fault_text faults.ShelfFailed)
+  pub same_state : s' ≡ s
+  pub cut : FilesCut name text files files'
+
+-- one command and its reply
+abbrev pub Turn : State → Option Files → Command → List ℕ → State → Option Files → Type 0
+Turn s files command reply s' files' = Answers s files command reply s' files' ⊎ WantsMemory s files command reply s' files' ⊎ FailsToWrite s files command reply s' files'
+
+-- what a change is answered, and what a written file is
+abbrev pub reply_to_change : Result (Unit {0}) BenchFault → Reply
+reply_to_change (Ok done) = Done
+reply_to_change (Err fault) = Refused fault
+
+abbrev pub reply_to_writing : Result Written BenchFault → Reply
+reply_to_writing (Ok written) = Meshed written
+reply_to_writing (Err fault) = Refused fault
