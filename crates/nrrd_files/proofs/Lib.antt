@@ -1,0 +1,7 @@
+pub mod HeaderLaws
+pub mod Folding
+pub mod SampleLaws
+pub mod Texts
+pub mod Again
+pub mod SamplesAgain
+pub mod RoundTrip

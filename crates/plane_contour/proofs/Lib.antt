@@ -1,0 +1,4 @@
+pub mod Planes
+pub mod Walks
+pub mod Scanned
+pub mod Texts

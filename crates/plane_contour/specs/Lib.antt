@@ -1,0 +1,4 @@
+pub mod Points
+pub mod Planes
+pub mod Drawn
+pub mod Texts

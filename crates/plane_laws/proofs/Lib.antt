@@ -1,0 +1,10 @@
+pub mod Walks
+pub mod Homes
+pub mod Scan
+pub mod Squares
+pub mod Once
+pub mod Places
+pub mod Steps
+pub mod Slots
+pub mod SameField
+pub mod Worked

@@ -1,0 +1,2 @@
+//! Laws of the contour lines of a plane.
+#![tactic(auto)]
