@@ -150,9 +150,9 @@ module _ (g : Grid) (ps : List (ℕ × ℕ)) (one : IsSingle ps) (inside : (a b 
                   elim t.ended [
                     | inr back ↦ subst (λ z. In z ps) (sym q) back
                     | inl out ↦ absurd (elim h.entered [
-                        | inl n ↦ both_ways (ends ps d) n e
-                        | inr w ↦ stops d w out
-                      ])
+                      | inl n ↦ both_ways (ends ps d) n e
+                      | inr w ↦ stops d w out
+                    ])
                   ])
             ])
       ]
@@ -286,28 +286,28 @@ module _ (g : Grid) (ps : List (ℕ × ℕ)) (one : IsSingle ps) (inside : (a b 
       let upper : count_by (is_pair a b) (flat_map at_least (below (name_bound g))) ≤ 1
       = count_once (is_pair a b) at_least (below (name_bound g)) (Distinct-range 0 (name_bound g)) (λ e i. least_once e a b)
       (λ e f i j h l.
-          (let u = line_of e a b h in
-          let v = line_of f a b l in
-          let same : u.0 ≡ v.0 = same_head ps one u.0 v.0 a (ends ps u.0, line_from ps u.0) (ends ps v.0, line_from ps v.0) u.1 v.1 u.4 v.4 in
-          sym u.2 ∙ (ap (λ d. least_of (line_from ps d)) same ∙ v.2))) in
+      (let u = line_of e a b h in
+      let v = line_of f a b l in
+      let same : u.0 ≡ v.0 = same_head ps one u.0 v.0 a (ends ps u.0, line_from ps u.0) (ends ps v.0, line_from ps v.0) u.1 v.1 u.4 v.4 in
+      sym u.2 ∙ (ap (λ d. least_of (line_from ps d)) same ∙ v.2))) in
       let once : count_by (is_pair a b) ps ≤ 1 = pair_once a b in
       level _ _ (subst (λ n. n ≤ 1) (sym m) upper) once
       (λ h. (let r : (y : ℕ × ℕ) × In y listed_pairs × (is_pair a b y ≡ true) = count_finds (is_pair a b) listed_pairs h in
-          let w : (e : ℕ) × In e (below (name_bound g)) × In r.0 (at_least e) = In-flat_map at_least r.0 (below (name_bound g)) (subst (λ l. In r.0 l) by_least r.1) in
-          let u = line_of w.0 a b (count_some (is_pair a b) (at_least w.0) r.0 w.2 r.2) in
-          count_some (is_pair a b) ps (a, b) u.3 (subst (λ y. is_pair a b y ≡ true) (eq_pair r.0 a b r.2) r.2)))
+      let w : (e : ℕ) × In e (below (name_bound g)) × In r.0 (at_least e) = In-flat_map at_least r.0 (below (name_bound g)) (subst (λ l. In r.0 l) by_least r.1) in
+      let u = line_of w.0 a b (count_some (is_pair a b) (at_least w.0) r.0 w.2 r.2) in
+      count_some (is_pair a b) ps (a, b) u.3 (subst (λ y. is_pair a b y ≡ true) (eq_pair r.0 a b r.2) r.2)))
       (λ h. (let r : (y : ℕ × ℕ) × In y ps × (is_pair a b y ≡ true) = count_finds (is_pair a b) ps h in
-          let q : In (a, b) ps = subst (λ y. In y ps) (eq_pair r.0 a b r.2) r.1 in
-          let k : Home ps one a = home ps one a (inl (begins_from ps a b q)) in
-          let d : ℕ = k.head in
-          let e : ℕ = least_of (line_from ps d) in
-          let l : Listed ps one d (ends ps d, line_from ps d) = listed_at ps one d k.at in
-          let j : In (a, b) (line_pairs (ends ps d, line_from ps d)) = in_pairs d (ends ps d, line_from ps d) l a b k.holds q in
-          let at : lines_of_least g ps e ≡ (ends ps d, line_from ps d) ∷ [] = one_of_least g ps one inside e d k.at refl in
-          let bound : e < name_bound g = least_bound d l in
-          let i : In (a, b) (flat_map at_least (below (name_bound g)))
-          = in_flat_map at_least (a, b) e (below (name_bound g)) (below_in (name_bound g) e bound) (subst (λ z. In (a, b) z) (sym (only_line e d at)) j) in
-          count_some (is_pair a b) listed_pairs (a, b) (subst (λ z. In (a, b) z) (sym by_least) i) (subst (λ y. is_pair a b y ≡ true) (eq_pair r.0 a b r.2) r.2)))
+      let q : In (a, b) ps = subst (λ y. In y ps) (eq_pair r.0 a b r.2) r.1 in
+      let k : Home ps one a = home ps one a (inl (begins_from ps a b q)) in
+      let d : ℕ = k.head in
+      let e : ℕ = least_of (line_from ps d) in
+      let l : Listed ps one d (ends ps d, line_from ps d) = listed_at ps one d k.at in
+      let j : In (a, b) (line_pairs (ends ps d, line_from ps d)) = in_pairs d (ends ps d, line_from ps d) l a b k.holds q in
+      let at : lines_of_least g ps e ≡ (ends ps d, line_from ps d) ∷ [] = one_of_least g ps one inside e d k.at refl in
+      let bound : e < name_bound g = least_bound d l in
+      let i : In (a, b) (flat_map at_least (below (name_bound g)))
+      = in_flat_map at_least (a, b) e (below (name_bound g)) (below_in (name_bound g) e bound) (subst (λ z. In (a, b) z) (sym (only_line e d at)) j) in
+      count_some (is_pair a b) listed_pairs (a, b) (subst (λ z. In (a, b) z) (sym by_least) i) (subst (λ y. is_pair a b y ≡ true) (eq_pair r.0 a b r.2) r.2)))
     where
       level : (m n : ℕ) → m ≤ 1 → n ≤ 1 → (0 < m → 0 < n) → (0 < n → 0 < m) → m ≡ n
       level m n h k f b = elim (cases_lt 0 m) [

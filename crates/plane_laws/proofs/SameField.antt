@@ -76,11 +76,13 @@ module _ (g : Grid) (s t : ℕ → ℤ) (k : ℕ) (deep : 0 < g.nz) (agree : (q 
       let c : Corners p = corners p j in
       let at : (m n : ℕ) → m ≡ n → s n ≡ t n → s m ≡ t m = λ m n e q. ap s e ∙ (q ∙ ap t (sym e)) in
       by_four (λ i. (s (edge_lower (side g s k p i)) ≡ t (edge_lower (side g s k p i))) × (s (edge_upper g (side g s k p i)) ≡ t (edge_upper g (side g s k p i))))
-      (at (edge_lower (edge_name p 0)) p (lower_is g s k p 0 (omega arith)) c.first, at (edge_upper g (edge_name p 0)) (p + 1) (upper_is g s k p 0 (omega arith)) c.second)
-      (at (edge_lower (edge_name (p + 1) 1)) (p + 1) (lower_is g s k (p + 1) 1 (omega arith)) c.second,
-      at (edge_upper g (edge_name (p + 1) 1)) (p + g.nx + 1) (upper_is g s k (p + 1) 1 (omega arith) ∙ omega arith) c.third)
-      (at (edge_lower (edge_name (p + g.nx) 0)) (p + g.nx) (lower_is g s k (p + g.nx) 0 (omega arith)) c.fourth,
-      at (edge_upper g (edge_name (p + g.nx) 0)) (p + g.nx + 1) (upper_is g s k (p + g.nx) 0 (omega arith)) c.third)
+      (at (edge_lower (edge_name p 0)) p (lower_is g s k p 0 (omega arith)) c.first, at (edge_upper g (edge_name p 0)) (p + 1) (upper_is g s k p 0 (omega arith)) c.second) (
+        at (edge_lower (edge_name (p + 1) 1)) (p + 1) (lower_is g s k (p + 1) 1 (omega arith)) c.second,
+        at (edge_upper g (edge_name (p + 1) 1)) (p + g.nx + 1) (upper_is g s k (p + 1) 1 (omega arith) ∙ omega arith) c.third,
+      ) (
+        at (edge_lower (edge_name (p + g.nx) 0)) (p + g.nx) (lower_is g s k (p + g.nx) 0 (omega arith)) c.fourth,
+        at (edge_upper g (edge_name (p + g.nx) 0)) (p + g.nx + 1) (upper_is g s k (p + g.nx) 0 (omega arith)) c.third,
+      )
       (at (edge_lower (edge_name p 1)) p (lower_is g s k p 1 (omega arith)) c.first, at (edge_upper g (edge_name p 1)) (p + g.nx) (upper_is g s k p 1 (omega arith)) c.fourth)
       i h
 
@@ -106,10 +108,10 @@ module _ (g : Grid) (s t : ℕ → ℤ) (k : ℕ) (deep : 0 < g.nz) (agree : (q 
   same_lines {A} f h e =
       map_same {B = Bool × List A} (λ (l : Bool × List ℕ). (l.0, map f l.1)) (λ (l : Bool × List ℕ). (l.0, map h l.1)) (contours g s k)
       (λ l i. (let w : (n : ℕ) × In n (below (name_bound g)) × In l (lines_of_least g (plane_pairs g s k) n) = In-flat_map (lines_of_least g (plane_pairs g s k)) l (below (name_bound g)) i in
-          let d : Found g (plane_pairs g s k) (single g s k) (low g s k deep) w.0 l = found g (plane_pairs g s k) (single g s k) (low g s k deep) w.0 l w.2 in
-          let q : l.1 ≡ line_from (plane_pairs g s k) d.head = ap (λ (z : Bool × List ℕ). z.1) d.is.is in
-          ap (λ (z : List A). (l.0, z)) (map_same f h l.1 (λ n j.
-              (let a : (s (edge_lower n) ≡ t (edge_lower n)) × (s (edge_upper g n) ≡ t (edge_upper g n))
-              = alike_active n (active_on (plane_pairs g s k) (single g s k) d.head n l d.is (subst (λ z. In n z) q j)) in
-              e n a.0 a.1)))))
+      let d : Found g (plane_pairs g s k) (single g s k) (low g s k deep) w.0 l = found g (plane_pairs g s k) (single g s k) (low g s k deep) w.0 l w.2 in
+      let q : l.1 ≡ line_from (plane_pairs g s k) d.head = ap (λ (z : Bool × List ℕ). z.1) d.is.is in
+      ap (λ (z : List A). (l.0, z)) (map_same f h l.1 (λ n j.
+      (let a : (s (edge_lower n) ≡ t (edge_lower n)) × (s (edge_upper g n) ≡ t (edge_upper g n))
+      = alike_active n (active_on (plane_pairs g s k) (single g s k) d.head n l d.is (subst (λ z. In n z) q j)) in
+      e n a.0 a.1)))))
       ∙ ap (map {B = Bool × List A} (λ (l : Bool × List ℕ). (l.0, map h l.1))) same_contours

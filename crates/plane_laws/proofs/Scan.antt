@@ -110,7 +110,7 @@ module _ (g : Grid) (ps : List (ℕ × ℕ)) (single : IsSingle ps) (low : (a b 
       filter_flat (has_least e) (lines_at ps) (below (name_bound g))
       ∙ (one_part (λ x. filter (has_least e) (lines_at ps x)) (below (name_bound g)) d (Distinct-range 0 (name_bound g)) (below_in (name_bound g) d inside)
       (λ x ne. filter_none (has_least e) (lines_at ps x)
-          (λ m i h. (let n : Listed ps single x m = listed ps single x m i in ne (same_head ps single x d e m l n k (holds_at x e m n h).0 here))))
+      (λ m i h. (let n : Listed ps single x m = listed ps single x m i in ne (same_head ps single x d e m l n k (holds_at x e m n h).0 here))))
       ∙ (ap (filter (has_least e)) at ∙ ap (λ b. cond b (l ∷ []) []) t))
 
   pub covers : (ls : List (Bool × List ℕ)) (n : ℕ) → covered ls n ≡ true → (l : Bool × List ℕ) × In l ls × In n l.1
@@ -145,9 +145,9 @@ module _ (g : Grid) (ps : List (ℕ × ℕ)) (single : IsSingle ps) (low : (a b 
       let f : Found w.0 c.0 = found w.0 c.0 w.2 in
       let lower : w.0 < e = in_below e w.0 w.1 in
       none_of_least e (λ l k.
-          let same : f.head ≡ k.head = same_head ps single f.head k.head e c.0 l f.is k.is (subst (λ z. In e z) (line_is f.head c.0 f.is) c.2) k.holds in
-          let q : w.0 ≡ e = sym f.least ∙ (ap (λ z. least_of (line_from ps z)) same ∙ k.least) in
-          omega arith)
+      let same : f.head ≡ k.head = same_head ps single f.head k.head e c.0 l f.is k.is (subst (λ z. In e z) (line_is f.head c.0 f.is) c.2) k.holds in
+      let q : w.0 ≡ e = sym f.least ∙ (ap (λ z. least_of (line_from ps z)) same ∙ k.least) in
+      omega arith)
 
   -- nor on an edge that neither begins nor ends a segment
   pub no_line : (e : ℕ) → begins ps e ≡ false → ends ps e ≡ false → lines_of_least g ps e ≡ []

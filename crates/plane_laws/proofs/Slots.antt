@@ -97,8 +97,8 @@ module _ (g : Grid) (s : ℕ → ℤ) (k : ℕ) (deep : 0 < g.nz) where
       let whole : here + rest ≡ name_bound g = omega arith in
       let z : flat_map pick (range_with_len (0 + here) rest) ≡ []
       = flat_none pick (range_with_len (0 + here) rest) (λ e i.
-          let r : (0 + here ≤ e) × (e < 0 + here + rest) = range_at_least (0 + here) rest e i in
-          none_off e (λ w. let m : e < 3 * (base + g.nx * g.ny) = w.1 in let l : 0 + here ≤ e = r.0 in omega arith)) in
+      let r : (0 + here ≤ e) × (e < 0 + here + rest) = range_at_least (0 + here) rest e i in
+      none_off e (λ w. let m : e < 3 * (base + g.nx * g.ny) = w.1 in let l : 0 + here ≤ e = r.0 in omega arith)) in
       sym (ap (λ n. flat_map pick (below n)) (sym whole)
       ∙ (ap (flat_map pick) (range_append 0 here rest)
       ∙ (flat_append pick (below here) (range_with_len (0 + here) rest)

@@ -137,12 +137,14 @@ module _ (g : Grid) (s : ℕ → ℤ) (k : ℕ) where
   up_signs p = by_four (λ i. is_up (corner_signs p) i ≡ true → Rises (side p i) (along i))
       (λ h. let t = and_parts _ _ h in
       (sign_at (edge_upper g (edge_name p 0)) (p + 1) true (upper_is p 0 (omega arith)) t.1, sign_at (edge_lower (edge_name p 0)) p false (lower_is p 0 (omega arith)) (not_false _ t.0)))
-      (λ h. let t = and_parts _ _ h in
-      (sign_at (edge_upper g (edge_name (p + 1) 1)) (p + g.nx + 1) true (upper_is (p + 1) 1 (omega arith) ∙ omega arith) t.1,
-      sign_at (edge_lower (edge_name (p + 1) 1)) (p + 1) false (lower_is (p + 1) 1 (omega arith)) (not_false _ t.0)))
-      (λ h. let t = and_parts _ _ h in
-      (sign_at (edge_upper g (edge_name (p + g.nx) 0)) (p + g.nx + 1) false (upper_is (p + g.nx) 0 (omega arith)) (not_false _ t.0),
-      sign_at (edge_lower (edge_name (p + g.nx) 0)) (p + g.nx) true (lower_is (p + g.nx) 0 (omega arith)) t.1))
+      (λ h. let t = and_parts _ _ h in (
+        sign_at (edge_upper g (edge_name (p + 1) 1)) (p + g.nx + 1) true (upper_is (p + 1) 1 (omega arith) ∙ omega arith) t.1,
+        sign_at (edge_lower (edge_name (p + 1) 1)) (p + 1) false (lower_is (p + 1) 1 (omega arith)) (not_false _ t.0),
+      ))
+      (λ h. let t = and_parts _ _ h in (
+        sign_at (edge_upper g (edge_name (p + g.nx) 0)) (p + g.nx + 1) false (upper_is (p + g.nx) 0 (omega arith)) (not_false _ t.0),
+        sign_at (edge_lower (edge_name (p + g.nx) 0)) (p + g.nx) true (lower_is (p + g.nx) 0 (omega arith)) t.1,
+      ))
       (λ h. let t = and_parts _ _ h in
       (sign_at (edge_upper g (edge_name p 1)) (p + g.nx) false (upper_is p 1 (omega arith)) (not_false _ t.0), sign_at (edge_lower (edge_name p 1)) p true (lower_is p 1 (omega arith)) t.1))
 
@@ -150,12 +152,14 @@ module _ (g : Grid) (s : ℕ → ℤ) (k : ℕ) where
   down_signs p = by_four (λ i. is_down (corner_signs p) i ≡ true → Rises (side p i) (not (along i)))
       (λ h. let t = and_parts _ _ h in
       (sign_at (edge_upper g (edge_name p 0)) (p + 1) false (upper_is p 0 (omega arith)) (not_false _ t.1), sign_at (edge_lower (edge_name p 0)) p true (lower_is p 0 (omega arith)) t.0))
-      (λ h. let t = and_parts _ _ h in
-      (sign_at (edge_upper g (edge_name (p + 1) 1)) (p + g.nx + 1) false (upper_is (p + 1) 1 (omega arith) ∙ omega arith) (not_false _ t.1),
-      sign_at (edge_lower (edge_name (p + 1) 1)) (p + 1) true (lower_is (p + 1) 1 (omega arith)) t.0))
-      (λ h. let t = and_parts _ _ h in
-      (sign_at (edge_upper g (edge_name (p + g.nx) 0)) (p + g.nx + 1) true (upper_is (p + g.nx) 0 (omega arith)) t.0,
-      sign_at (edge_lower (edge_name (p + g.nx) 0)) (p + g.nx) false (lower_is (p + g.nx) 0 (omega arith)) (not_false _ t.1)))
+      (λ h. let t = and_parts _ _ h in (
+        sign_at (edge_upper g (edge_name (p + 1) 1)) (p + g.nx + 1) false (upper_is (p + 1) 1 (omega arith) ∙ omega arith) (not_false _ t.1),
+        sign_at (edge_lower (edge_name (p + 1) 1)) (p + 1) true (lower_is (p + 1) 1 (omega arith)) t.0,
+      ))
+      (λ h. let t = and_parts _ _ h in (
+        sign_at (edge_upper g (edge_name (p + g.nx) 0)) (p + g.nx + 1) true (upper_is (p + g.nx) 0 (omega arith)) t.0,
+        sign_at (edge_lower (edge_name (p + g.nx) 0)) (p + g.nx) false (lower_is (p + g.nx) 0 (omega arith)) (not_false _ t.1),
+      ))
       (λ h. let t = and_parts _ _ h in
       (sign_at (edge_upper g (edge_name p 1)) (p + g.nx) true (upper_is p 1 (omega arith)) t.0, sign_at (edge_lower (edge_name p 1)) p false (lower_is p 1 (omega arith)) (not_false _ t.1)))
 
@@ -234,10 +238,10 @@ module _ (g : Grid) (s : ℕ → ℤ) (k : ℕ) where
             let m : count_by (λ (q : ℕ × ℕ). eqb q.0 e) (square_pairs g s p) ≡ count_by (λ (o : ℕ × ℕ). eqb (side p o.0) e) (segs p) = count-map (λ (q : ℕ × ℕ). eqb q.0 e) (name p) (segs p) in
             let a : count_by (λ (o : ℕ × ℕ). eqb (side p o.0) e) (segs p) ≡ count_by (λ (o : ℕ × ℕ). eqb o.0 f.0.0) (segs p)
             = count_agree (λ (o : ℕ × ℕ). eqb (side p o.0) e) (λ (o : ℕ × ℕ). eqb o.0 f.0.0) (segs p) (λ o i.
-                same_bool _ _
-                (λ t. let v : (o.0 < 4) × (is_up (corner_signs p) o.0 ≡ true) = first_up p o i in
-                eq-eqb _ _ (one_up p o.0 p f.0.0 v.0 u.0 (eqb-true _ _ t ∙ sym f.2) v.1 u.1).1)
-                (λ t. eq-eqb _ _ (ap (side p) (eqb-true _ _ t) ∙ f.2))) in
+            same_bool _ _
+            (λ t. let v : (o.0 < 4) × (is_up (corner_signs p) o.0 ≡ true) = first_up p o i in
+            eq-eqb _ _ (one_up p o.0 p f.0.0 v.0 u.0 (eqb-true _ _ t ∙ sym f.2) v.1 u.1).1)
+            (λ t. eq-eqb _ _ (ap (side p) (eqb-true _ _ t) ∙ f.2))) in
             let r : count_by (λ (o : ℕ × ℕ). eqb o.0 f.0.0) (segs p) ≤ 1 = (row (s p) (s (p + 1)) (s (p + g.nx + 1)) (s (p + g.nx)) f.0.0 u.0).begun in
             omega arith)
       ]
@@ -252,10 +256,10 @@ module _ (g : Grid) (s : ℕ → ℤ) (k : ℕ) where
             let m : count_by (λ (q : ℕ × ℕ). eqb q.1 e) (square_pairs g s p) ≡ count_by (λ (o : ℕ × ℕ). eqb (side p o.1) e) (segs p) = count-map (λ (q : ℕ × ℕ). eqb q.1 e) (name p) (segs p) in
             let a : count_by (λ (o : ℕ × ℕ). eqb (side p o.1) e) (segs p) ≡ count_by (λ (o : ℕ × ℕ). eqb o.1 f.0.1) (segs p)
             = count_agree (λ (o : ℕ × ℕ). eqb (side p o.1) e) (λ (o : ℕ × ℕ). eqb o.1 f.0.1) (segs p) (λ o i.
-                same_bool _ _
-                (λ t. let v : (o.1 < 4) × (is_down (corner_signs p) o.1 ≡ true) = second_down p o i in
-                eq-eqb _ _ (one_down p o.1 p f.0.1 v.0 u.0 (eqb-true _ _ t ∙ sym f.2) v.1 u.1).1)
-                (λ t. eq-eqb _ _ (ap (side p) (eqb-true _ _ t) ∙ f.2))) in
+            same_bool _ _
+            (λ t. let v : (o.1 < 4) × (is_down (corner_signs p) o.1 ≡ true) = second_down p o i in
+            eq-eqb _ _ (one_down p o.1 p f.0.1 v.0 u.0 (eqb-true _ _ t ∙ sym f.2) v.1 u.1).1)
+            (λ t. eq-eqb _ _ (ap (side p) (eqb-true _ _ t) ∙ f.2))) in
             let r : count_by (λ (o : ℕ × ℕ). eqb o.1 f.0.1) (segs p) ≤ 1 = (row (s p) (s (p + 1)) (s (p + g.nx + 1)) (s (p + g.nx)) f.0.1 u.0).ended in
             omega arith)
       ]
@@ -269,20 +273,20 @@ module _ (g : Grid) (s : ℕ → ℤ) (k : ℕ) where
         (Distinct-filter is_square (below (point_count g)) (Distinct-range 0 (point_count g)))
         (λ p i. square_begun p e)
         (λ p q i j h l.
-            (let f : (o : ℕ × ℕ) × In o (segs p) × (side p o.0 ≡ e) = found_begin p e h in
-            let d : (o : ℕ × ℕ) × In o (segs q) × (side q o.0 ≡ e) = found_begin q e l in
-            let u : (f.0.0 < 4) × (is_up (corner_signs p) f.0.0 ≡ true) = first_up p f.0 f.1 in
-            let v : (d.0.0 < 4) × (is_up (corner_signs q) d.0.0 ≡ true) = first_up q d.0 d.1 in
-            (one_up p f.0.0 q d.0.0 u.0 v.0 (f.2 ∙ sym d.2) u.1 v.1).0));
+        (let f : (o : ℕ × ℕ) × In o (segs p) × (side p o.0 ≡ e) = found_begin p e h in
+        let d : (o : ℕ × ℕ) × In o (segs q) × (side q o.0 ≡ e) = found_begin q e l in
+        let u : (f.0.0 < 4) × (is_up (corner_signs p) f.0.0 ≡ true) = first_up p f.0 f.1 in
+        let v : (d.0.0 < 4) × (is_up (corner_signs q) d.0.0 ≡ true) = first_up q d.0 d.1 in
+        (one_up p f.0.0 q d.0.0 u.0 v.0 (f.2 ∙ sym d.2) u.1 v.1).0));
     ended = λ e. count_once (λ (q : ℕ × ℕ). eqb q.1 e) (square_pairs g s) (squares g k)
         (Distinct-filter is_square (below (point_count g)) (Distinct-range 0 (point_count g)))
         (λ p i. square_ended p e)
         (λ p q i j h l.
-            (let f : (o : ℕ × ℕ) × In o (segs p) × (side p o.1 ≡ e) = found_end p e h in
-            let d : (o : ℕ × ℕ) × In o (segs q) × (side q o.1 ≡ e) = found_end q e l in
-            let u : (f.0.1 < 4) × (is_down (corner_signs p) f.0.1 ≡ true) = second_down p f.0 f.1 in
-            let v : (d.0.1 < 4) × (is_down (corner_signs q) d.0.1 ≡ true) = second_down q d.0 d.1 in
-            (one_down p f.0.1 q d.0.1 u.0 v.0 (f.2 ∙ sym d.2) u.1 v.1).0));
+        (let f : (o : ℕ × ℕ) × In o (segs p) × (side p o.1 ≡ e) = found_end p e h in
+        let d : (o : ℕ × ℕ) × In o (segs q) × (side q o.1 ≡ e) = found_end q e l in
+        let u : (f.0.1 < 4) × (is_down (corner_signs p) f.0.1 ≡ true) = second_down p f.0 f.1 in
+        let v : (d.0.1 < 4) × (is_down (corner_signs q) d.0.1 ≡ true) = second_down q d.0 d.1 in
+        (one_down p f.0.1 q d.0.1 u.0 v.0 (f.2 ∙ sym d.2) u.1 v.1).0));
   }
 
   -- where a square of the plane is
