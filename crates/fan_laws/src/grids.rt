@@ -1,13 +1,15 @@
 //! Laws of a grid, and of every field of shifted values on it.
 
 ghost use Rattle.iso_defs.specs.Grid.{Grid, cells, name_bound, point_count};
-ghost use Rattle.iso_defs.specs.Lists.{below};
+ghost use Rattle.iso_defs.specs.Contours.{plane_pairs};
+ghost use Rattle.iso_defs.specs.Lists.{below, count_pair};
 ghost use Rattle.iso_defs.specs.Outside.{IsThick};
 ghost use Rattle.iso_defs.specs.PlaneOfMesh.{IsPlaneOfMesh};
 ghost use Rattle.iso_defs.specs.Rows.{row_cells, row_count, row_edges};
 ghost use Rattle.iso_defs.specs.Scratch.{cell_centres, cell_triangles, crossing_edges, named_triangles, number_of, triangles, vertex_names, vertices};
 ghost use Rattle.iso_defs.specs.Signs.{is_crossing};
 ghost use Rattle.fan_laws.specs.Together.{LiesInFace};
+ghost use Rattle.plane_laws.specs.Lines.{contours, line_pairs};
 ghost use Rattle.std.specs.List.{count_by, flat_map};
 ghost use Rattle.std.specs.Prelude.{if◌then◌else◌, length, nat_lt, pos, ℕ, ℤ, ◌*ℤ◌, ◌*◌, ◌+◌, ◌<◌, ◌==◌, ◌≡◌, ◌≢◌, ◌≤◌};
 
@@ -35,6 +37,11 @@ pub fn mesh_sizes()
 /// The segments of a plane, in either direction, are the edges of the mesh between vertices of lattice edges in the plane.
 pub fn plane_of_mesh()
     ensures { (g : Grid) (s : ℕ → ℤ) (k : ℕ) → IsThick g → k < g.nz → IsPlaneOfMesh g s k }
+{}
+
+/// The contour lines of a plane together hold each of its segments exactly once, and nothing else.
+pub fn lines_hold_segments()
+    ensures { (g : Grid) (s : ℕ → ℤ) (k a b : ℕ) → k < g.nz → count_pair (flat_map line_pairs (contours g s k)) (a, b) ≡ count_pair (plane_pairs g s k) (a, b) }
 {}
 
 /// The mesh is the meshes of its rows joined end to end, and the number of a crossing edge's vertex is how many

@@ -1,18 +1,18 @@
 -- The listed lines hold each segment once.
-use Rattle.std.proofs.Common.{◌≡◌, ℕ, ◌+◌, ◌<◌, ◌≤◌, Bool, true, false, cond, ◌&&◌, List, [], ◌∷◌, ◌++◌, map, refl, sym, ◌∙◌, ap, subst, ◌⊎◌, inl, inr, arith, eqb, ℤ, length}
+use Rattle.std.proofs.Common.{◌≡◌, ℕ, ◌+◌, ◌<◌, ◌≤◌, Bool, true, false, cond, ◌&&◌, List, [], ◌∷◌, ◌++◌, refl, sym, ◌∙◌, ap, subst, ◌⊎◌, inl, inr, arith, eqb, ℤ, length}
 use Rattle.std.specs.List.{flat_map, count_by}
 use Rattle.std.proofs.lemmas.Bool.{cases_Bool, and_parts, eqb-true, both_ways, cases_lt}
 use Rattle.iso_defs.specs.Lists.{below, begins, ends, steps, closing, around, least_of, count_pair}
 use Rattle.iso_defs.specs.Grid.{Grid, name_bound}
 use Rattle.iso_defs.specs.Contours.{line_from, plane_pairs}
 use Rattle.verdict_laws.proofs.Lists.{In, In-flat_map, in_flat_map}
-use Rattle.verdict_laws.proofs.Counts.{Distinct, count-cons, count_none, count_some, count_finds, count_once, eq_pair, pair_in, in_pair}
+use Rattle.verdict_laws.proofs.Counts.{Distinct, count-cons, count_none, count_some, count_finds, count_once, eq_pair}
 use Rattle.verdict_laws.proofs.FanWalk.{IsSingle, one_next, next_in, begins_from, ends_from, ends_in}
 use Rattle.mesh_laws.proofs.Cells.{Distinct-range}
 use Rattle.mesh_laws.proofs.Rows.{flat_flat}
-use Rattle.plane_laws.specs.Lines.{lines_at, lines_of_least, contours, line_pairs, last_of}
-use Rattle.plane_laws.proofs.Walks.{Reached, turned, Told, one_previous, goes_to}
-use Rattle.plane_laws.proofs.Homes.{Listed, same_head, Home, home, relist, listed_at, active_on, line_told, line_in, in_line, head_in, start_in, last_turned, trace_cons, least_on, least_below}
+use Rattle.plane_laws.specs.Lines.{lines_of_least, contours, line_pairs, last_of}
+use Rattle.plane_laws.proofs.Walks.{Reached, turned, Told}
+use Rattle.plane_laws.proofs.Homes.{Listed, same_head, Home, home, relist, listed_at, active_on, line_told, line_in, start_in, last_turned, trace_cons, least_on}
 use Rattle.plane_laws.proofs.Scan.{Found, found, one_of_least, below_in}
 use Rattle.plane_laws.proofs.Squares.{single, low}
 

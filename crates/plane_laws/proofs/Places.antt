@@ -1,5 +1,5 @@
 -- Where the squares of a plane are that have a lattice edge, and what follows it and comes before it there.
-use Rattle.std.proofs.Common.{◌≡◌, ℕ, zero, suc, ◌+◌, ◌*◌, ◌%◌, ◌<◌, ◌≤◌, Bool, List, true, false, not, refl, sym, ◌∙◌, ap, subst, inl, inr, ◌⊎◌, arith, ℤ, ltb}
+use Rattle.std.proofs.Common.{◌≡◌, ℕ, ◌+◌, ◌*◌, ◌%◌, ◌<◌, Bool, List, true, false, not, refl, sym, ◌∙◌, ap, subst, inl, inr, ◌⊎◌, arith, ℤ, ltb}
 use Rattle.std.proofs.lemmas.Bool.{cases_Bool, cases_lt, and_from, both_ways, ltb-true, lt-ltb}
 use Rattle.iso_defs.specs.Lists.{begins, ends, has_pair}
 use Rattle.iso_defs.specs.Grid.{Grid, index, coordinate, edge_lower, edge_upper, edge_name}

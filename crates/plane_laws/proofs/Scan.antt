@@ -1,7 +1,7 @@
 -- The listed lines, edge by edge.
-use Rattle.std.proofs.Common.{◌≡◌, ℕ, zero, suc, ◌+◌, ◌<◌, ◌≤◌, Bool, true, false, cond, ◌||◌, List, [], ◌∷◌, ◌++◌, map, length, refl, sym, ◌∙◌, ap, subst, ◌⊎◌, inl, inr, arith, eqb, zero-add}
+use Rattle.std.proofs.Common.{◌≡◌, ℕ, ◌+◌, ◌<◌, ◌≤◌, Bool, true, false, cond, List, [], ◌∷◌, ◌++◌, refl, sym, ◌∙◌, ap, subst, inl, inr, arith, eqb, zero-add}
 use Rattle.std.specs.List.{filter, flat_map, list_any, range_with_len}
-use Rattle.std.proofs.lemmas.Bool.{cases_Bool, cases_eq, cases_lt, eqb-true, eq-eqb, ne_eqb, both_ways}
+use Rattle.std.proofs.lemmas.Bool.{cases_Bool, cases_lt, eqb-true, eq-eqb, both_ways}
 use Rattle.iso_defs.specs.Lists.{below, begins, ends, is_in, least_of}
 use Rattle.iso_defs.specs.Grid.{Grid, name_bound}
 use Rattle.iso_defs.specs.Contours.{line_from}
@@ -9,7 +9,7 @@ use Rattle.iso_defs.proofs.Ranges.{range_append}
 use Rattle.verdict_laws.proofs.Lists.{In, In-flat_map, in_flat_map, In-filter, in_filter, in_any, any_in}
 use Rattle.verdict_laws.proofs.Counts.{Distinct}
 use Rattle.verdict_laws.proofs.Fans.{in_is_in}
-use Rattle.verdict_laws.proofs.FanWalk.{IsSingle, begins_from, ends_from, next_in, ends_in}
+use Rattle.verdict_laws.proofs.FanWalk.{IsSingle, next_in, ends_in}
 use Rattle.mesh_laws.proofs.Cells.{range_at_least, range_in, Distinct-range}
 use Rattle.mesh_laws.proofs.Rows.{filter_flat}
 use Rattle.plane_laws.specs.Lines.{lines_at, all_lines, lines_of_least, start_of}

@@ -1,14 +1,14 @@
 -- The lattice edges of a plane by number.
-use Rattle.std.proofs.Common.{◌≡◌, ℕ, ◌+◌, ◌-◌, ◌*◌, ◌/◌, ◌%◌, ◌<◌, ◌≤◌, Bool, true, false, ◌||◌, List, [], ◌∷◌, ◌++◌, refl, sym, ◌∙◌, ap, subst, inl, inr, ◌⊎◌, arith, ℤ}
+use Rattle.std.proofs.Common.{◌≡◌, ℕ, ◌+◌, ◌-◌, ◌*◌, ◌%◌, ◌<◌, ◌≤◌, Bool, true, false, ◌||◌, List, [], ◌∷◌, ◌++◌, refl, sym, ◌∙◌, ap, subst, inl, inr, ◌⊎◌, arith, ℤ}
 use Rattle.std.specs.List.{flat_map, range_with_len, list_any}
-use Rattle.std.proofs.lemmas.Bool.{cases_Bool, cases_eq, cases_lt, both_ways}
+use Rattle.std.proofs.lemmas.Bool.{cases_Bool, cases_lt}
 use Rattle.std.proofs.Math.Nat.{mul-le-mul_left}
 use Rattle.iso_defs.specs.Lists.{below, begins, ends, is_in}
-use Rattle.iso_defs.specs.Grid.{Grid, point_count, name_bound, index}
+use Rattle.iso_defs.specs.Grid.{Grid, name_bound}
 use Rattle.iso_defs.specs.Contours.{squares, plane_pairs}
 use Rattle.iso_defs.proofs.Ranges.{range_append}
 use Rattle.verdict_laws.proofs.Lists.{In}
-use Rattle.verdict_laws.proofs.FanWalk.{IsSingle, next_in, ends_in}
+use Rattle.verdict_laws.proofs.FanWalk.{next_in, ends_in}
 use Rattle.mesh_laws.proofs.Cells.{range_at_least}
 use Rattle.mesh_laws.proofs.Neighbours.{by_four}
 use Rattle.plane_laws.specs.Lines.{lines_of_least, contours}

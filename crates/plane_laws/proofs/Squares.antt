@@ -1,19 +1,19 @@
 -- The squares of a plane and their segments: each lattice edge begins one at most and ends one at most.
-use Rattle.std.proofs.Common.{◌≡◌, ℕ, zero, suc, ◌+◌, ◌*◌, ◌/◌, ◌%◌, ◌<◌, ◌≤◌, Bool, true, false, ◌&&◌, not, List, [], ◌∷◌, map, refl, sym, ◌∙◌, ap, subst, inl, inr, arith, eqb, ltb, leb, ℤ, slice_index}
+use Rattle.std.proofs.Common.{◌≡◌, ℕ, ◌+◌, ◌*◌, ◌%◌, ◌<◌, ◌≤◌, Bool, true, false, ◌&&◌, not, List, [], ◌∷◌, refl, sym, ◌∙◌, ap, subst, inl, inr, arith, eqb, ltb, leb, ℤ, slice_index}
 use Rattle.std.specs.List.{list_all, count_by}
-use Rattle.std.proofs.lemmas.Bool.{cases_Bool, cases_eq, cases_lt, and_parts, and_from, ltb-true, lt-ltb, leb-true, eqb-true, eq-eqb, both_ways}
+use Rattle.std.proofs.lemmas.Bool.{cases_lt, and_parts, and_from, ltb-true, lt-ltb, leb-true, eqb-true, eq-eqb}
 use Rattle.iso_defs.specs.Lists.{below, begins, ends}
-use Rattle.iso_defs.specs.Grid.{Grid, point_count, name_bound, coordinate, has_next, index, stride, edge_lower, edge_upper, edge_axis, edge_name}
+use Rattle.iso_defs.specs.Grid.{Grid, point_count, name_bound, coordinate, has_next, index, stride, edge_lower, edge_upper, edge_name}
 use Rattle.iso_defs.specs.Signs.{is_above}
 use Rattle.iso_defs.specs.Face.{holds_at, is_up, is_down, segments, is_ambiguous, is_joined, value_segments}
 use Rattle.iso_defs.specs.Contours.{squares, square_edges, square_pairs, plane_pairs}
 use Rattle.iso_defs.proofs.Points.{x_index, y_index, z_index, index_in, index_of_point}
 use Rattle.case_laws.proofs.Cases.{all_lists, all_below, same}
 use Rattle.case_laws.proofs.Tests.{all_lists_at, all_below_at}
-use Rattle.verdict_laws.proofs.Lists.{In, In-map, in_map, In-flat_map, in_flat_map, In-filter, in_filter, list_all_at, in_any, any_in}
+use Rattle.verdict_laws.proofs.Lists.{In, In-map, in_map, In-flat_map, in_flat_map, In-filter, in_filter, list_all_at, any_in}
 use Rattle.verdict_laws.proofs.Counts.{count_once, count_finds, count_agree, count-map}
 use Rattle.verdict_laws.proofs.FanWalk.{IsSingle}
-use Rattle.mesh_laws.proofs.Cells.{range_at_least, range_in, Distinct-range, Distinct-filter}
+use Rattle.mesh_laws.proofs.Cells.{Distinct-range, Distinct-filter}
 use Rattle.mesh_laws.proofs.Neighbours.{by_four}
 use Rattle.mesh_laws.proofs.TwoCells.{same-true}
 use Rattle.plane_laws.proofs.Scan.{below_in, in_below}

@@ -1,12 +1,12 @@
 -- The line from an edge along pairs of which each number begins one at most and ends one at most.
-use Rattle.std.proofs.Common.{◌≡◌, ℕ, zero, suc, ◌+◌, ◌<◌, ◌≤◌, Bool, true, false, cond, ◌&&◌, not, List, [], ◌∷◌, ◌++◌, map, length, refl, sym, ◌∙◌, ap, subst, ◌⊎◌, inl, inr, arith, eqb}
-use Rattle.std.proofs.lemmas.Bool.{cases_Bool, cases_eq, eqb-true, eq-eqb, ne_eqb, both_ways}
-use Rattle.iso_defs.specs.Lists.{begins, ends}
+use Rattle.std.proofs.Common.{◌≡◌, ℕ, zero, suc, ◌+◌, ◌≤◌, Bool, true, false, cond, ◌&&◌, not, List, [], ◌∷◌, map, length, refl, sym, ◌∙◌, ap, subst, ◌⊎◌, inl, inr, arith, eqb}
+use Rattle.std.proofs.lemmas.Bool.{cases_Bool, cases_eq, eq-eqb, ne_eqb}
+use Rattle.iso_defs.specs.Lists.{begins}
 use Rattle.iso_defs.specs.Cell.{next_of}
-use Rattle.iso_defs.specs.Contours.{trace, line_from}
-use Rattle.verdict_laws.proofs.Lists.{In, In-map, in_map}
+use Rattle.iso_defs.specs.Contours.{trace}
+use Rattle.verdict_laws.proofs.Lists.{In, in_map}
 use Rattle.verdict_laws.proofs.Counts.{Distinct}
-use Rattle.verdict_laws.proofs.FanWalk.{IsSingle, no_longer, one_element, one_next, next_in, next_is, begins_from, ends_from}
+use Rattle.verdict_laws.proofs.FanWalk.{IsSingle, no_longer, one_element, next_in}
 
 -- e is reached from the start through the list, which is told from its end
 abbrev pub Reached : List (ℕ × ℕ) → ℕ → List ℕ → ℕ → Type 0
