@@ -1,9 +1,13 @@
-ghost use Rattle.std.specs.Prelude.{◌≡◌, ℤ, true, All, IfOk, IfSome, slice_set};
+ghost use Rattle.std.specs.Prelude.{◌≡◌, ◌↔◌, ℤ, true, All, IfOk, IfSome, None, slice_set};
 ghost use Rattle.iso_defs.specs.Outside.{is_outer};
 ghost use Rattle.iso_base.specs.Points.{IsPoint, index_of};
 ghost use Rattle.iso_base.specs.Samples.{IsOfKind, IsSample};
+ghost use Rattle.iso_base.specs.Sizing.{sized};
 ghost use Rattle.iso_base.specs.Volume.{Volume, IsVolume, IsInner, sample, unpadded};
+ghost use Rattle.iso_base.specs.declared.sizes.SizeFault.{SizeFault};
+ghost use Rattle.voxel_list.specs.Padding.{grown, padded_volume};
 
+use crate::pad::{PadFault, pad_samples};
 use iso_base::{Memory, Point, SampleKind, Sizes, VoxelData, index};
 use std::alloc::Global;
 use std::marker::Model;
@@ -58,6 +62,33 @@ impl VoxelList {
             pad,
             samples,
         }
+    }
+
+    /// The volume with the pad round it: one more layer on each of the six sides, all of whose samples are the pad.
+    /// A size fault comes exactly where the sizes grown by two are refused, and before want of memory.
+    /// On a refusal the volume is dropped.
+    pub fn padded(self, alloc: Global, pad: i64) -> Result<VoxelList, PadFault>
+        requires unpadded { self.pad ≡ None }
+        requires range { IsSample pad }
+        ensures ok { IfOk result (λ v. v ≡ padded_volume self pad) }
+        ensures size { (fault : SizeFault) → (result ≡ Err (PadFault.Size fault)) ↔ (sized (grown self.grid) ≡ Err fault) }
+    {
+        let VoxelList {
+            sizes,
+            kind,
+            pad: _,
+            samples,
+        } = self;
+        let (nx, ny, nz) = (sizes.nx(), sizes.ny(), sizes.nz());
+        let stored = Sizes::new(u64::from(nx) + 2, u64::from(ny) + 2, u64::from(nz) + 2);
+        let stored = stored.map_err(PadFault::Size)?;
+        let samples = pad_samples(alloc, &sizes, &stored, &samples, pad)?;
+        Ok(VoxelList {
+            sizes: stored,
+            kind,
+            pad: Some(pad),
+            samples,
+        })
     }
 
     /// The sizes of the stored grid, with the pad's layer.

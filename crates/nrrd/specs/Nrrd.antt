@@ -1,0 +1,60 @@
+-- The volume that the bytes of a file give, or the first refusal.
+use Rattle.std.specs.Prelude.{◌≡◌, ℕ, ◌-◌, ◌*◌, Bool, ◌||◌, nat_lt, List, [], ◌∷◌, length, bytes_eq, Option, Some, None, Result, Ok, Err, if◌then◌else◌, codes}
+use Rattle.iso_defs.specs.Grid.{Grid, point_count}
+use Rattle.iso_base.specs.Samples.{width_of}
+use Rattle.iso_base.specs.Volume.{Voxels}
+use Rattle.iso_base.specs.declared.kind.SampleKind.{SampleKind}
+use Rattle.nrrd.specs.declared.fault.NrrdFault.{NrrdFault}
+use Rattle.nrrd.specs.declared.fault.NrrdFault.TheVariants.{NotNrrd, HeaderTooLong, ShortSamples, Memory}
+use Rattle.text_lines.specs.Lines.{Line, lines_of}
+use Rattle.nrrd.specs.HeaderLines.{header_texts, sample_bytes}
+use Rattle.nrrd.specs.Fields.{Fields, fields_in, first_fault, meanings}
+use Rattle.nrrd.specs.Checks.{◌>>=◌, layout_of}
+use Rattle.nrrd.specs.Samples.{samples_in}
+
+-- the first line, of any of the five versions
+unfoldable pub is_first : List ℕ → Bool
+is_first text = bytes_eq text (codes "NRRD0001") || bytes_eq text (codes "NRRD0002") || bytes_eq text (codes "NRRD0003") || bytes_eq text (codes "NRRD0004") || bytes_eq text (codes "NRRD0005")
+
+-- this, unless there is a fault
+abbrev pub unless_fault : {A : Type 0} → Option NrrdFault → A → Result A NrrdFault
+unless_fault None x = Ok x
+unless_fault (Some fault) x = Err fault
+
+-- what the lines say, where the whole header has this many bytes
+abbrev pub header_of : ℕ → List Line → Result (Fields × List ℕ) NrrdFault
+header_of bytes lines =
+    if nat_lt 65536 bytes then Err (HeaderTooLong bytes) else
+    unless_fault (first_fault (meanings (header_texts lines))) (fields_in (meanings (header_texts lines)), sample_bytes lines)
+
+-- the fields and the bytes of the samples, by all lines
+abbrev pub by_lines : ℕ → List Line → Result (Fields × List ℕ) NrrdFault
+by_lines bytes [] = Err NotNrrd
+by_lines bytes (first ∷ lines) = if is_first first.text then header_of (bytes - length (sample_bytes lines)) lines else Err NotNrrd
+
+-- the fields and the bytes of the samples
+unfoldable pub split_of : List ℕ → Result (Fields × List ℕ) NrrdFault
+split_of bytes = by_lines (length bytes) (lines_of bytes)
+
+-- the volume in these bytes, and how many bytes stand after it
+abbrev pub measured : Grid → SampleKind → Bool → List ℕ → Result (Voxels × ℕ) NrrdFault
+measured e kind big body =
+    if nat_lt (length body) (width_of kind * point_count e) then Err (ShortSamples (width_of kind * point_count e) (length body)) else
+    Ok (record { grid = e; kind = kind; samples = samples_in kind big body (point_count e) }, length body - width_of kind * point_count e)
+
+-- the volume in a file, and how many bytes stand after it, or the first refusal
+unfoldable pub nrrd_of : List ℕ → Result (Voxels × ℕ) NrrdFault
+nrrd_of bytes = do
+  parts ← split_of bytes
+  layout ← layout_of parts.0
+  measured layout.0 layout.1 layout.2 parts.1
+
+-- a refusal is the one that is read; want of memory says nothing
+abbrev pub Fails : {A : Type 0} → NrrdFault → Result A NrrdFault → Type 0
+Fails Memory read = Unit {0}
+Fails fault read = read ≡ Err fault
+
+-- the answer is the one that is read, but that memory may be wanting
+abbrev pub Answers : {A : Type 0} → Result A NrrdFault → Result A NrrdFault → Type 0
+Answers (Ok x) read = read ≡ Ok x
+Answers (Err fault) read = Fails fault read

@@ -1,0 +1,272 @@
+//! Volumes in print.
+ghost use Rattle.std.specs.Prelude.{◌≡◌, ◌+◌, ◌*◌, ◌<◌, ◌≤◌, ◌++◌, length, take, All, [], decimal, pos};
+ghost use Rattle.arrayvec.specs.ArrayString.{array_string_len};
+ghost use Rattle.iso_io.specs.Seen.{Puts};
+ghost use Rattle.iso_base.specs.Samples.{width_of, IsOfKind};
+ghost use Rattle.nrrd.specs.Writing.{kind_text, order_text, sizes_text, head_text, samples_text};
+
+use arrayvec::ArrayString;
+use byteorder::{ByteOrder, LittleEndian};
+use iso_base::{SampleKind, Sizes};
+use iso_io::{Failed, Sink, write_all_of};
+use itoa::Buffer;
+
+/// The name of a kind in print.
+#[tactic(auto, unfolding(crate::specs::Writing::kind_text))]
+fn kind_name(kind: SampleKind) -> &'static str
+    ensures text { result.now ≡ kind_text kind }
+    ensures short { length result.now ≤ 6 }
+{
+    match kind {
+        SampleKind::I8 => "int8",
+        SampleKind::U8 => "uint8",
+        SampleKind::I16 => "int16",
+        SampleKind::U16 => "uint16",
+        SampleKind::I32 => "int32",
+        SampleKind::U32 => "uint32",
+    }
+}
+
+/// The line of the byte order, behind its line feed, where the kind has one.
+#[tactic(auto, unfolding(crate::specs::Writing::order_text))]
+fn order_name(kind: SampleKind) -> &'static str
+    ensures text { result.now ≡ order_text kind }
+    ensures short { length result.now ≤ 15 }
+{
+    if kind.width() == 1 {
+        return "";
+    }
+    "\nendian: little"
+}
+
+/// One size in print.
+fn put_size(n: u32, into: &mut ArrayString<16>)
+    requires bound { n ≤ 1026 }
+    requires room { array_string_len into.old + 4 ≤ 16 }
+    ensures text { into.new.bytes ≡ into.old.bytes ++ decimal n }
+    ensures room { array_string_len into.new ≤ array_string_len into.old + 4 }
+{
+    let mut buffer = Buffer::new();
+    into.push_str(buffer.format(n));
+}
+
+/// The three sizes in print.
+#[tactic(auto, unfolding(crate::specs::Writing::sizes_text))]
+fn made_sizes(sizes: &Sizes) -> ArrayString<16>
+    ensures text { result.bytes ≡ sizes_text sizes.now }
+    ensures short { array_string_len result ≤ 14 }
+{
+    let mut text = ArrayString::new();
+    put_size(sizes.nx(), &mut text);
+    text.push_str(" ");
+    put_size(sizes.ny(), &mut text);
+    text.push_str(" ");
+    put_size(sizes.nz(), &mut text);
+    text
+}
+
+/// The whole head.
+#[tactic(auto, unfolding(crate::specs::Writing::head_text))]
+fn made_head(sizes: &Sizes, kind: SampleKind) -> ArrayString<128>
+    ensures { result.bytes ≡ head_text sizes.now kind }
+{
+    let sizes = made_sizes(sizes);
+    let mut text = ArrayString::new();
+    text.push_str("NRRD0004\ntype: ");
+    text.push_str(kind_name(kind));
+    text.push_str("\ndimension: 3\nsizes: ");
+    text.push_str(sizes.as_str());
+    text.push_str(order_name(kind));
+    text.push_str("\nencoding: raw\n\n");
+    text
+}
+
+/// Appends the head of a volume to a sink: type, dimension, sizes, byte order for samples of more than one byte, and encoding.
+/// `Failed` comes only where the sink's count of faults rose; a front of the head was then taken. No memory is taken.
+pub fn put_nrrd_head<K: Sink>(sink: &mut K, sizes: &Sizes, kind: SampleKind) -> Result<(), Failed>
+    ensures { Puts (K.seen sink.old) (K.seen sink.new) result (head_text sizes.now kind) }
+{
+    let text = made_head(sizes, kind);
+    write_all_of(sink, text.as_bytes())
+}
+
+#[inline]
+fn as_i8(value: i64) -> i8
+    requires { IsOfKind SampleKind.I8 value }
+    ensures { result ≡ value }
+{
+    value as i8
+}
+
+#[inline]
+fn as_i16(value: i64) -> i16
+    requires { IsOfKind SampleKind.I16 value }
+    ensures { result ≡ value }
+{
+    value as i16
+}
+
+#[inline]
+fn as_i32(value: i64) -> i32
+    requires { IsOfKind SampleKind.I32 value }
+    ensures { result ≡ value }
+{
+    value as i32
+}
+
+#[inline]
+fn as_u8(value: i64) -> u8
+    requires { IsOfKind SampleKind.U8 value }
+    ensures { pos result ≡ value }
+{
+    value as u8
+}
+
+#[inline]
+fn as_u16(value: i64) -> u16
+    requires { IsOfKind SampleKind.U16 value }
+    ensures { pos result ≡ value }
+{
+    value as u16
+}
+
+#[inline]
+fn as_u32(value: i64) -> u32
+    requires { IsOfKind SampleKind.U32 value }
+    ensures { pos result ≡ value }
+{
+    value as u32
+}
+
+fn fill_i8(piece: &[i64], room: &mut [u8])
+    requires each { All (IsOfKind SampleKind.I8) piece.now }
+    requires room { 1 * length piece.now ≤ length room.old }
+    ensures { take (1 * length piece.now) room.new ≡ samples_text SampleKind.I8 piece.now }
+{
+    for i in 0..piece.len() {
+        room[i] = as_i8(piece[i]).cast_unsigned();
+    }
+}
+
+fn fill_u8(piece: &[i64], room: &mut [u8])
+    requires each { All (IsOfKind SampleKind.U8) piece.now }
+    requires room { 1 * length piece.now ≤ length room.old }
+    ensures { take (1 * length piece.now) room.new ≡ samples_text SampleKind.U8 piece.now }
+{
+    for i in 0..piece.len() {
+        room[i] = as_u8(piece[i]);
+    }
+}
+
+fn fill_i16(piece: &[i64], room: &mut [u8])
+    requires each { All (IsOfKind SampleKind.I16) piece.now }
+    requires room { 2 * length piece.now ≤ length room.old }
+    ensures { take (2 * length piece.now) room.new ≡ samples_text SampleKind.I16 piece.now }
+{
+    for i in 0..piece.len() {
+        LittleEndian::write_i16(&mut room[2 * i..], as_i16(piece[i]));
+    }
+}
+
+fn fill_u16(piece: &[i64], room: &mut [u8])
+    requires each { All (IsOfKind SampleKind.U16) piece.now }
+    requires room { 2 * length piece.now ≤ length room.old }
+    ensures { take (2 * length piece.now) room.new ≡ samples_text SampleKind.U16 piece.now }
+{
+    for i in 0..piece.len() {
+        LittleEndian::write_u16(&mut room[2 * i..], as_u16(piece[i]));
+    }
+}
+
+fn fill_i32(piece: &[i64], room: &mut [u8])
+    requires each { All (IsOfKind SampleKind.I32) piece.now }
+    requires room { 4 * length piece.now ≤ length room.old }
+    ensures { take (4 * length piece.now) room.new ≡ samples_text SampleKind.I32 piece.now }
+{
+    for i in 0..piece.len() {
+        LittleEndian::write_i32(&mut room[4 * i..], as_i32(piece[i]));
+    }
+}
+
+fn fill_u32(piece: &[i64], room: &mut [u8])
+    requires each { All (IsOfKind SampleKind.U32) piece.now }
+    requires room { 4 * length piece.now ≤ length room.old }
+    ensures { take (4 * length piece.now) room.new ≡ samples_text SampleKind.U32 piece.now }
+{
+    for i in 0..piece.len() {
+        LittleEndian::write_u32(&mut room[4 * i..], as_u32(piece[i]));
+    }
+}
+
+/// Fills the front of the room with the bytes of samples.
+fn fill(kind: SampleKind, piece: &[i64], room: &mut [u8])
+    requires each { All (IsOfKind kind) piece.now }
+    requires room { width_of kind * length piece.now ≤ length room.old }
+    ensures { take (width_of kind * length piece.now) room.new ≡ samples_text kind piece.now }
+{
+    match kind {
+        SampleKind::I8 => fill_i8(piece, room),
+        SampleKind::U8 => fill_u8(piece, room),
+        SampleKind::I16 => fill_i16(piece, room),
+        SampleKind::U16 => fill_u16(piece, room),
+        SampleKind::I32 => fill_i32(piece, room),
+        SampleKind::U32 => fill_u32(piece, room),
+    }
+}
+
+/// So many bytes are written at once: a write of the system costs as much as thousands of bytes.
+const BLOCK: usize = 32_768;
+
+/// How many samples fill a block.
+fn samples_in_block(kind: SampleKind) -> usize
+    ensures some { 0 < result }
+    ensures room { width_of kind * result ≤ 32768 }
+{
+    BLOCK / kind.width() as usize
+}
+
+/// Writes samples that fit into the room, by way of the room.
+fn put_piece<K: Sink>(
+    sink: &mut K,
+    kind: SampleKind,
+    piece: &[i64],
+    room: &mut [u8],
+) -> Result<(), Failed>
+    requires each { All (IsOfKind kind) piece.now }
+    requires room { width_of kind * length piece.now ≤ length room.old }
+    ensures { Puts (K.seen sink.old) (K.seen sink.new) result (samples_text kind piece.now) }
+{
+    fill(kind, piece, room);
+    write_all_of(sink, &room[..kind.width() as usize * piece.len()])
+}
+
+/// Writes samples, a block at a time.
+fn put_pieces<K: Sink>(
+    sink: &mut K,
+    kind: SampleKind,
+    values: &[i64],
+    room: &mut [u8],
+) -> Result<(), Failed>
+    requires each { All (IsOfKind kind) values.now }
+    requires room { length room.old ≡ 32768 }
+    ensures { Puts (K.seen sink.old) (K.seen sink.new) result (samples_text kind values.now) }
+{
+    let most = samples_in_block(kind);
+    let mut rest = values;
+    while !rest.is_empty() {
+        let (piece, after) = rest.split_at(rest.len().min(most));
+        put_piece(sink, kind, piece, room)?;
+        rest = after;
+    }
+    Ok(())
+}
+
+/// Appends samples to a sink, each in as many bytes as its kind has, in little order. The values lie in the kind's range.
+/// `Failed` comes only where the sink's count of faults rose; a front of the bytes was then taken. No memory is taken.
+pub fn put_samples<K: Sink>(sink: &mut K, kind: SampleKind, values: &[i64]) -> Result<(), Failed>
+    requires { All (IsOfKind kind) values.now }
+    ensures { Puts (K.seen sink.old) (K.seen sink.new) result (samples_text kind values.now) }
+{
+    let mut room = [0u8; BLOCK];
+    put_pieces(sink, kind, values, &mut room)
+}

@@ -1,7 +1,0 @@
-pub mod HeaderLaws
-pub mod Folding
-pub mod SampleLaws
-pub mod Texts
-pub mod Again
-pub mod SamplesAgain
-pub mod RoundTrip
