@@ -3,11 +3,13 @@
 #![tactic(auto)]
 
 mod digits;
+mod format;
 mod head;
 mod line;
 mod obj;
 mod ply;
 
+pub use format::MeshFormat;
 pub use head::{ply_head_text, points_head_text, put_ply_head, put_points_head};
 pub use line::Line;
 pub use obj::{obj_face_text, obj_vertex_text, put_obj_face, put_obj_vertex};

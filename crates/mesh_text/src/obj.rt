@@ -37,7 +37,6 @@ pub fn put_obj_vertex<K: Sink>(sink: &mut K, at: [Thousandth; 3]) -> Result<(), 
 /// The line of a face: `f A B C`. Its corners are handed in counted from 0 and printed counted from 1.
 #[inline(always)]
 pub fn obj_face_text(corners: &[u32; 3]) -> Line
-    requires { IsBelow (2 ^ 31) (triangle_of corners.now) }
     ensures { result ≡ obj_face_line corners.now }
 {
     let mut bytes = [0; ROOM];

@@ -1,3 +1,4 @@
 pub mod Placing
 pub mod Crossings
 pub mod Rows
+pub mod Scratches

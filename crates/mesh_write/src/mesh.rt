@@ -1,15 +1,17 @@
-//! A mesh as a PLY text.
+//! A mesh as a PLY or an OBJ text.
 
 ghost use Rattle.std.specs.Prelude.{◌≡◌, ◌*◌, ◌<◌, ◌≤◌, ◌^◌, ◌++◌, ℕ, [], length, get_or, pos, unsigned_abs, IfOk};
 ghost use Rattle.iso_defs.specs.Texts.{printed};
 ghost use Rattle.iso_io.specs.Seen.{Puts, Stages};
 ghost use Rattle.mesh_text.specs.Lines.{along, ply_head};
-ghost use Rattle.mesh_write.specs.Mesh.{vertex_line, face_line, vertex_lines, face_lines, ply_of, ply_written};
+ghost use Rattle.mesh_write.specs.Mesh.{vertex_line, face_line, vertex_lines, face_lines, head_of, text_of, ply_of, obj_of, written_of, ply_written, obj_written};
 
 use flat_mesh::Mesh;
 use iso_base::{Thousandth, Written};
 use iso_io::{Failed, Sink, stage, write_all_of};
-use mesh_text::{Line, ply_face_text, ply_head_text, ply_vertex_text};
+use mesh_text::{
+    Line, MeshFormat, obj_face_text, obj_vertex_text, ply_face_text, ply_head_text, ply_vertex_text,
+};
 
 /// A pad's layer along an axis, in thousandths.
 const LAYER: i64 = 1000;
@@ -48,22 +50,30 @@ fn printed_position(at: &[Thousandth; 3], padded: bool) -> [Thousandth; 3]
 /// The line of a vertex.
 #[tactic(auto, unfolding(crate::specs::Mesh::vertex_line))]
 #[inline(always)]
-fn vertex_text(mesh: &Mesh, padded: bool, i: u32) -> Line
+fn vertex_text(mesh: &Mesh, format: MeshFormat, padded: bool, i: u32) -> Line
     requires { i < length mesh.now.vertex_list }
-    ensures { result ≡ vertex_line padded (get_or mesh.now.vertex_list i (0, (0, 0, 0))) }
+    ensures { result ≡ vertex_line format padded (get_or mesh.now.vertex_list i (0, (0, 0, 0))) }
 {
     let (_, at) = mesh.vertex(i);
-    ply_vertex_text(&printed_position(&at, padded))
+    let at = printed_position(&at, padded);
+    match format {
+        MeshFormat::Ply => ply_vertex_text(&at),
+        MeshFormat::Obj => obj_vertex_text(&at),
+    }
 }
 
 /// The line of a triangle.
 #[tactic(auto, unfolding(crate::specs::Mesh::face_line))]
 #[inline(always)]
-fn face_text(mesh: &Mesh, i: u32) -> Line
+fn face_text(mesh: &Mesh, format: MeshFormat, i: u32) -> Line
     requires { i < length mesh.now.triangle_list }
-    ensures { result ≡ face_line (get_or mesh.now.triangle_list i (0, 0, 0)) }
+    ensures { result ≡ face_line format (get_or mesh.now.triangle_list i (0, 0, 0)) }
 {
-    ply_face_text(&mesh.triangle(i))
+    let corners = mesh.triangle(i);
+    match format {
+        MeshFormat::Ply => ply_face_text(&corners),
+        MeshFormat::Obj => obj_face_text(&corners),
+    }
 }
 
 /// Puts a text behind what waits, and counts its bytes.
@@ -87,7 +97,7 @@ fn stage_line<K: Sink>(sink: &mut K, waiting: &mut Vec<u8>, line: &Line) -> Resu
     stage_text(sink, waiting, line.as_bytes())
 }
 
-fn stage_head<K: Sink>(
+fn stage_ply_head<K: Sink>(
     sink: &mut K,
     waiting: &mut Vec<u8>,
     vertices: u32,
@@ -104,31 +114,55 @@ fn stage_head<K: Sink>(
     )
 }
 
+/// What stands before the lines: a head in PLY, nothing in OBJ.
+fn stage_head<K: Sink>(
+    sink: &mut K,
+    waiting: &mut Vec<u8>,
+    format: MeshFormat,
+    vertices: u32,
+    faces: u32,
+) -> Result<u64, Failed>
+    ensures staged { Stages (K.seen sink.old) (K.seen sink.new) waiting.old.items waiting.new.items result (head_of format vertices faces) }
+    ensures bytes { IfOk result (λ n. n ≡ length (head_of format vertices faces)) }
+    ensures few { IfOk result (λ n. n ≤ 256) }
+{
+    match format {
+        MeshFormat::Ply => stage_ply_head(sink, waiting, vertices, faces),
+        MeshFormat::Obj => Ok(0),
+    }
+}
+
 fn stage_vertices<K: Sink>(
     sink: &mut K,
     waiting: &mut Vec<u8>,
     mesh: &Mesh,
+    format: MeshFormat,
     padded: bool,
 ) -> Result<u64, Failed>
-    ensures staged { Stages (K.seen sink.old) (K.seen sink.new) waiting.old.items waiting.new.items result (vertex_lines padded mesh.now.vertex_list) }
-    ensures bytes { IfOk result (λ n. n ≡ length (vertex_lines padded mesh.now.vertex_list)) }
+    ensures staged { Stages (K.seen sink.old) (K.seen sink.new) waiting.old.items waiting.new.items result (vertex_lines format padded mesh.now.vertex_list) }
+    ensures bytes { IfOk result (λ n. n ≡ length (vertex_lines format padded mesh.now.vertex_list)) }
     ensures few { IfOk result (λ n. n ≤ 2 ^ 38) }
 {
     let mut bytes = 0;
     for i in 0..mesh.vertex_count() {
-        bytes += stage_line(sink, waiting, &vertex_text(mesh, padded, i))?;
+        bytes += stage_line(sink, waiting, &vertex_text(mesh, format, padded, i))?;
     }
     Ok(bytes)
 }
 
-fn stage_faces<K: Sink>(sink: &mut K, waiting: &mut Vec<u8>, mesh: &Mesh) -> Result<u64, Failed>
-    ensures staged { Stages (K.seen sink.old) (K.seen sink.new) waiting.old.items waiting.new.items result (face_lines mesh.now.triangle_list) }
-    ensures bytes { IfOk result (λ n. n ≡ length (face_lines mesh.now.triangle_list)) }
+fn stage_faces<K: Sink>(
+    sink: &mut K,
+    waiting: &mut Vec<u8>,
+    mesh: &Mesh,
+    format: MeshFormat,
+) -> Result<u64, Failed>
+    ensures staged { Stages (K.seen sink.old) (K.seen sink.new) waiting.old.items waiting.new.items result (face_lines format mesh.now.triangle_list) }
+    ensures bytes { IfOk result (λ n. n ≡ length (face_lines format mesh.now.triangle_list)) }
     ensures few { IfOk result (λ n. n ≤ 2 ^ 38) }
 {
     let mut bytes = 0;
     for i in 0..mesh.triangle_count() {
-        bytes += stage_line(sink, waiting, &face_text(mesh, i))?;
+        bytes += stage_line(sink, waiting, &face_text(mesh, format, i))?;
     }
     Ok(bytes)
 }
@@ -137,14 +171,16 @@ fn stage_lines<K: Sink>(
     sink: &mut K,
     waiting: &mut Vec<u8>,
     mesh: &Mesh,
+    format: MeshFormat,
     padded: bool,
 ) -> Result<u64, Failed>
-    ensures staged { Stages (K.seen sink.old) (K.seen sink.new) waiting.old.items waiting.new.items result (vertex_lines padded mesh.now.vertex_list ++ face_lines mesh.now.triangle_list) }
-    ensures bytes { IfOk result (λ n. n ≡ length (vertex_lines padded mesh.now.vertex_list ++ face_lines mesh.now.triangle_list)) }
+    ensures staged { Stages (K.seen sink.old) (K.seen sink.new) waiting.old.items waiting.new.items result
+        (vertex_lines format padded mesh.now.vertex_list ++ face_lines format mesh.now.triangle_list) }
+    ensures bytes { IfOk result (λ n. n ≡ length (vertex_lines format padded mesh.now.vertex_list ++ face_lines format mesh.now.triangle_list)) }
     ensures few { IfOk result (λ n. n ≤ 2 ^ 39) }
 {
-    let vertices = stage_vertices(sink, waiting, mesh, padded)?;
-    let faces = stage_faces(sink, waiting, mesh)?;
+    let vertices = stage_vertices(sink, waiting, mesh, format, padded)?;
+    let faces = stage_faces(sink, waiting, mesh, format)?;
     Ok(vertices + faces)
 }
 
@@ -152,19 +188,47 @@ fn stage_mesh<K: Sink>(
     sink: &mut K,
     waiting: &mut Vec<u8>,
     mesh: &Mesh,
+    format: MeshFormat,
     padded: bool,
 ) -> Result<u64, Failed>
-    ensures staged { Stages (K.seen sink.old) (K.seen sink.new) waiting.old.items waiting.new.items result (ply_of padded mesh.now) }
-    ensures bytes { IfOk result (λ n. n ≡ length (ply_of padded mesh.now)) }
+    ensures staged { Stages (K.seen sink.old) (K.seen sink.new) waiting.old.items waiting.new.items result (text_of format padded mesh.now) }
+    ensures bytes { IfOk result (λ n. n ≡ length (text_of format padded mesh.now)) }
 {
-    let head = stage_head(sink, waiting, mesh.vertex_count(), mesh.triangle_count())?;
-    let lines = stage_lines(sink, waiting, mesh, padded)?;
+    let head = stage_head(
+        sink,
+        waiting,
+        format,
+        mesh.vertex_count(),
+        mesh.triangle_count(),
+    )?;
+    let lines = stage_lines(sink, waiting, mesh, format, padded)?;
     Ok(head + lines)
 }
 
-/// Appends the PLY text of a mesh, and says how many vertices, faces and bytes were written. With a pad, the pad's
-/// layer is taken off each coordinate. `waiting` is the empty buffer in which blocks are gathered; what it holds
+/// Appends the text of a mesh in a format, and says how many vertices, faces and bytes were written. With a pad, the
+/// pad's layer is taken off each coordinate. `waiting` is the empty buffer in which blocks are gathered; what it holds
 /// afterwards is open. `Failed` comes only where the sink's count rose; a front of the text was then taken.
+pub fn put_mesh_as<K: Sink>(
+    sink: &mut K,
+    waiting: &mut Vec<u8>,
+    mesh: &Mesh,
+    format: MeshFormat,
+    padded: bool,
+) -> Result<Written, Failed>
+    requires none { waiting.old.items ≡ [] }
+    ensures text { Puts (K.seen sink.old) (K.seen sink.new) result (text_of format padded mesh.now) }
+    ensures written { IfOk result (λ w. w ≡ written_of format padded mesh.now) }
+{
+    let bytes = stage_mesh(sink, waiting, mesh, format, padded)?;
+    write_all_of(sink, waiting)?;
+    Ok(Written {
+        vertices: mesh.vertex_count(),
+        faces: mesh.triangle_count(),
+        bytes,
+    })
+}
+
+/// Appends the PLY text of a mesh, as `put_mesh_as` does.
 pub fn put_mesh<K: Sink>(
     sink: &mut K,
     waiting: &mut Vec<u8>,
@@ -175,11 +239,19 @@ pub fn put_mesh<K: Sink>(
     ensures text { Puts (K.seen sink.old) (K.seen sink.new) result (ply_of padded mesh.now) }
     ensures written { IfOk result (λ w. w ≡ ply_written padded mesh.now) }
 {
-    let bytes = stage_mesh(sink, waiting, mesh, padded)?;
-    write_all_of(sink, waiting)?;
-    Ok(Written {
-        vertices: mesh.vertex_count(),
-        faces: mesh.triangle_count(),
-        bytes,
-    })
+    put_mesh_as(sink, waiting, mesh, MeshFormat::Ply, padded)
+}
+
+/// Appends the OBJ text of a mesh, as `put_mesh_as` does. Its faces count vertices from 1.
+pub fn put_obj_mesh<K: Sink>(
+    sink: &mut K,
+    waiting: &mut Vec<u8>,
+    mesh: &Mesh,
+    padded: bool,
+) -> Result<Written, Failed>
+    requires none { waiting.old.items ≡ [] }
+    ensures text { Puts (K.seen sink.old) (K.seen sink.new) result (obj_of padded mesh.now) }
+    ensures written { IfOk result (λ w. w ≡ obj_written padded mesh.now) }
+{
+    put_mesh_as(sink, waiting, mesh, MeshFormat::Obj, padded)
 }
