@@ -1,0 +1,58 @@
+ghost use Rattle.std.specs.Prelude.{◌≡◌};
+
+use std::marker::Model;
+
+/// The numbers of one component of a mesh, or of the whole of it.
+#[derive(Clone, Copy, Debug, PartialEq, Eq)]
+pub struct Part {
+    /// The least vertex; 0 for the whole.
+    pub least: u32,
+    /// The vertices that a triangle uses.
+    pub vertices: u32,
+    /// The unordered pairs of different corners of a triangle.
+    pub edges: u64,
+    /// The triangles.
+    pub faces: u32,
+    /// The edges that lie in exactly one triangle.
+    pub border: u64,
+    /// Vertices less edges, and faces.
+    pub euler: i64,
+}
+
+/// The numbers of a mesh and of each of its components, by their least vertices. Contracts see the whole and the list of the parts.
+#[derive(Debug, Drop)]
+pub struct Report {
+    total: Part,
+    parts: Vec<Part>,
+}
+
+impl Model for Report {
+    ghost use Rattle.mesh_report.specs.Report.{Summary};
+
+    ghost Value = { Summary };
+
+    ghost view = { λ r. record { total = r.total; parts = r.parts.items } };
+}
+
+impl Report {
+    /// A report of these numbers.
+    pub(crate) fn new(total: Part, parts: Vec<Part>) -> Report
+        ensures { result ≡ record { total = total; parts = parts.items } }
+    {
+        Report { total, parts }
+    }
+
+    /// The numbers of the whole mesh, with 0 as its least vertex.
+    pub fn total(&self) -> &Part
+        ensures { result.now ≡ self.now.total }
+    {
+        &self.total
+    }
+
+    /// The numbers of each component, by its least vertex, ascending.
+    pub fn parts(&self) -> &[Part]
+        ensures { result.now ≡ self.now.parts }
+    {
+        &self.parts
+    }
+}
