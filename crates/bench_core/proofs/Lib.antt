@@ -2,3 +2,9 @@ pub mod States
 pub mod Insides
 pub mod Filling
 pub mod Meshes
+pub mod InnerSamples
+pub mod RowsPut
+pub mod SavedSizes
+pub mod SavedFiles
+pub mod PlaneFields
+pub mod Triangles

@@ -1,17 +1,28 @@
-ghost use Rattle.std.specs.Prelude.{◌≡◌, ◌⊎◌, ◌+◌, ◌<◌, ◌≤◌, [], ◌∷◌, take, get_or, pos, IfSome, IfNone, None, Some, IfOk, IfErr, OnOk, OnErr, IsErrOf};
+ghost use Rattle.std.specs.Prelude.{◌≡◌, ◌⊎◌, ◌+◌, ◌<◌, ◌≤◌, [], ◌∷◌, take, get_or, pos, length, is_some, IfSome, IfNone, IsSomeAnd, None, Some, Ok, IfOk, IfErr, OnOk, OnErr, IsErrOf};
 ghost use Rattle.iso_base.specs.Samples.{least_of, greatest_of};
 ghost use Rattle.bench_core.specs.Inner.{IsInside};
-ghost use Rattle.bench_core.specs.Texts.{WritesFile, ply_text, ply_written};
-ghost use Rattle.bench_core.specs.Machine.{IsAbovePad, IsStep, area_by, begin_fault, checked_level, fill_at, fill_step, level_step, pad_fault, place_of, set_at, set_step, stored, undo_step};
+ghost use Rattle.bench_core.specs.Surface.{IsCutOfMesh, IsWatertight};
+ghost use Rattle.bench_core.specs.Texts.{WritesFile, contour_of, mesh_text, mesh_written, obj_text, obj_written, ply_text, ply_written, report_of, save_text};
+ghost use Rattle.bench_core.specs.Machine.{IsAbovePad, IsStep, area_by, begin_fault, checked_level, contour_step, fill_at, fill_step, level_step, pad_fault, place_of, plane_of, set_at, set_step, stored, undo_step};
+ghost use Rattle.bench_core.specs.Unpadded.{inner_grid, inner_voxels};
+ghost use Rattle.nrrd.specs.Nrrd.{nrrd_of};
+ghost use Rattle.iso_base.specs.Sizing.{IsGrid};
 
+use crate::contour::plane_contours;
 use crate::earlier::Earlier;
-use crate::edits::{fill_area, is_in_range, put_sample};
+use crate::edits::{fill_area, is_in_range, layer_of, put_sample};
 use crate::fault::BeginFault;
 use crate::mesh_file::write_mesh;
+use crate::saved::write_volume;
+use crate::summary::mesh_numbers;
+use crate::surface::watertight;
 use flat_mesh::extract_flat;
 use iso_base::{BenchFault, Level, Memory, Point, SampleKind, Steps, Written};
 use iso_io::{Failed, Shelf};
+use mesh_report::Report;
+use mesh_text::MeshFormat;
 use mesh_write::STAGE;
+use plane_contour::Contours;
 use std::alloc::Global;
 use std::marker::Model;
 use std::sync::ledger::Ledger;
@@ -67,6 +78,13 @@ impl Bench {
             past: Vec::new(alloc),
             waiting,
         })
+    }
+
+    /// Whether the volume has a pad.
+    pub fn is_padded(&self) -> bool
+        ensures { result ≡ is_some self.now.volume.pad }
+    {
+        self.volume.pad().is_some()
     }
 
     /// Replaces one sample. Coordinates do not count the pad's layer. Refused, in this order: `Outside` exactly where
@@ -196,19 +214,103 @@ impl Bench {
     ) -> Result<Written, BenchFault>
         ensures state { self.new ≡ self.old }
         ensures file { WritesFile (H.seen shelf.old) (H.seen shelf.new) result name.now (ply_text self.old) (ply_written self.old) }
+        ensures surface { OnOk result (IsWatertight self.old.volume self.old.level) }
         ensures counted { steps.new ≡ steps.old }
     {
         let _ = &*steps;
+        self.write_as(shelf, name, MeshFormat::Ply)
+    }
+
+    /// Makes the name's file the OBJ text of the mesh; all else is as for `write_ply`.
+    pub fn write_obj<H: Shelf, L: Ledger>(
+        &mut self,
+        shelf: &mut H,
+        name: &str,
+        steps: &mut Steps<L>,
+    ) -> Result<Written, BenchFault>
+        ensures state { self.new ≡ self.old }
+        ensures file { WritesFile (H.seen shelf.old) (H.seen shelf.new) result name.now (obj_text self.old) (obj_written self.old) }
+        ensures surface { OnOk result (IsWatertight self.old.volume self.old.level) }
+        ensures counted { steps.new ≡ steps.old }
+    {
+        let _ = &*steps;
+        self.write_as(shelf, name, MeshFormat::Obj)
+    }
+
+    fn write_as<H: Shelf>(
+        &mut self,
+        shelf: &mut H,
+        name: &str,
+        format: MeshFormat,
+    ) -> Result<Written, BenchFault>
+        ensures state { self.new ≡ self.old }
+        ensures file { WritesFile (H.seen shelf.old) (H.seen shelf.new) result name.now (mesh_text format self.old) (mesh_written format self.old) }
+        ensures surface { OnOk result (IsWatertight self.old.volume self.old.level) }
+    {
+        watertight(&self.volume, self.level);
         let Ok(mesh) = extract_flat(self.alloc, &self.volume, self.level) else {
             return Err(BenchFault::Memory);
         };
         let padded = self.volume.pad().is_some();
-        let written = write_mesh(shelf, name, &mut self.waiting, &mesh, padded);
+        let written = write_mesh(shelf, name, &mut self.waiting, &mesh, format, padded);
         self.waiting.clear();
         match written {
             Ok(written) => Ok(written),
             Err(Failed) => Err(BenchFault::ShelfFailed),
         }
+    }
+
+    /// Makes the name's file the volume without its pad, and says how many bytes it has. `ShelfFailed` comes only where
+    /// the shelf's count of faults rose; the file is then as before or a front of the text, and all other files are as
+    /// before. No memory is taken.
+    pub fn save<H: Shelf>(&self, shelf: &mut H, name: &str) -> Result<u64, BenchFault>
+        ensures file { WritesFile (H.seen shelf.old) (H.seen shelf.new) result name.now (save_text self.now) (length (save_text self.now)) }
+        ensures read_again { OnOk result (IsGrid (inner_grid self.now.volume) → nrrd_of (save_text self.now) ≡ Ok (inner_voxels self.now.volume, 0)) }
+        ensures no_memory { IsErrOf result BenchFault.Memory → ⊥ }
+    {
+        match write_volume(shelf, name, &self.volume) {
+            Ok(bytes) => Ok(bytes),
+            Err(Failed) => Err(BenchFault::ShelfFailed),
+        }
+    }
+
+    /// The contour lines of plane z = k, with stored coordinates; with a pad they go over the pad's ring too. They lie
+    /// in the mesh. The cost grows with the plane alone. Refused, in this order: `NoSuchPlane` exactly where k is not a
+    /// plane of the unpadded volume; `Memory`.
+    pub fn contour(&self, k: i64) -> Result<Contours, BenchFault>
+        ensures step { IsStep self.now self.now result (contour_step self.now k) }
+        ensures lines { IfOk result (λ c. c ≡ contour_of self.now k) }
+        ensures cut { OnOk result (IsSomeAnd (plane_of self.now.volume k) (IsCutOfMesh self.now.volume self.now.level)) }
+        ensures not_shelf { IsErrOf result BenchFault.ShelfFailed → ⊥ }
+    {
+        let Some(plane) = self.plane(k) else {
+            return Err(BenchFault::NoSuchPlane { k });
+        };
+        match plane_contours(self.alloc, &self.volume, self.level, plane) {
+            Ok(lines) => Ok(lines),
+            Err(Memory) => Err(BenchFault::Memory),
+        }
+    }
+
+    /// The numbers of the mesh, and of each of its components by its least vertex. `Memory` is its only refusal.
+    pub fn report(&self) -> Result<Report, BenchFault>
+        ensures step { IsStep self.now self.now result (Ok self.now) }
+        ensures numbers { IfOk result (λ r. r ≡ report_of self.now) }
+        ensures memory { IfErr result (λ fault. fault ≡ BenchFault.Memory) }
+        ensures not_shelf { IsErrOf result BenchFault.ShelfFailed → ⊥ }
+    {
+        match mesh_numbers(self.alloc, &self.volume, self.level) {
+            Ok(report) => Ok(report),
+            Err(Memory) => Err(BenchFault::Memory),
+        }
+    }
+
+    /// The stored plane of one that does not count the pad's layer.
+    fn plane(&self, k: i64) -> Option<u32>
+        ensures plane { result ≡ plane_of self.now.volume k }
+        ensures within { IfSome result (λ p. p < self.now.volume.grid.nz) }
+    {
+        stored_at(self.volume.sizes().nz(), layer_of(&self.volume), k)
     }
 
     /// The stored point of coordinates that do not count the pad's layer.
@@ -218,7 +320,7 @@ impl Bench {
         ensures inside { IfSome result (IsInside self.now.volume) }
     {
         let sizes = self.volume.sizes();
-        let layer = if self.volume.pad().is_some() { 1 } else { 0 };
+        let layer = layer_of(&self.volume);
         Some(Point {
             x: stored_at(sizes.nx(), layer, x)?,
             y: stored_at(sizes.ny(), layer, y)?,

@@ -3,14 +3,21 @@
 #![tactic(auto)]
 
 mod bench;
+mod contour;
 mod earlier;
 mod edits;
 mod fault;
 mod mesh_file;
+mod saved;
+mod summary;
+mod surface;
 
 pub use bench::Bench;
 pub use fault::BeginFault;
 pub use iso_base::{BenchFault, Written};
+pub use mesh_report::{Part, Report};
+pub use plane_contour::Contours;
+pub use surface::watertight;
 
 #[cfg(test)]
 mod tests;

@@ -1,8 +1,9 @@
-ghost use Rattle.std.specs.Prelude.{◌≡◌, ◌<◌, IfSome};
+ghost use Rattle.std.specs.Prelude.{◌≡◌, ◌<◌, IfSome, None};
 
-use crate::{Bench, BenchFault};
+use crate::{Bench, BenchFault, Part};
 use iso_base::{Level, Memory, SampleKind, Sizes, Steps, VoxelData, Written};
 use iso_io::MemShelf;
+use nrrd::read_volume;
 use std::alloc::Global;
 use std::marker::Brand;
 use std::process::Abort;
@@ -15,6 +16,13 @@ const NO_FACES: &str =
 
 const ONE_FACE: &str =
     "ply\nformat ascii 1.0\nelement vertex 3\nproperty float x\nproperty float y\nproperty float z\nelement face 1\nproperty list uchar int vertex_indices\nend_header\n0.500 0.000 0.000\n0.000 0.500 0.000\n0.000 0.000 0.500\n3 0 1 2\n";
+
+const ONE_FACE_OBJ: &str =
+    "v 0.500 0.000 0.000\nv 0.000 0.500 0.000\nv 0.000 0.000 0.500\nf 1 2 3\n";
+
+// Of 27 samples the one in the middle is 10, which is a line feed.
+const DOT: &str =
+    "NRRD0004\ntype: uint8\ndimension: 3\nsizes: 3 3 3\nencoding: raw\n\n\0\0\0\0\0\0\0\0\0\0\0\0\0\n\0\0\0\0\0\0\0\0\0\0\0\0\0";
 
 fn sizes() -> Option<Sizes>
     ensures { IfSome result (λ g. g ≡ record { nx = 2; ny = 2; nz = 2 }) }
@@ -90,7 +98,7 @@ fn write_meshes<L: Ledger>(rt: &impl Abort, alloc: Global, blank: Blank) -> Resu
     let mut steps = Steps::new(book, share);
     let mut bench = bench(alloc).ok_or("no bench")?;
     let failing = vec![in alloc; 4]?;
-    let mut shelf = MemShelf::new(alloc, 2, 256, failing).ok().ok_or("memory")?;
+    let mut shelf = MemShelf::new(alloc, 3, 256, failing).ok().ok_or("memory")?;
     let written = Written {
         vertices: 3,
         faces: 1,
@@ -103,6 +111,13 @@ fn write_meshes<L: Ledger>(rt: &impl Abort, alloc: Global, blank: Blank) -> Resu
         Err(BenchFault::ShelfFailed)
     );
     assert!(rt; holds(&shelf, "b", ""));
+    let lines = Written {
+        vertices: 3,
+        faces: 1,
+        bytes: 68,
+    };
+    assert_eq!(rt; bench.write_obj(&mut shelf, "c", &mut steps), Ok(lines));
+    assert!(rt; holds(&shelf, "c", ONE_FACE_OBJ));
     assert_eq!(rt; bench.level(11), Ok(()));
     bench.work(9, &mut steps);
     let nothing = Written {
@@ -119,4 +134,86 @@ fn write_meshes<L: Ledger>(rt: &impl Abort, alloc: Global, blank: Blank) -> Resu
 #[test]
 fn meshes_go_to_the_shelf(rt: HostRuntime) -> Result<(), Fail> {
     write_meshes::<Brand>(&rt, rt.alloc(), Blank::new(1))
+}
+
+fn dot(alloc: Global) -> Option<VoxelList>
+    ensures { IfSome result (λ v. v.pad ≡ None) }
+{
+    let (volume, _) = read_volume(alloc, DOT.as_bytes()).ok()?;
+    Some(VoxelList::of(volume))
+}
+
+/// A bench on three points along each axis, of which the one in the middle has the sample 10, at level 5.
+fn dot_bench(alloc: Global) -> Option<Bench> {
+    Bench::begin(alloc, dot(alloc)?, Level::new(5)?).ok()
+}
+
+/// The same with the pad 0 round it.
+fn padded_bench(alloc: Global) -> Option<Bench> {
+    let volume = dot(alloc)?.padded(alloc, 0).ok()?;
+    Bench::begin(alloc, volume, Level::new(5)?).ok()
+}
+
+#[test]
+fn volumes_go_to_the_shelf_without_their_pad(rt: HostRuntime) -> Result<(), Fail> {
+    let failing = vec![in rt.alloc(); 5]?;
+    let mut shelf = MemShelf::new(rt.alloc(), 2, 89, failing)
+        .ok()
+        .ok_or("memory")?;
+    let bench = dot_bench(rt.alloc()).ok_or("no bench")?;
+    assert!(rt; !bench.is_padded());
+    assert_eq!(rt; bench.save(&mut shelf, "a"), Ok(89));
+    assert!(rt; holds(&shelf, "a", DOT));
+    let padded = padded_bench(rt.alloc()).ok_or("no bench")?;
+    assert!(rt; padded.is_padded());
+    assert_eq!(rt; padded.save(&mut shelf, "b"), Err(BenchFault::ShelfFailed));
+    assert!(rt; holds(&shelf, "b", ""));
+    assert_eq!(rt; padded.save(&mut shelf, "b"), Ok(89));
+    assert!(rt; holds(&shelf, "b", DOT));
+    Ok(())
+}
+
+/// Plane 1 has one line: a cycle from (1, 0.5), and the planes off the volume are refused.
+fn check_middle(rt: &impl Abort, bench: &Bench, first: (i64, i64)) -> Result<(), Fail> {
+    let contours = bench.contour(1).ok().ok_or("no lines")?;
+    let lines = contours.lines();
+    assert_eq!(rt; lines.len(), 1);
+    assert!(rt; lines[0].cycle());
+    let points = lines[0].points();
+    assert_eq!(rt; points.len(), 4);
+    assert_eq!(rt; (points[0].1.0, points[0].2.0), first);
+    assert_eq!(rt;
+        bench.contour(3).err(),
+        Some(BenchFault::NoSuchPlane { k: 3 })
+    );
+    assert_eq!(rt;
+        bench.contour(-1).err(),
+        Some(BenchFault::NoSuchPlane { k: -1 })
+    );
+    Ok(())
+}
+
+#[test]
+fn the_mesh_round_the_middle_is_one_sphere(rt: HostRuntime) -> Result<(), Fail> {
+    let bench = dot_bench(rt.alloc()).ok_or("no bench")?;
+    let report = bench.report().ok().ok_or("no report")?;
+    let sphere = Part {
+        least: 0,
+        vertices: 6,
+        edges: 12,
+        faces: 8,
+        border: 0,
+        euler: 2,
+    };
+    assert_eq!(rt; *report.total(), sphere);
+    assert_eq!(rt; report.parts(), [sphere].as_slice());
+    Ok(())
+}
+
+#[test]
+fn the_middle_plane_has_one_line(rt: HostRuntime) -> Result<(), Fail> {
+    let bench = dot_bench(rt.alloc()).ok_or("no bench")?;
+    check_middle(&rt, &bench, (1000, 500))?;
+    let padded = padded_bench(rt.alloc()).ok_or("no bench")?;
+    check_middle(&rt, &padded, (2000, 1500))
 }

@@ -1,6 +1,7 @@
-use crate::{Command, FileName, LineFault, Reply, put_reply, read_line};
+use crate::{Command, FileName, LineFault, Reply, put_reply, put_report, read_line};
 use iso_base::{BenchFault, Written};
 use iso_io::MemSink;
+use mesh_report::Part;
 use std::test::Fail;
 
 fn set(line: &[u8]) -> Option<([i64; 3], i64)> {
@@ -26,10 +27,31 @@ fn amount(line: &[u8]) -> Option<i64> {
     }
 }
 
-fn has_name(line: &[u8], name: &str) -> bool {
+fn ply(line: &[u8], name: &str) -> bool {
     match read_line(line) {
         Ok(Some(Command::Ply { name: read })) => read.as_str() == name,
         _ => false,
+    }
+}
+
+fn obj(line: &[u8], name: &str) -> bool {
+    match read_line(line) {
+        Ok(Some(Command::Obj { name: read })) => read.as_str() == name,
+        _ => false,
+    }
+}
+
+fn save(line: &[u8], name: &str) -> bool {
+    match read_line(line) {
+        Ok(Some(Command::Save { name: read })) => read.as_str() == name,
+        _ => false,
+    }
+}
+
+fn contour(line: &[u8]) -> Option<i64> {
+    match read_line(line) {
+        Ok(Some(Command::Contour { k })) => Some(k),
+        _ => None,
     }
 }
 
@@ -57,11 +79,13 @@ fn lines_are_read(rt: HostRuntime) {
     );
     assert_eq!(rt; amount(b"level 8589934592"), Some(8_589_934_592));
     assert_eq!(rt; amount(b"work 999999999"), Some(999_999_999));
-    assert!(rt; has_name(b"ply a/b-1._Z", "a/b-1._Z"));
+    assert!(rt; ply(b"ply a/b-1._Z", "a/b-1._Z"));
+    assert!(rt; obj(b"obj a", "a") && save(b" save b.nrrd", "b.nrrd"));
+    assert_eq!(rt; contour(b"contour -1"), Some(-1));
     for line in [b"".as_slice(), b" \t ", b"# c", b"\t#set"] {
         assert!(rt; is_nothing(line));
     }
-    for line in [b"undo ".as_slice(), b"quit", b"  level 1"] {
+    for line in [b"undo ".as_slice(), b"quit", b"  level 1", b"report\t"] {
         assert!(rt; fault(line).is_none() && !is_nothing(line));
     }
 }
@@ -82,6 +106,14 @@ fn other_lines_are_refused(rt: HostRuntime) {
         b"ply -a",
         b"ply a b",
         b"ply a*",
+        b"obj",
+        b"obj a b",
+        b"save -a",
+        b"Save a",
+        b"contour",
+        b"contour 1 2",
+        b"contour k",
+        b"report 1",
         b"quit\r",
     ] {
         assert_eq!(rt; fault(line), Some(LineFault::Syntax));
@@ -113,6 +145,7 @@ fn replies_are_written(rt: HostRuntime) -> Result<(), Fail> {
     for reply in [
         Reply::Done,
         Reply::Meshed(written),
+        Reply::Saved { bytes: 89 },
         Reply::Refused(BenchFault::Memory),
         Reply::Line(LineFault::Syntax),
         Reply::Refused(BenchFault::Outside),
@@ -131,7 +164,55 @@ fn replies_are_written(rt: HostRuntime) -> Result<(), Fail> {
         assert!(rt; put_reply(&mut sink, &reply).is_ok());
     }
     let want =
-        "ok\nok vertices 6 faces 8 bytes 326\nerror 1 memory\nerror 2 syntax\nerror 3 outside\nerror 4 value 0 255\nerror 5 level\nerror 6 pad -1 0\nerror 7 nothing to undo\nerror 8 fill 2097152\nerror 9 shelf\nerror 10 line 4097\nerror 11 plane -2\n";
+        "ok\nok vertices 6 faces 8 bytes 326\nok bytes 89\nerror 1 memory\nerror 2 syntax\nerror 3 outside\nerror 4 value 0 255\nerror 5 level\nerror 6 pad -1 0\nerror 7 nothing to undo\nerror 8 fill 2097152\nerror 9 shelf\nerror 10 line 4097\nerror 11 plane -2\n";
     assert_eq!(rt; sink.bytes(), want.as_bytes());
+    Ok(())
+}
+
+#[test]
+fn a_report_is_written(rt: HostRuntime) -> Result<(), Fail> {
+    let part = Part {
+        least: 0,
+        vertices: 6,
+        edges: 12,
+        faces: 8,
+        border: 0,
+        euler: 2,
+    };
+    let many = Part {
+        least: 4_294_967_295,
+        vertices: 0,
+        edges: 18_446_744_073_709_551_615,
+        faces: 1,
+        border: 2,
+        euler: -9_223_372_036_854_775_808,
+    };
+    let mut sink = MemSink::new(rt.alloc(), 1000, Vec::new(rt.alloc()))
+        .ok()
+        .ok_or("memory")?;
+    assert!(rt; put_report(&mut sink, &part, &[part]).is_ok());
+    assert!(rt; put_report(&mut sink, &many, &[part, many]).is_ok());
+    let want =
+        "mesh vertices 6 edges 12 faces 8 border 0 euler 2 parts 1\npart 0 vertices 6 edges 12 faces 8 border 0 euler 2\nmesh vertices 0 edges 18446744073709551615 faces 1 border 2 euler -9223372036854775808 parts 2\npart 0 vertices 6 edges 12 faces 8 border 0 euler 2\npart 4294967295 vertices 0 edges 18446744073709551615 faces 1 border 2 euler -9223372036854775808\n";
+    assert_eq!(rt; sink.bytes(), want.as_bytes());
+    Ok(())
+}
+
+#[test]
+fn a_long_report_is_written_in_blocks(rt: HostRuntime) -> Result<(), Fail> {
+    let part = Part {
+        least: 7,
+        vertices: 0,
+        edges: 0,
+        faces: 0,
+        border: 0,
+        euler: 0,
+    };
+    let parts = vec![in rt.alloc(); part; 300]?;
+    let mut sink = MemSink::new(rt.alloc(), 20_000, vec![in rt.alloc(); 2]?)
+        .ok()
+        .ok_or("memory")?;
+    assert!(rt; put_report(&mut sink, &part, &parts).is_err());
+    assert_eq!(rt; sink.bytes().len(), 8_168);
     Ok(())
 }
