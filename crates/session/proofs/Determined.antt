@@ -1,18 +1,20 @@
 -- Lines and replies together determine the state.
 use Rattle.std.proofs.Common.{◌≡◌, inl, inr, ℕ, Bool, true, false, List, [], ◌∷◌, ◌++◌, Result, Ok, Err, MatchResult, refl, sym, ap, subst, ◌∙◌, codes}
-use Rattle.std.specs.Prelude.{Option, Some, None, bytes_eq}
+use Rattle.std.specs.Prelude.{Option, Some, None, bytes_eq, is_some}
 use Rattle.iso_base.specs.declared.fault.BenchFault.{BenchFault}
 use Rattle.iso_base.specs.declared.fault.BenchFault.TheVariants as faults
 use Rattle.iso_io.specs.Files.{Files}
 use Rattle.bench_core.specs.Machine.{State}
+use Rattle.bench_core.specs.Texts.{contour_of, report_of}
 use Rattle.script.specs.declared.command.Command.{Command}
-use Rattle.script.specs.declared.command.Command.TheVariants.{Set, Fill, Level, Undo, Work, Ply, Quit}
+use Rattle.script.specs.declared.command.Command.TheVariants.{Set, Fill, Level, Undo, Work, Ply, Obj, Save, Contour, Report, Quit}
 use Rattle.script.specs.Commands.{read_of}
 use Rattle.iso_defs.specs.Texts.{line}
-use Rattle.script.specs.Replies.{fault_text, written_text}
+use Rattle.script.specs.Replies.{fault_text, written_text, saved_text}
 use Rattle.session.specs.Lines.{Saying}
-use Rattle.session.specs.Table.{step_of, writes_of, says_of, Turn, after_writing}
+use Rattle.session.specs.Table.{step_of, writes_of, says_of, Turn, Shows, after_writing}
 use Rattle.session.specs.Following.{LineTurn, Followed}
+use Rattle.session.proofs.Running.{contours_apart, report_apart}
 
 -- the state after a command, by the machine's step and by whether memory was wanted
 abbrev by_step : State → Result State BenchFault → Bool → State
@@ -24,13 +26,17 @@ abbrev wants : List ℕ → Bool
 wants reply = bytes_eq reply (codes "error 1 memory\n")
 
 says_no_want : (s : State) (c : Command) → wants (says_of s c) ≡ false
-unfolding written_text
+unfolding written_text saved_text
 says_no_want s (Set at value) = refl
 says_no_want s (Fill corners value) = refl
 says_no_want s (Level value) = refl
 says_no_want s Undo = refl
 says_no_want s (Work n) = refl
 says_no_want s (Ply name) = refl
+says_no_want s (Obj name) = refl
+says_no_want s (Save name) = refl
+says_no_want s (Contour k) = contours_apart (is_some s.volume.pad) (contour_of s k) (codes "rror 1 memory\n")
+says_no_want s Report = report_apart (report_of s) (codes "rror 1 memory\n")
 says_no_want s Quit = refl
 
 memory_wants : wants (line (fault_text faults.Memory)) ≡ true
@@ -38,7 +44,7 @@ unfolding fault_text
 memory_wants = refl
 
 answers_by : (s : State) (f : Option Files) (c : Command) (r : List ℕ) (s' : State) (f' : Option Files) (step : Result State BenchFault)
-    → MatchResult step (λ next. (s' ≡ next) × (r ≡ says_of s c) × (f' ≡ after_writing (writes_of s c) f)) (λ fault. (s' ≡ s) × (r ≡ line (fault_text fault)) × (f' ≡ f)) → s' ≡ by_step s step (wants r)
+    → MatchResult step (λ next. (s' ≡ next) × (r ≡ says_of s c) × (f' ≡ after_writing (writes_of s c) f) × Shows s c) (λ fault. (s' ≡ s) × (r ≡ line (fault_text fault)) × (f' ≡ f)) → s' ≡ by_step s step (wants r)
 answers_by s f c r s' f' (Err fault) h = h.0
 answers_by s f c r s' f' (Ok next) h = h.0 ∙ ap (by_step s (Ok next)) (sym (says_no_want s c)) ∙ ap (λ (x : List ℕ). by_step s (Ok next) (wants x)) (sym h.1)
 
@@ -56,6 +62,10 @@ writing_stays s (Level value) file e = absurd (some_apart file e)
 writing_stays s Undo file e = absurd (some_apart file e)
 writing_stays s (Work n) file e = absurd (some_apart file e)
 writing_stays s (Ply name) file e = refl
+writing_stays s (Obj name) file e = refl
+writing_stays s (Save name) file e = refl
+writing_stays s (Contour k) file e = absurd (some_apart file e)
+writing_stays s Report file e = absurd (some_apart file e)
 writing_stays s Quit file e = absurd (some_apart file e)
 
 turn_state : (s : State) (f : Option Files) (c : Command) (r : List ℕ) (s' : State) (f' : Option Files) → Turn s f c r s' f' → s' ≡ by_step s (step_of s c) (wants r)

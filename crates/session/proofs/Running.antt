@@ -1,6 +1,6 @@
 -- Lines that are run one after another.
 use Rattle.std.proofs.Common.{◌≡◌, ℕ, ◌+◌, ◌≤◌, Bool, true, false, cond, List, [], ◌∷◌, ◌++◌, Ok, refl, sym, ap, subst, ◌∙◌, append_assoc, arith}
-use Rattle.std.specs.Prelude.{Option, None, not, ◌&&◌}
+use Rattle.std.specs.Prelude.{Option, None, not, ◌&&◌, bytes_eq, codes, decimal, if◌then◌else◌, length}
 use Rattle.std.proofs.lemmas.List.{append-nil}
 use Rattle.std.proofs.lemmas.List.Concat.{flat_map-append}
 use Rattle.iso_io.proofs.Known.{Appends-nil, Appends-trans}
@@ -12,7 +12,11 @@ use Rattle.iso_base.specs.declared.fault.BenchFault.{BenchFault}
 use Rattle.iso_base.specs.declared.fault.BenchFault.TheVariants as faults
 use Rattle.iso_base.specs.declared.fault.Written.{Written}
 use Rattle.iso_defs.specs.Texts.{line}
-use Rattle.script.specs.Replies.{fault_text, line_fault_text, written_text}
+use Rattle.plane_contour.specs.Points.{DrawnLine}
+use Rattle.plane_contour.specs.Texts.{contours_text, points_text}
+use Rattle.mesh_report.specs.Report.{Summary}
+use Rattle.session.specs.Table.{contour_reply, report_reply}
+use Rattle.script.specs.Replies.{fault_text, line_fault_text, written_text, saved_text}
 use Rattle.script.specs.Commands.{read_of}
 use Rattle.session.specs.Lines.{Saying, is_quit, has_no_quit}
 use Rattle.session.specs.Following.{LineTurn, Followed, World, Runs, Breaks, QuitsLast, joined, shelf_errors, is_shelf_error, CountsBy}
@@ -211,3 +215,26 @@ one_error text = one_or_none (is_shelf_error text)
 pub written_no_error : (w : Written) → shelf_errors (line (written_text w) ∷ []) ≡ 0
 unfolding written_text
 written_no_error w = refl
+
+pub saved_no_error : (n : ℕ) → shelf_errors (line (saved_text n) ∷ []) ≡ 0
+unfolding saved_text
+saved_no_error n = refl
+
+-- ---- replies that begin with other lines: none begins with an `e`
+
+line_apart : (cycle : Bool) (count points lines rest more : List ℕ) → bytes_eq ((line ((if cycle then codes "cycle " else codes "path ") ++ count) ++ points) ++ lines ++ rest) (101 ∷ more) ≡ false
+line_apart true count points lines rest more = refl
+line_apart false count points lines rest more = refl
+
+pub contours_apart : (padded : Bool) (ls : List DrawnLine) (more : List ℕ) → bytes_eq (contour_reply padded ls) (101 ∷ more) ≡ false
+contours_apart padded [] more = refl
+contours_apart padded (l ∷ ls) more = line_apart l.0 (decimal (length l.1)) (points_text padded l.1) (contours_text padded ls) (line (codes "ok")) more
+
+pub contours_no_error : (padded : Bool) (ls : List DrawnLine) → shelf_errors (contour_reply padded ls ∷ []) ≡ 0
+contours_no_error padded ls = ap (λ (b : Bool). cond b 1 0 + 0) (contours_apart padded ls (codes "rror 9 shelf\n"))
+
+pub report_apart : (r : Summary) (more : List ℕ) → bytes_eq (report_reply r) (101 ∷ more) ≡ false
+report_apart r more = refl
+
+pub report_no_error : (r : Summary) → shelf_errors (report_reply r ∷ []) ≡ 0
+report_no_error r = refl

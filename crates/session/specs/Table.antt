@@ -1,18 +1,23 @@
 -- The commands of a script on the machine's state.
-use Rattle.std.specs.Prelude.{◌≡◌, ◌⊎◌, ℕ, Bool, true, false, List, get_or, codes, Option, Some, None, Result, Ok, Err, MatchResult, ℤ, pos}
+use Rattle.std.specs.Prelude.{◌≡◌, ◌⊎◌, ℕ, Bool, true, false, List, ◌++◌, length, get_or, codes, is_some, Option, Some, None, Result, Ok, Err, MatchResult, ℤ, pos}
 use Rattle.iso_base.specs.declared.fault.BenchFault.{BenchFault}
 use Rattle.iso_base.specs.declared.fault.BenchFault.TheVariants as faults
 use Rattle.iso_io.specs.Files.{Files}
 use Rattle.iso_io.specs.Shelves.{with_file, FilesCut}
-use Rattle.bench_core.specs.Machine.{State, set_step, fill_step, level_step, undo_step}
-use Rattle.bench_core.specs.Texts.{ply_text, ply_written}
+use Rattle.bench_core.specs.Machine.{State, set_step, fill_step, level_step, undo_step, contour_step}
+use Rattle.bench_core.specs.Surface.{IsWatertight}
+use Rattle.bench_core.specs.Texts.{ply_text, ply_written, obj_text, obj_written, save_text, contour_of, report_of}
+use Rattle.plane_contour.specs.Points.{DrawnLine}
+use Rattle.plane_contour.specs.Texts.{contours_text}
+use Rattle.mesh_report.specs.Report.{Summary}
 use Rattle.script.specs.declared.command.Command.{Command}
-use Rattle.script.specs.declared.command.Command.TheVariants.{Set, Fill, Level, Undo, Work, Ply, Quit}
+use Rattle.script.specs.declared.command.Command.TheVariants.{Set, Fill, Level, Undo, Work, Ply, Obj, Save, Contour, Report, Quit}
 use Rattle.iso_base.specs.declared.fault.Written.{Written}
 use Rattle.script.specs.declared.reply.Reply.{Reply}
-use Rattle.script.specs.declared.reply.Reply.TheVariants.{Done, Meshed, Refused}
+use Rattle.script.specs.declared.reply.Reply.TheVariants.{Done, Meshed, Saved, Refused}
 use Rattle.iso_defs.specs.Texts.{line}
-use Rattle.script.specs.Replies.{fault_text, written_text}
+use Rattle.script.specs.Replies.{fault_text, written_text, saved_text}
+use Rattle.script.specs.Reports.{report_text}
 
 -- three numbers of a list, from this place on
 abbrev pub at_place : List ℤ → ℕ → ℕ → ℕ → ℤ × ℤ × ℤ
@@ -26,6 +31,10 @@ step_of s (Level value) = level_step s value
 step_of s Undo = undo_step s
 step_of s (Work n) = Ok s
 step_of s (Ply name) = Ok s
+step_of s (Obj name) = Ok s
+step_of s (Save name) = Ok s
+step_of s (Contour k) = contour_step s k
+step_of s Report = Ok s
 step_of s Quit = Ok s
 
 -- the file that a command writes, and its text
@@ -36,7 +45,19 @@ writes_of s (Level value) = None
 writes_of s Undo = None
 writes_of s (Work n) = None
 writes_of s (Ply name) = Some (name, ply_text s)
+writes_of s (Obj name) = Some (name, obj_text s)
+writes_of s (Save name) = Some (name, save_text s)
+writes_of s (Contour k) = None
+writes_of s Report = None
 writes_of s Quit = None
+
+-- contour lines, and then `ok`
+abbrev pub contour_reply : Bool → List DrawnLine → List ℕ
+contour_reply padded lines = contours_text padded lines ++ line (codes "ok")
+
+-- the lines of a report, and then `ok`
+abbrev pub report_reply : Summary → List ℕ
+report_reply report = report_text report.total report.parts ++ line (codes "ok")
 
 -- the reply to a command that is not refused
 abbrev pub says_of : State → Command → List ℕ
@@ -46,6 +67,10 @@ says_of s (Level value) = line (codes "ok")
 says_of s Undo = line (codes "ok")
 says_of s (Work n) = line (codes "ok")
 says_of s (Ply name) = line (written_text (ply_written s))
+says_of s (Obj name) = line (written_text (obj_written s))
+says_of s (Save name) = line (saved_text (length (save_text s)))
+says_of s (Contour k) = contour_reply (is_some s.volume.pad) (contour_of s k)
+says_of s Report = report_reply (report_of s)
 says_of s Quit = line (codes "ok")
 
 -- the commands that may want memory
@@ -56,16 +81,34 @@ may_want_memory (Level value) = true
 may_want_memory Undo = true
 may_want_memory (Work n) = false
 may_want_memory (Ply name) = true
+may_want_memory (Obj name) = true
+may_want_memory (Save name) = false
+may_want_memory (Contour k) = true
+may_want_memory Report = true
 may_want_memory Quit = false
 
 abbrev pub after_writing : Option (List ℕ × List ℕ) → Option Files → Option Files
 after_writing None files = files
 after_writing (Some file) files = with_file file.0 file.1 files
 
--- the machine's step
+-- the mesh that a command writes is watertight
+abbrev pub Shows : State → Command → Type 0
+Shows s (Set at value) = Unit {0}
+Shows s (Fill corners value) = Unit {0}
+Shows s (Level value) = Unit {0}
+Shows s Undo = Unit {0}
+Shows s (Work n) = Unit {0}
+Shows s (Ply name) = IsWatertight s.volume s.level
+Shows s (Obj name) = IsWatertight s.volume s.level
+Shows s (Save name) = Unit {0}
+Shows s (Contour k) = Unit {0}
+Shows s Report = Unit {0}
+Shows s Quit = Unit {0}
+
+-- the machine's step, and what a mesh that it writes is
 abbrev pub Answers : State → Option Files → Command → List ℕ → State → Option Files → Type 0
 Answers s files command reply s' files' = MatchResult (step_of s command)
-    (λ next. (s' ≡ next) × (reply ≡ says_of s command) × (files' ≡ after_writing (writes_of s command) files))
+    (λ next. (s' ≡ next) × (reply ≡ says_of s command) × (files' ≡ after_writing (writes_of s command) files) × Shows s command)
     (λ fault. (s' ≡ s) × (reply ≡ line (fault_text fault)) × (files' ≡ files))
 
 -- the step is not refused, but memory is wanted
@@ -90,11 +133,15 @@ pub record FailsToWrite (s : State) (files : Option Files) (command : Command) (
 abbrev pub Turn : State → Option Files → Command → List ℕ → State → Option Files → Type 0
 Turn s files command reply s' files' = Answers s files command reply s' files' ⊎ WantsMemory s files command reply s' files' ⊎ FailsToWrite s files command reply s' files'
 
--- what a change is answered, and what a written file is
+-- what is answered to a change, to a written mesh, and to a saved volume
 abbrev pub reply_to_change : Result (Unit {0}) BenchFault → Reply
 reply_to_change (Ok done) = Done
 reply_to_change (Err fault) = Refused fault
 
-abbrev pub reply_to_writing : Result Written BenchFault → Reply
-reply_to_writing (Ok written) = Meshed written
-reply_to_writing (Err fault) = Refused fault
+abbrev pub reply_to_mesh : Result Written BenchFault → Reply
+reply_to_mesh (Ok written) = Meshed written
+reply_to_mesh (Err fault) = Refused fault
+
+abbrev pub reply_to_save : Result ℕ BenchFault → Reply
+reply_to_save (Ok bytes) = Saved bytes
+reply_to_save (Err fault) = Refused fault

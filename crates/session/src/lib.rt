@@ -4,6 +4,7 @@
 //! line than its first 4,097 bytes, its length and its last byte.
 #![tactic(auto)]
 
+mod answer;
 mod ending;
 mod laws;
 mod pending;

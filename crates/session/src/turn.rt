@@ -1,54 +1,103 @@
 //! One line of a session: its effect, and then its reply.
-ghost use Rattle.std.specs.Prelude.{◌≡◌, ◌≤◌, List, ℕ, [], ◌∷◌, IsErrOf, IsOk};
-ghost use Rattle.bench_core.specs.Texts.{ply_text, ply_written, WritesFile};
-ghost use Rattle.session.specs.Table.{Turn, reply_to_change, reply_to_writing};
-ghost use Rattle.session.specs.Following.{shelf_errors, CountsBy};
+ghost use Rattle.std.specs.Prelude.{◌≡◌};
+ghost use Rattle.iso_io.specs.Shelves.{Store};
+ghost use Rattle.session.specs.Table.{reply_to_change, reply_to_mesh, reply_to_save};
+ghost use Rattle.session.specs.AnswerTexts.{answer_text};
+ghost use Rattle.session.specs.Following.{TakesTurn};
 ghost use Rattle.session.specs.Sessions.{RanLine, Told, quits_by};
-ghost use Rattle.script.specs.Replies.{reply_text};
 
+use crate::answer::{Answer, put_answer};
 use crate::session::After;
 use bench_core::{Bench, BenchFault, Written};
 use iso_base::Steps;
 use iso_io::{Failed, Shelf, Sink};
-use script::{Command, LineFault, Reply, put_reply};
+use script::{Command, LineFault, Reply};
 use std::sync::ledger::Ledger;
 
-/// The reply to a change.
-fn changed(made: Result<(), BenchFault>) -> Reply
-    requires { IsErrOf made BenchFault.ShelfFailed → ⊥ }
-    ensures reply { result ≡ reply_to_change made }
-    ensures none { shelf_errors (reply_text result ∷ []) ≡ 0 }
+/// The answer to a change.
+fn changed(made: Result<(), BenchFault>) -> Answer
+    ensures { result ≡ Answer.Line (reply_to_change made) }
 {
     match made {
-        Ok(()) => Reply::Done,
-        Err(fault) => Reply::Refused(fault),
+        Ok(()) => Answer::Line(Reply::Done),
+        Err(fault) => Answer::Line(Reply::Refused(fault)),
     }
 }
 
-/// The reply to the writing of a file.
-fn written(made: Result<Written, BenchFault>) -> Reply
-    ensures reply { result ≡ reply_to_writing made }
+/// The answer to the writing of a mesh.
+fn meshed(made: Result<Written, BenchFault>) -> Answer
+    ensures { result ≡ Answer.Line (reply_to_mesh made) }
 {
     match made {
-        Ok(written) => Reply::Meshed(written),
-        Err(fault) => Reply::Refused(fault),
+        Ok(written) => Answer::Line(Reply::Meshed(written)),
+        Err(fault) => Answer::Line(Reply::Refused(fault)),
     }
 }
 
-/// Writes the mesh to a file.
+/// The answer to the saving of a volume.
+fn saved(made: Result<u64, BenchFault>) -> Answer
+    ensures { result ≡ Answer.Line (reply_to_save made) }
+{
+    match made {
+        Ok(bytes) => Answer::Line(Reply::Saved { bytes }),
+        Err(fault) => Answer::Line(Reply::Refused(fault)),
+    }
+}
+
+/// Writes the mesh to a file as PLY.
 fn run_ply<H: Shelf, L: Ledger>(
     bench: &mut Bench,
     shelf: &mut H,
     steps: &mut Steps<L>,
     name: &str,
-) -> Reply
-    ensures state { bench.new ≡ bench.old }
+) -> Answer
     ensures counted { steps.new ≡ steps.old }
-    ensures turn { Turn bench.old (H.seen shelf.old).files (Command.Ply name.now) (reply_text result) bench.new (H.seen shelf.new).files }
-    ensures later { (H.seen shelf.old).faults ≤ (H.seen shelf.new).faults }
-    ensures errors { CountsBy (H.seen shelf.old).faults (H.seen shelf.new).faults (reply_text result ∷ []) }
+    ensures turn { TakesTurn bench.old (H.seen shelf.old) (Command.Ply name.now) (answer_text result) bench.new (H.seen shelf.new) }
 {
-    written(bench.write_ply(shelf, name, steps))
+    meshed(bench.write_ply(shelf, name, steps))
+}
+
+/// Writes the mesh to a file as OBJ.
+fn run_obj<H: Shelf, L: Ledger>(
+    bench: &mut Bench,
+    shelf: &mut H,
+    steps: &mut Steps<L>,
+    name: &str,
+) -> Answer
+    ensures counted { steps.new ≡ steps.old }
+    ensures turn { TakesTurn bench.old (H.seen shelf.old) (Command.Obj name.now) (answer_text result) bench.new (H.seen shelf.new) }
+{
+    meshed(bench.write_obj(shelf, name, steps))
+}
+
+/// Writes the volume to a file.
+fn run_save<H: Shelf>(bench: &Bench, shelf: &mut H, name: &str) -> Answer
+    ensures { TakesTurn bench.now (H.seen shelf.old) (Command.Save name.now) (answer_text result) bench.now (H.seen shelf.new) }
+{
+    saved(bench.save(shelf, name))
+}
+
+/// Draws the contour lines of a plane.
+fn run_contour(bench: &Bench, k: i64) -> Answer
+    ensures { (store : Store) → TakesTurn bench.now store (Command.Contour k) (answer_text result) bench.now store }
+{
+    match bench.contour(k) {
+        Ok(lines) => Answer::Contours {
+            lines,
+            padded: bench.is_padded(),
+        },
+        Err(fault) => Answer::Line(Reply::Refused(fault)),
+    }
+}
+
+/// Counts the parts of the mesh.
+fn run_report(bench: &Bench) -> Answer
+    ensures { (store : Store) → TakesTurn bench.now store Command.Report (answer_text result) bench.now store }
+{
+    match bench.report() {
+        Ok(report) => Answer::Report(report),
+        Err(fault) => Answer::Line(Reply::Refused(fault)),
+    }
 }
 
 /// Does what a command asks for.
@@ -57,11 +106,9 @@ fn run_command<H: Shelf, L: Ledger>(
     shelf: &mut H,
     steps: &mut Steps<L>,
     command: &Command,
-) -> Reply
+) -> Answer
     ensures counted { steps.new ≡ steps.old }
-    ensures turn { Turn bench.old (H.seen shelf.old).files command.now (reply_text result) bench.new (H.seen shelf.new).files }
-    ensures later { (H.seen shelf.old).faults ≤ (H.seen shelf.new).faults }
-    ensures errors { CountsBy (H.seen shelf.old).faults (H.seen shelf.new).faults (reply_text result ∷ []) }
+    ensures turn { TakesTurn bench.old (H.seen shelf.old) command.now (answer_text result) bench.new (H.seen shelf.new) }
 {
     match command {
         Command::Set { at, value } => changed(bench.set(at[0], at[1], at[2], *value)),
@@ -70,10 +117,14 @@ fn run_command<H: Shelf, L: Ledger>(
         Command::Undo => changed(bench.undo()),
         Command::Work { n } => {
             bench.work(*n, steps);
-            Reply::Done
+            Answer::Line(Reply::Done)
         }
         Command::Ply { name } => run_ply(bench, shelf, steps, name.as_str()),
-        Command::Quit => Reply::Done,
+        Command::Obj { name } => run_obj(bench, shelf, steps, name.as_str()),
+        Command::Save { name } => run_save(bench, shelf, name.as_str()),
+        Command::Contour { k } => run_contour(bench, *k),
+        Command::Report => run_report(bench),
+        Command::Quit => Answer::Line(Reply::Done),
     }
 }
 
@@ -83,11 +134,11 @@ fn quits(command: &Command) -> bool
     matches!(command, Command::Quit)
 }
 
-/// Writes a reply.
-fn tell<K: Sink>(output: &mut K, reply: Reply, quits: bool) -> After
-    ensures { Told (K.seen output.old) (K.seen output.new) (reply_text reply) quits result }
+/// Writes an answer.
+fn tell<K: Sink>(output: &mut K, answer: &Answer, quits: bool) -> After
+    ensures { Told (K.seen output.old) (K.seen output.new) (answer_text answer.now) quits result }
 {
-    match put_reply(output, &reply) {
+    match put_answer(output, answer) {
         Ok(()) if quits => After::Quit,
         Ok(()) => After::On,
         Err(Failed) => After::Fault,
@@ -109,9 +160,9 @@ pub fn run_line<K: Sink, H: Shelf, L: Ledger>(
     match says {
         Ok(None) => After::On,
         Ok(Some(command)) => {
-            let reply = run_command(bench, shelf, steps, &command);
-            tell(output, reply, quits(&command))
+            let answer = run_command(bench, shelf, steps, &command);
+            tell(output, &answer, quits(&command))
         }
-        Err(fault) => tell(output, Reply::Line(fault), false),
+        Err(fault) => tell(output, &Answer::Line(Reply::Line(fault)), false),
     }
 }
