@@ -1,0 +1,131 @@
+-- What the words of a command line ask for.
+use Rattle.std.specs.Prelude.{◌^◌, ◌&&◌, nat_lt, int_le, if◌then◌else◌, ℕ, Bool, true, false, List, [], ◌∷◌, codes, bytes_eq, Option, Some, None, ℤ, pos, negsuc, unsigned_abs, IfSome}
+use Rattle.std.specs.Option.{option_map, option_and_then}
+use Rattle.text_lines.specs.Numbers.{number_of}
+use Rattle.script.specs.Names.{is_name}
+use Rattle.iso_base.specs.Samples.{IsSample}
+use Rattle.script.specs.Commands.{◌>>=◌}
+use Rattle.command_words.specs.Options.{only_options, plain_words, values}
+use Rattle.mesh_text.specs.declared.format.MeshFormat.{MeshFormat}
+use Rattle.mesh_text.specs.declared.format.MeshFormat.TheVariants.{Ply, Obj}
+use Rattle.command_words.specs.declared.request.Request.{Request}
+use Rattle.command_words.specs.declared.request.Request.TheVariants.{Points, Extract, Session, Check}
+
+-- ---- values
+
+-- a number of absolute value below 2^33
+abbrev pub as_level : ℤ → Option ℤ
+as_level z = if nat_lt (unsigned_abs z) (2 ^ 33) then Some z else None
+
+abbrev pub level_value : List ℕ → Option ℤ
+level_value text = option_and_then as_level (number_of text)
+
+-- a number from -2^31 to 2^32 - 1
+abbrev pub as_pad : ℤ → Option ℤ
+as_pad z = if int_le (negsuc 2147483647) z && int_le z (pos 4294967295) then Some z else None
+
+abbrev pub pad_value : List ℕ → Option ℤ
+pad_value text = option_and_then as_pad (number_of text)
+
+-- `ply` or `obj`
+abbrev pub format_value : List ℕ → Option MeshFormat
+format_value text = if bytes_eq text (codes "ply") then Some Ply else if bytes_eq text (codes "obj") then Some Obj else None
+
+-- the name of a file
+abbrev pub name_value : List ℕ → Option (List ℕ)
+name_value text = if is_name text then Some text else None
+
+-- ---- how often
+
+-- the value of the only text, which must be there
+abbrev pub the_only : {A : Type 0} → (List ℕ → Option A) → List (List ℕ) → Option A
+the_only value [] = None
+the_only value (text ∷ []) = value text
+the_only value (text ∷ other ∷ texts) = None
+
+-- the value of the only text, or of none
+abbrev pub at_most_one : {A : Type 0} → A → (List ℕ → Option A) → List (List ℕ) → Option A
+at_most_one none value [] = Some none
+at_most_one none value (text ∷ []) = value text
+at_most_one none value (text ∷ other ∷ texts) = None
+
+-- whether there is none
+abbrev pub is_empty : List (List ℕ) → Bool
+is_empty [] = true
+is_empty (text ∷ texts) = false
+
+-- ---- options
+
+abbrev pub level_option : List ℕ
+level_option = codes "--level="
+
+abbrev pub pad_option : List ℕ
+pad_option = codes "--pad="
+
+abbrev pub format_option : List ℕ
+format_option = codes "--format="
+
+-- the level is required
+abbrev pub level_in : List (List ℕ) → Option ℤ
+level_in words = the_only level_value (values level_option words)
+
+-- without its option there is no pad
+abbrev pub pad_in : List (List ℕ) → Option (Option ℤ)
+pad_in words = at_most_one None (λ text. option_map Some (pad_value text)) (values pad_option words)
+
+-- without its option the form is PLY
+abbrev pub format_in : List (List ℕ) → Option MeshFormat
+format_in words = at_most_one Ply format_value (values format_option words)
+
+-- ---- commands, by the words that follow
+
+-- `points --level=V`
+unfoldable pub points_of : List (List ℕ) → Option Request
+points_of words =
+    if only_options (level_option ∷ []) words && is_empty (plain_words words)
+    then option_map Points (level_in words) else None
+
+-- `extract --level=V [--pad=P] [--format=F]`
+abbrev pub extract_by : List (List ℕ) → Option Request
+extract_by words = do
+  level ← level_in words
+  pad ← pad_in words
+  format ← format_in words
+  Some (Extract level pad format)
+
+unfoldable pub extract_of : List (List ℕ) → Option Request
+extract_of words =
+    if only_options (level_option ∷ pad_option ∷ format_option ∷ []) words && is_empty (plain_words words)
+    then extract_by words else None
+
+-- `session --level=V [--pad=P] NAME`
+abbrev pub session_by : List (List ℕ) → Option Request
+session_by words = do
+  name ← the_only name_value (plain_words words)
+  level ← level_in words
+  pad ← pad_in words
+  Some (Session level pad name)
+
+unfoldable pub session_of : List (List ℕ) → Option Request
+session_of words = if only_options (level_option ∷ pad_option ∷ []) words then session_by words else None
+
+-- `check FORMAT`
+unfoldable pub check_of : List (List ℕ) → Option Request
+check_of words = if only_options [] words then option_map Check (the_only format_value (plain_words words)) else None
+
+-- the request of a whole command line, by its first word
+unfoldable pub request_of : List (List ℕ) → Option Request
+request_of [] = None
+request_of (command ∷ words) =
+    if bytes_eq command (codes "points") then points_of words else
+    if bytes_eq command (codes "extract") then extract_of words else
+    if bytes_eq command (codes "session") then session_of words else
+    if bytes_eq command (codes "check") then check_of words else
+    None
+
+-- a pad that is asked for lies in the range of a sample
+abbrev pub HasSamplePad : Request → Type 0
+HasSamplePad (Points level) = Unit {0}
+HasSamplePad (Extract level pad format) = IfSome pad IsSample
+HasSamplePad (Session level pad name) = IfSome pad IsSample
+HasSamplePad (Check format) = Unit {0}

@@ -1,0 +1,28 @@
+use iso_base::Level;
+use mesh_text::MeshFormat;
+use script::FileName;
+
+/// What the program is asked to do. A pad is a sample that is put round the volume.
+#[derive(Drop)]
+pub enum Request {
+    /// The points at which the surface crosses lattice edges.
+    Points {
+        level: Level,
+    },
+    /// The mesh.
+    Extract {
+        level: Level,
+        pad: Option<i64>,
+        format: MeshFormat,
+    },
+    /// The lines of a script, over the volume in the shelf's file of this name.
+    Session {
+        level: Level,
+        pad: Option<i64>,
+        name: FileName,
+    },
+    /// The verdict on a mesh in this form.
+    Check {
+        format: MeshFormat,
+    },
+}

@@ -1,0 +1,5 @@
+pub mod Status
+pub mod Parts
+pub mod Notes
+pub mod Verdicts
+pub mod Tries

@@ -1,0 +1,72 @@
+//! The parts of a line: words and numbers. A line has at most 128 bytes.
+
+ghost use Rattle.std.specs.Prelude.{◌≡◌, ◌+◌, ◌≤◌, ◌++◌, length, decimal};
+ghost use Rattle.std.specs.Fmt.{signed_decimal};
+ghost use Rattle.arrayvec.specs.ArrayString.{array_string_len};
+ghost use Rattle.endings.specs.Parts.{counted, counted_twice, signed_twice};
+
+use arrayvec::ArrayString;
+use itoa::Buffer;
+
+fn put_number(n: u64, into: &mut ArrayString<128>)
+    requires room { array_string_len into.old + 40 ≤ 128 }
+    ensures text { into.new.bytes ≡ into.old.bytes ++ decimal n }
+    ensures room { array_string_len into.new ≤ array_string_len into.old + 20 }
+{
+    let mut buffer = Buffer::new();
+    into.push_str(buffer.format(n));
+}
+
+fn put_signed(n: i64, into: &mut ArrayString<128>)
+    requires room { array_string_len into.old + 40 ≤ 128 }
+    ensures text { into.new.bytes ≡ into.old.bytes ++ signed_decimal n }
+    ensures room { array_string_len into.new ≤ array_string_len into.old + 40 }
+{
+    let mut buffer = Buffer::new();
+    into.push_str(buffer.format(n));
+}
+
+/// Appends words and a number.
+pub fn put_counted(words: &str, n: u64, into: &mut ArrayString<128>)
+    requires room { array_string_len into.old + length words.now ≤ 60 }
+    ensures text { into.new.bytes ≡ into.old.bytes ++ counted words.now n }
+    ensures room { array_string_len into.new ≤ 80 }
+{
+    into.push_str(words);
+    put_number(n, into);
+}
+
+/// Appends words and two numbers.
+pub fn put_counted_twice(words: &str, first: u64, second: u64, into: &mut ArrayString<128>)
+    requires room { array_string_len into.old + length words.now ≤ 60 }
+    ensures text { into.new.bytes ≡ into.old.bytes ++ counted_twice words.now first second }
+    ensures room { array_string_len into.new ≤ 101 }
+{
+    into.push_str(words);
+    put_number(first, into);
+    into.push(' ');
+    put_number(second, into);
+}
+
+/// Appends words and two numbers that may be negative.
+pub fn put_signed_twice(words: &str, first: i64, second: i64, into: &mut ArrayString<128>)
+    requires room { array_string_len into.old + length words.now ≤ 40 }
+    ensures text { into.new.bytes ≡ into.old.bytes ++ signed_twice words.now first second }
+    ensures room { array_string_len into.new ≤ 121 }
+{
+    into.push_str(words);
+    put_signed(first, into);
+    into.push(' ');
+    put_signed(second, into);
+}
+
+/// Appends words and a name.
+pub fn put_named(words: &str, name: &str, into: &mut ArrayString<128>)
+    requires room { array_string_len into.old + length words.now ≤ 60 }
+    requires name { length name.now ≤ 20 }
+    ensures text { into.new.bytes ≡ into.old.bytes ++ (words.now ++ name.now) }
+    ensures room { array_string_len into.new ≤ 80 }
+{
+    into.push_str(words);
+    into.push_str(name);
+}
