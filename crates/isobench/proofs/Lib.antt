@@ -1,5 +1,8 @@
-pub mod Prefixes
-pub mod Ending
+pub mod Told
+pub mod ReadVolumes
+pub mod Texts
+pub mod Few
+pub mod Openings
 pub mod Completing
-pub mod Volumes
-pub mod MeshTexts
+pub mod Headline
+pub mod Reasons

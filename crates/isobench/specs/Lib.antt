@@ -1,4 +1,8 @@
-pub mod Output
-pub mod Words
-pub mod Notes
+pub mod Volumes
+pub mod Meaning
 pub mod Outcome
+pub mod Sessions
+pub mod Checks
+pub mod Headline
+pub mod Causes
+pub mod Serving

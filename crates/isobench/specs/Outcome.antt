@@ -1,99 +1,59 @@
--- What a call of the program does to its input, output and notes, and by which answer it ends.
-use Rattle.std.specs.Prelude.{◌≡◌, ◌⊎◌, ℕ, ◌<◌, ◌≤◌, List, length, MatchOption, IfSome, ℤ}
+-- What a call of the program does to the outside, and by which answer it ends.
+use Rattle.std.specs.Prelude.{◌≡◌, ◌⊎◌, ℕ, ◌<◌, ◌≤◌, List, length, Option, None, Result, Ok, Err, IfSome}
 use Rattle.std.specs.Io.KnownBytes.{Appends, Keeps, IsAtEnd}
-use Rattle.iso_base.specs.Volume.{Voxels}
 use Rattle.iso_io.specs.Causes.{Rose}
 use Rattle.iso_io.specs.Seen.{Feed, Tape, AppendsFront}
-use Rattle.nrrd.specs.Plain.{IsPlain, IsNotPlain}
-use Rattle.nrrd.specs.declared.fault.NrrdFault.{NrrdFault}
-use Rattle.nrrd.specs.declared.fault.NrrdFault.TheVariants as faults
-use Rattle.isobench.specs.Output.{points_of, mesh_text_of}
-use Rattle.isobench.specs.Words.{request_of}
-use Rattle.isobench.specs.declared.words.Request.{Request}
-use Rattle.isobench.specs.declared.words.Request.TheVariants as requests
-use Rattle.isobench.specs.declared.answer.Answer.{Answer}
-use Rattle.isobench.specs.declared.answer.Answer.TheVariants as answers
+use Rattle.iso_io.specs.Shelves.{Store}
+use Rattle.bench_core.specs.Machine.{State}
+use Rattle.isobench.specs.Volumes.{volume_limit}
+use Rattle.endings.specs.declared.answer.VolumeFault.{VolumeFault}
+use Rattle.endings.specs.declared.answer.Answer.{Answer}
+use Rattle.endings.specs.declared.answer.Answer.TheVariants as answers
 
--- the most bytes of a volume file
-abbrev pub volume_limit : ℕ
-volume_limit = 640065536
-
--- what the outside is seen as before the call and after it
-pub record Call : Type 0 where
+-- what the input and the output are seen as before a call and after it
+pub record Streams : Type 0 where
   pub input : Feed
   pub input_after : Feed
   pub output : Tape
   pub output_after : Tape
 
+-- and the shelf, and the bench that is left
+pub record Call : Type 0 where
+  pub streams : Streams
+  pub store : Store
+  pub store_after : Store
+  pub left : Option State
+
 -- the input was read to its end, and has no more than this many bytes
-pub record ReadWhole (limit : ℕ) (call : Call) : Type 0 where
+pub record ReadWhole (limit : ℕ) (call : Streams) : Type 0 where
   pub ended : IsAtEnd call.input_after.left
   pub within : IfSome call.input.left (λ bytes. length bytes ≤ limit)
 
-abbrev pub NothingWritten : Call → Type 0
+abbrev pub NothingWritten : Streams → Type 0
 NothingWritten call = Keeps call.output.taken call.output_after.taken
 
--- A command that reads its whole input and then writes. Gives tells which text an input gives, Refuses why it gives none.
-abbrev pub Converts : ℕ → (List ℕ → List ℕ → Type 0) → (List ℕ → NrrdFault → Type 0) → Call → Answer → Type 0
-Converts limit Gives Refuses call answers.Done = (text : List ℕ) × ReadWhole limit call × IfSome call.input.left (λ bytes. Gives bytes text) × Appends call.output.taken call.output_after.taken text
-Converts limit Gives Refuses call answers.BadWords = ⊥
-Converts limit Gives Refuses call (answers.BadVolume fault) = ReadWhole limit call × IfSome call.input.left (λ bytes. Refuses bytes fault) × NothingWritten call
-Converts limit Gives Refuses call answers.InputFault = Rose call.input.faults call.input_after.faults × NothingWritten call
-Converts limit Gives Refuses call answers.InputTooLong = IfSome call.input.left (λ bytes. limit < length bytes) × NothingWritten call
-Converts limit Gives Refuses call answers.OutputFault = (text : List ℕ) × ReadWhole limit call × IfSome call.input.left (λ bytes. Gives bytes text)
+-- the shelf was not touched, and no bench is left
+pub record LeavesShelf (call : Call) : Type 0 where
+  pub same : call.store_after ≡ call.store
+  pub none : call.left ≡ None
+
+-- A command that reads a volume from its input and then writes. `given` is the text that an input gives, or why it gives none.
+abbrev pub Converts : (List ℕ → Result (List ℕ) VolumeFault) → Streams → Answer → Type 0
+Converts given call answers.Done = (text : List ℕ) × ReadWhole volume_limit call × IfSome call.input.left (λ bytes. given bytes ≡ Ok text) × Appends call.output.taken call.output_after.taken text
+Converts given call answers.MeshRefused = ⊥
+Converts given call answers.BadWords = ⊥
+Converts given call (answers.BadVolume fault) = ReadWhole volume_limit call × IfSome call.input.left (λ bytes. given bytes ≡ Err fault) × NothingWritten call
+Converts given call answers.InputFault = Rose call.input.faults call.input_after.faults × NothingWritten call
+Converts given call answers.InputTooLong = IfSome call.input.left (λ bytes. volume_limit < length bytes) × NothingWritten call
+Converts given call answers.OutputFault = (text : List ℕ) × ReadWhole volume_limit call × IfSome call.input.left (λ bytes. given bytes ≡ Ok text)
     × Rose call.output.faults call.output_after.faults × AppendsFront call.output.taken call.output_after.taken text
-Converts limit Gives Refuses call answers.Memory = NothingWritten call
+Converts given call answers.Memory = NothingWritten call
+Converts given call answers.ShelfFault = ⊥
+Converts given call (answers.BadMesh fault) = ⊥
 
--- the bytes hold a volume, and this is the text of its crossing edges
-abbrev pub GivesPoints : ℤ → List ℕ → List ℕ → Type 0
-GivesPoints level bytes text = (v : Voxels) × (surplus : ℕ) × IsPlain bytes v surplus × (text ≡ points_of v level)
-
--- the bytes hold a volume, and this is the text of its mesh
-abbrev pub GivesMesh : ℤ → List ℕ → List ℕ → Type 0
-GivesMesh level bytes text = (v : Voxels) × (surplus : ℕ) × IsPlain bytes v surplus × (text ≡ mesh_text_of v level)
-
--- which text a command gives for an input
-abbrev pub Gives : Request → List ℕ → List ℕ → Type 0
-Gives (requests.Points level) bytes text = GivesPoints level bytes text
-Gives (requests.Extract level) bytes text = GivesMesh level bytes text
-
--- the bytes hold no volume, for this reason
-abbrev pub RefusesVolume : List ℕ → NrrdFault → Type 0
-RefusesVolume bytes faults.NotPlain = IsNotPlain bytes
-RefusesVolume bytes faults.Memory = ⊥
-
--- each command by its own meaning
-abbrev pub Serves : Request → Call → Answer → Type 0
-Serves (requests.Points level) call answer = Converts volume_limit (GivesPoints level) RefusesVolume call answer
-Serves (requests.Extract level) call answer = Converts volume_limit (GivesMesh level) RefusesVolume call answer
-
--- what is no command line is refused, and nothing is read
+-- what is no command line is refused, and nothing is read, written or left
 pub record Rejects (call : Call) (answer : Answer) : Type 0 where
   pub answer_is : answer ≡ answers.BadWords
-  pub nothing_read : call.input_after ≡ call.input
-  pub nothing_written : call.output_after ≡ call.output
-
-abbrev pub Ends : List (List ℕ) → Call → Answer → Type 0
-Ends words call answer = MatchOption (request_of words) (Rejects call answer) (λ request. Serves request call answer)
-
--- the text was appended, or the count rose and a front of it was
-pub record Tries (old new : Tape) (text : List ℕ) : Type 0 where
-  pub gained : Appends old.taken new.taken text ⊎ (Rose old.faults new.faults × AppendsFront old.taken new.taken text)
-  pub beside : new.beside ≡ old.beside
-  pub later : old.faults ≤ new.faults
-
--- the whole input was read, and it is this volume
-pub record HoldsVolume (old new : Feed) (v : Voxels) : Type 0 where
-  pub ended : IsAtEnd new.left
-  pub within : IfSome old.left (λ bytes. length bytes ≤ volume_limit)
-  pub whole : IfSome old.left (λ bytes. (surplus : ℕ) × IsPlain bytes v surplus)
-
--- why there is no volume in the input
-abbrev pub HoldsNone : Feed → Feed → Answer → Type 0
-HoldsNone old new answers.Done = ⊥
-HoldsNone old new answers.BadWords = ⊥
-HoldsNone old new (answers.BadVolume fault) = IsAtEnd new.left × IfSome old.left (λ bytes. length bytes ≤ volume_limit) × IfSome old.left (λ bytes. RefusesVolume bytes fault)
-HoldsNone old new answers.InputFault = Rose old.faults new.faults
-HoldsNone old new answers.InputTooLong = IfSome old.left (λ bytes. volume_limit < length bytes)
-HoldsNone old new answers.OutputFault = ⊥
-HoldsNone old new answers.Memory = Unit {0}
+  pub nothing_read : call.streams.input_after ≡ call.streams.input
+  pub nothing_written : call.streams.output_after ≡ call.streams.output
+  pub shelf : LeavesShelf call

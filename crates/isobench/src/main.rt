@@ -1,19 +1,25 @@
 //! An isosurface workbench.
 #![tactic(auto)]
 
-mod answer;
+ghost use Rattle.std.specs.Prelude.{◌≡◌, ◌<◌};
+
+mod checks;
 mod meshes;
 mod points;
 mod run;
+mod sessions;
 #[cfg(test)]
 mod tests;
-mod words;
+mod volumes;
 
-use answer::Status;
-use iso_io::{StdSink, StdSource};
+use endings::Status;
+use iso_base::Steps;
+use iso_io::{FileShelf, StdSink, StdSource};
 use std::alloc::AllocError;
 use std::env;
+use std::marker::Brand;
 use std::process::ExitCode;
+use std::sync::ledger::{Blank, Ledger};
 
 /// The words after the program's name. Arguments that are no text are taken as none.
 fn given_words(rt: &HostRuntime) -> Result<Vec<String>, AllocError> {
@@ -23,14 +29,32 @@ fn given_words(rt: &HostRuntime) -> Result<Vec<String>, AllocError> {
     }
 }
 
-fn main(rt: HostRuntime) -> ExitCode {
-    let alloc = rt.alloc();
-    let Ok(words) = given_words(&rt) else {
-        return ExitCode::from(Status::Memory.number());
-    };
+/// Runs the words over the standard streams and the files of the system.
+fn run_words<L: Ledger>(rt: &HostRuntime, blank: Blank, words: &[String]) -> Status
+    requires name { blank.name ≡ L.name }
+    requires parts { blank.parts ≡ L.parts }
+    requires some { 0 < blank.parts }
+{
+    let (book, share) = blank.open::<L>();
     let mut input = StdSource::new(rt.stdin());
     let mut output = StdSink::new(rt.stdout());
     let mut notes = StdSink::new(rt.stderr());
-    let status = run::run(alloc, &words, &mut input, &mut output, &mut notes);
+    run::run(
+        rt.alloc(),
+        words,
+        &mut input,
+        &mut output,
+        &mut notes,
+        &mut FileShelf::new(rt),
+        &mut None,
+        &mut Steps::new(book, share),
+    )
+}
+
+fn main(rt: HostRuntime) -> ExitCode {
+    let status = match given_words(&rt) {
+        Ok(words) => run_words::<Brand>(&rt, Blank::new(1), &words),
+        Err(_) => Status::Memory,
+    };
     ExitCode::from(status.number())
 }
