@@ -147,3 +147,18 @@ pub stages_unwritten : {T U V E E' : Type 0} (t0 t1 t2 : Tape) (x : U) (e : E) (
 stages_unwritten {V = V} t0 t1 t2 x e e' w1 text s p =
     let h = stages_written {T = V} t0 t1 t2 x (Err e) w1 text s p in
     record { gained = h.gained; beside = h.beside; cause = record { later = h.cause.later; failed = h.cause.failed } }
+
+-- the rest of a text begins behind what waits
+pub staged_first : (t : Tape) (waiting text : List ℕ) → HasStaged t t (waiting ++ text) waiting text
+staged_first t waiting text = record { front = []; parts = refl; gained = Appends-nil t.taken; beside = refl; later = omega arith }
+
+-- all of it was gathered, behind what waited before
+pub staged_whole : {T E : Type 0} (old new : Tape) (waiting after text : List ℕ) (x : T) → HasStaged old new (waiting ++ text) after [] → Stages {E = E} old new waiting after (Ok x) text
+staged_whole old new waiting after text x h =
+    record { gained = (h.front, h.parts ∙ ap (λ (l : List ℕ). h.front ++ l) (append-nil after), h.gained); beside = h.beside; cause = record { later = h.later; failed = tt } }
+
+-- a piece of it was not
+pub staged_front : {T T' E E' : Type 0} (old mid new : Tape) (before text waiting after after' piece rest : List ℕ) (e : E) (e' : E') → HasStaged old mid (before ++ text) waiting (piece ++ rest) → Stages {T = T'} mid new waiting after (Err e) piece → Stages {T = T} old new before after' (Err e') text
+staged_front {T = T} {E' = E'} old mid new before text waiting after after' piece rest e e' h s =
+    let p = staged_not {T = T} {E' = E'} old mid new (before ++ text) waiting after piece rest e e' h s in
+    record { gained = p.gained; beside = p.beside; cause = p.cause }

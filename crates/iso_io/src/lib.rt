@@ -23,7 +23,7 @@ pub use shelf::{Shelf, ShelfError};
 pub use shelf_file::ShelfFile;
 pub use sink::{Sink, write_all_of};
 pub use source::{ReadFault, Source, read_all_of};
-pub use staged::stage;
+pub use staged::{LINES, gather, stage};
 pub use standard::{StdSink, StdSource};
 
 /// A call of the outside failed, and its count of faults rose.

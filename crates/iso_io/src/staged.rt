@@ -1,10 +1,11 @@
 //! Small texts gathered into larger writes.
 
-ghost use Rattle.std.specs.Prelude.{◌≡◌, ◌++◌, IsTrue, false};
+ghost use Rattle.std.specs.Prelude.{◌≡◌, ◌≤◌, ◌++◌, length, IsTrue, false};
 ghost use Rattle.iso_io.specs.Seen.{Puts, Stages};
 
 use crate::Failed;
 use crate::sink::{Sink, write_all_of};
+use arrayvec::ArrayString;
 
 /// So many bytes are written at once: a write of the system costs as much as thousands of bytes.
 const BLOCK: usize = 32_768;
@@ -41,4 +42,27 @@ pub fn stage<K: Sink>(sink: &mut K, waiting: &mut Vec<u8>, bytes: &[u8]) -> Resu
         return Ok(());
     }
     write_waiting(sink, waiting, bytes)
+}
+
+/// The most bytes that wait where no memory is taken for them.
+pub const LINES: usize = 8_192;
+
+/// Puts a line behind those that wait in a block, and first writes these where there is no room for it. The caller
+/// writes what waits at the end. No memory is taken. After `Failed` the sink has taken a front of what waited and the line.
+pub fn gather<K: Sink>(
+    sink: &mut K,
+    waiting: &mut ArrayString<LINES>,
+    line: &str,
+) -> Result<(), Failed>
+    requires { length line.now ≤ 8192 }
+    ensures { Stages (K.seen sink.old) (K.seen sink.new) waiting.old.bytes waiting.new.bytes result line.now }
+{
+    if line.len() <= waiting.remaining_capacity() {
+        waiting.push_str(line);
+        return Ok(());
+    }
+    write_all_of(sink, waiting.as_str().as_bytes())?;
+    waiting.clear();
+    waiting.push_str(line);
+    Ok(())
 }

@@ -1,8 +1,9 @@
 -- Texts of contour lines, in pieces.
-use Rattle.std.proofs.Common.{◌≡◌, ℕ, zero, suc, ◌+◌, ◌<◌, Bool, List, [], ◌∷◌, ◌++◌, length, take, drop, get_or, sym, ap, ◌∙◌, subst, arith, All}
-use Rattle.std.proofs.lemmas.List.{drop_more, take-append-drop}
+use Rattle.std.proofs.Common.{◌≡◌, ℕ, zero, suc, ◌+◌, ◌<◌, Bool, List, [], ◌∷◌, ◌++◌, length, drop, get_or, sym, ap, ◌∙◌, subst, arith, All}
+use Rattle.std.proofs.lemmas.List.{at_drop_more, drop_more}
 use Rattle.std.proofs.lemmas.List.Elements.{All-append}
-use Rattle.plane_laws.proofs.Scan.{flat_append}
+use Rattle.iso_io.specs.Seen.{Tape}
+use Rattle.iso_io.proofs.Staging.{HasStaged}
 use Rattle.plane_contour.specs.Points.{DrawnLine, IsNear, Point}
 use Rattle.plane_contour.specs.Texts.{contours_text, line_text, point_line, points_text}
 
@@ -14,14 +15,11 @@ one_near x h (suc k) d l = absurd (omega arith)
 pub near_more : (old new : List Point) (x : Point) → new ≡ old ++ x ∷ [] → All IsNear old → IsNear x → All IsNear new
 near_more old new x e h k = subst (All IsNear) (sym e) (All-append IsNear old (x ∷ []) h (one_near x k))
 
--- the text of a piece and of what is left
-pub two_pieces : (padded : Bool) (whole front back : List Point) (n : ℕ) (text : List ℕ) → front ≡ take n whole → back ≡ drop n whole → text ≡ points_text padded front
-    → points_text padded whole ≡ text ++ points_text padded back
-two_pieces padded whole front back n text e f h =
-    ap (points_text padded) (sym (take-append-drop n whole))
-    ∙ (flat_append (point_line padded) (take n whole) (drop n whole)
-    ∙ (ap (λ l. points_text padded l ++ points_text padded (drop n whole)) (sym e)
-    ∙ (ap (λ l. points_text padded front ++ points_text padded l) (sym f) ∙ ap (λ l. l ++ points_text padded back) (sym h))))
+-- so far the points before the next one were gathered
+pub next_point : (padded : Bool) (old mid : Tape) (whole waiting text : List ℕ) (points : List Point) (i : ℕ) (d : Point) → i < length points → text ≡ point_line padded (get_or points i d)
+    → HasStaged old mid whole waiting (points_text padded (drop i points)) → HasStaged old mid whole waiting (text ++ points_text padded (drop (i + 1) points))
+next_point padded old mid whole waiting text points i d lt e h =
+    subst (HasStaged old mid whole waiting) (at_drop_more (points_text padded) points i d lt ∙ ap (λ (l : List ℕ). l ++ points_text padded (drop (i + 1) points)) (sym e)) h
 
 -- the text of the lines from one of them on
 pub lines_from : (padded : Bool) (ls : List DrawnLine) (i : ℕ) (l : DrawnLine) → i < length ls → l ≡ get_or ls i l

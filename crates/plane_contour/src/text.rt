@@ -3,54 +3,55 @@
 ghost use Rattle.std.specs.Prelude.{◌≡◌, ◌+◌, ◌*◌, ◌<◌, ◌≤◌, ◌^◌, ◌++◌, All, length, unsigned_abs};
 ghost use Rattle.arrayvec.specs.ArrayString.{array_string_len};
 ghost use Rattle.iso_defs.specs.Texts.{decimal_text};
-ghost use Rattle.iso_io.specs.Seen.{Puts};
+ghost use Rattle.iso_io.specs.Seen.{Puts, Stages};
 ghost use Rattle.plane_contour.specs.Points.{IsNear};
 ghost use Rattle.plane_contour.specs.Texts.{contours_text, head_line, line_text, point_line, points_text, printed_coordinate};
 
 use crate::line::{Contours, Line};
 use arrayvec::ArrayString;
 use iso_base::{EdgeName, Thousandth, put_decimal};
-use iso_io::{Failed, Sink, write_all_of};
+use iso_io::{Failed, LINES, Sink, gather, write_all_of};
 use itoa::Buffer;
 
 /// A pad's layer along an axis, in thousandths.
 const LAYER: i64 = 1000;
 
-/// So many points are written at once: a write of the system costs as much as many lines.
-const PIECE: usize = 64;
-
 /// Appends the text of contour lines: for each the line `cycle N` or `path N`, and for each of its N points the line
 /// `X Y`. Coordinates have three decimals; with a pad, the pad's layer is taken off each. `Failed` comes only where the
-/// sink's count rose; a front of the text was then taken.
+/// sink's count rose; a front of the text was then taken. Lines are written in blocks of 8 KiB.
 pub fn put_contours<K: Sink>(sink: &mut K, lines: &Contours, padded: bool) -> Result<(), Failed>
     ensures { Puts (K.seen sink.old) (K.seen sink.new) result (contours_text padded lines.now) }
 {
+    let mut waiting = ArrayString::new();
     for line in lines.lines() {
-        put_line(sink, line, padded)?;
+        gather_line(sink, &mut waiting, line, padded)?;
     }
-    Ok(())
+    write_all_of(sink, waiting.as_str().as_bytes())
 }
 
-fn put_line<K: Sink>(sink: &mut K, line: &Line, padded: bool) -> Result<(), Failed>
-    ensures { Puts (K.seen sink.old) (K.seen sink.new) result (line_text padded line.now) }
-{
-    write_all_of(sink, head_text(line).as_str().as_bytes())?;
-    put_points(sink, line.points(), padded)
-}
-
-fn put_points<K: Sink>(
+fn gather_line<K: Sink>(
     sink: &mut K,
+    waiting: &mut ArrayString<LINES>,
+    line: &Line,
+    padded: bool,
+) -> Result<(), Failed>
+    ensures { Stages (K.seen sink.old) (K.seen sink.new) waiting.old.bytes waiting.new.bytes result (line_text padded line.now) }
+{
+    gather(sink, waiting, head_text(line).as_str())?;
+    gather_points(sink, waiting, line.points(), padded)
+}
+
+fn gather_points<K: Sink>(
+    sink: &mut K,
+    waiting: &mut ArrayString<LINES>,
     points: &[(EdgeName, Thousandth, Thousandth)],
     padded: bool,
 ) -> Result<(), Failed>
     requires { All IsNear points.now }
-    ensures { Puts (K.seen sink.old) (K.seen sink.new) result (points_text padded points.now) }
+    ensures { Stages (K.seen sink.old) (K.seen sink.new) waiting.old.bytes waiting.new.bytes result (points_text padded points.now) }
 {
-    let mut rest = points;
-    while !rest.is_empty() {
-        let (piece, more) = rest.split_at(rest.len().min(PIECE));
-        write_all_of(sink, piece_text(piece, padded).as_str().as_bytes())?;
-        rest = more;
+    for point in points {
+        gather(sink, waiting, point_text(point, padded).as_str())?;
     }
     Ok(())
 }
@@ -66,33 +67,21 @@ fn head_text(line: &Line) -> ArrayString<32>
     text
 }
 
-fn piece_text(points: &[(EdgeName, Thousandth, Thousandth)], padded: bool) -> ArrayString<4096>
-    requires few { length points.now ≤ 64 }
-    requires near { All IsNear points.now }
-    ensures { result.bytes ≡ points_text padded points.now }
+fn point_text(point: &(EdgeName, Thousandth, Thousandth), padded: bool) -> ArrayString<40>
+    requires { IsNear point.now }
+    ensures { result.bytes ≡ point_line padded point.now }
 {
     let mut text = ArrayString::new();
-    for i in 0..points.len() {
-        put_point(&points[i], padded, &mut text);
-    }
+    put_coordinate(point.1, padded, &mut text);
+    text.push(' ');
+    put_coordinate(point.2, padded, &mut text);
+    text.push('\n');
     text
 }
 
-fn put_point(point: &(EdgeName, Thousandth, Thousandth), padded: bool, into: &mut ArrayString<4096>)
-    requires near { IsNear point.now }
-    requires room { array_string_len into.old + 34 ≤ 4096 }
-    ensures text { into.new.bytes ≡ into.old.bytes ++ point_line padded point.now }
-    ensures room { array_string_len into.new ≤ array_string_len into.old + 34 }
-{
-    put_coordinate(point.1, padded, into);
-    into.push(' ');
-    put_coordinate(point.2, padded, into);
-    into.push('\n');
-}
-
-fn put_coordinate(value: Thousandth, padded: bool, into: &mut ArrayString<4096>)
+fn put_coordinate(value: Thousandth, padded: bool, into: &mut ArrayString<40>)
     requires near { unsigned_abs value.0 < 2 ^ 32 }
-    requires room { array_string_len into.old + 16 ≤ 4096 }
+    requires room { array_string_len into.old + 16 ≤ 40 }
     ensures text { into.new.bytes ≡ into.old.bytes ++ decimal_text (printed_coordinate padded value.0) }
     ensures room { array_string_len into.new ≤ array_string_len into.old + 16 }
 {

@@ -1,6 +1,6 @@
 use Rattle.std.proofs.lemmas.Result.{err_from_is_err_and}
 use Rattle.iso_io.proofs.Staging.{staged_failed}
-use Rattle.script.proofs.report.gather.Goals as goal
+use Rattle.iso_io.proofs.staged.gather.Goals as goal
 
 pub returns-in_err-write_all_of : goal.returns-in_err-write_all_of
 returns-in_err-write_all_of g c =
