@@ -8,25 +8,9 @@ ghost use Rattle.crossing_edges.specs.Signs.{apart, flag_of, right_of, sign_flag
 ghost use Rattle.crossing_edges.specs.Flags.{flags_from};
 ghost use Rattle.iso_base.specs.Shifted.{field};
 
+use crate::samples::SampleList;
 use iso_base::{Level, Memory, Sizes};
 use std::alloc::{AllocError, Global};
-
-fn sign(sample: i64, level: i64) -> u8
-    ensures { result ≡ sign_of level sample }
-{
-    if sample >= level { 1 } else { 0 }
-}
-
-/// 1 for each sample at the level or above it, else 0.
-fn signs(alloc: Global, samples: &[i64], level: Level) -> Result<Vec<u8>, AllocError>
-    ensures { IfOk result (λ v. v.items ≡ map (sign_of level) samples.now) }
-{
-    let level = level.value();
-    samples
-        .iter()
-        .map(|sample| sign(*sample, level))
-        .collect(alloc)
-}
 
 #[inline(always)]
 fn differ(a: u8, b: u8) -> u8
@@ -177,32 +161,17 @@ pub struct PointBits {
 }
 
 /// The signs and the flags of all points of a volume at a level.
-pub fn point_bits(
+pub fn point_bits<S: SampleList>(
     alloc: Global,
     sizes: &Sizes,
-    samples: &[i64],
+    samples: &S,
     level: Level,
 ) -> Result<PointBits, Memory>
-    requires { length samples.now ≡ point_count sizes.now }
-    ensures signs { IfOk result (λ b. b.signs.items ≡ map (sign_of level) samples.now) }
-    ensures flags { IfOk result (λ b. b.flags.items ≡ flags_from sizes.now (field samples.now level) 0 (point_count sizes.now)) }
+    requires { length (S.list samples.now) ≡ point_count sizes.now }
+    ensures signs { IfOk result (λ b. b.signs.items ≡ map (sign_of level) (S.list samples.now)) }
+    ensures flags { IfOk result (λ b. b.flags.items ≡ flags_from sizes.now (field (S.list samples.now) level) 0 (point_count sizes.now)) }
 {
-    let signs = signs(alloc, samples, level)?;
+    let signs = samples.signs(alloc, level)?;
     let flags = flags_of(alloc, sizes, &signs)?;
     Ok(PointBits { signs, flags })
-}
-
-/// The flags of all points of a volume at a level, by index: bit `axis` is set where the lattice edge from the point
-/// along that axis is crossing.
-pub fn crossing_flags(
-    alloc: Global,
-    sizes: &Sizes,
-    samples: &[i64],
-    level: Level,
-) -> Result<Vec<u8>, Memory>
-    requires { length samples.now ≡ point_count sizes.now }
-    ensures { IfOk result (λ v. v.items ≡ flags_from sizes.now (field samples.now level) 0 (point_count sizes.now)) }
-{
-    let PointBits { flags, .. } = point_bits(alloc, sizes, samples, level)?;
-    Ok(flags)
 }

@@ -4,6 +4,8 @@
 
 mod edges;
 mod flags;
+mod samples;
 
-pub use edges::{EdgeVertices, edge_vertices, position_on};
-pub use flags::{PointBits, crossing_flags, point_bits};
+pub use edges::{EdgeVertices, crossing_points, edge_vertices, position_on};
+pub use flags::{PointBits, point_bits};
+pub use samples::{Numbers, SampleList, signs_of};

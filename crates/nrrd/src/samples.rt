@@ -3,7 +3,7 @@ ghost use Rattle.std.specs.Prelude.{◌≡◌, ◌+◌, ◌*◌, ◌≤◌, leng
 ghost use Rattle.std.specs.List.{range_with_len};
 ghost use Rattle.std.specs.Int.{cast_signed, w8, w16, w32};
 ghost use Rattle.iso_base.specs.Samples.{width_of, IsOfKind};
-ghost use Rattle.nrrd.specs.Samples.{samples_in};
+ghost use Rattle.nrrd.specs.Samples.{sample_of, samples_in};
 
 use byteorder::{BigEndian, ByteOrder, LittleEndian};
 use iso_base::SampleKind;
@@ -116,6 +116,26 @@ fn signed_32<T: ByteOrder>(
     (0..count)
         .map(|i| signed_32_at::<T>(bytes, i))
         .collect(alloc)
+}
+
+/// The number of a kind and an order of an index.
+#[inline]
+pub fn sample_at(kind: SampleKind, big: bool, bytes: &[u8], i: usize) -> i64
+    requires { width_of kind * (i + 1) ≤ length bytes.now }
+    ensures { result ≡ sample_of kind big bytes.now i }
+{
+    match (kind, big) {
+        (SampleKind::U8, _) => i64::from(bytes[i]),
+        (SampleKind::I8, _) => i64::from(bytes[i].cast_signed()),
+        (SampleKind::U16, false) => unsigned_16_at::<LittleEndian>(bytes, i),
+        (SampleKind::U16, true) => unsigned_16_at::<BigEndian>(bytes, i),
+        (SampleKind::I16, false) => signed_16_at::<LittleEndian>(bytes, i),
+        (SampleKind::I16, true) => signed_16_at::<BigEndian>(bytes, i),
+        (SampleKind::U32, false) => unsigned_32_at::<LittleEndian>(bytes, i),
+        (SampleKind::U32, true) => unsigned_32_at::<BigEndian>(bytes, i),
+        (SampleKind::I32, false) => signed_32_at::<LittleEndian>(bytes, i),
+        (SampleKind::I32, true) => signed_32_at::<BigEndian>(bytes, i),
+    }
 }
 
 /// The numbers of a kind and an order.

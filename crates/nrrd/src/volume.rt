@@ -8,7 +8,7 @@ ghost use Rattle.nrrd.specs.Nrrd.{is_first, split_of, nrrd_of, Answers};
 use crate::checks::{ask_dimension, ask_encoding, ask_skip, big_first, kind_of, needed, sizes_of};
 use crate::fault::{Field, NrrdFault};
 use crate::header::{Header, behind_header, read_fields};
-use crate::samples::samples_of;
+use crate::raw::RawVolume;
 use iso_base::{SampleKind, Sizes, VoxelData};
 use std::alloc::Global;
 use text_lines::next_line;
@@ -80,26 +80,35 @@ fn short_samples(needed: usize, body: &[u8]) -> NrrdFault
     }
 }
 
-/// Reads a volume from the bytes of a file, and gives the number of bytes after its samples, which are not read.
-/// Samples are listed with x fastest and z slowest.
+/// The volume in the bytes of a file, whose samples stay there, and the number of bytes after its samples, which are not
+/// read. Samples are listed with x fastest and z slowest.
 ///
 /// The first of these decides. `NotNrrd` and `HeaderTooLong`; then, line by line, `BadLine`, `RepeatedField` and `Detached`;
 /// then `MissingField`, in the order dimension, type, sizes, encoding; then the value of the dimension (`BadValue`,
 /// `NotThreeAxes`), of the type (`UnsupportedKind`), of the encoding (`UnsupportedEncoding`), of the two skips (`BadValue`,
 /// `SkipUnsupported`), of the sizes (`BadValue`, `Size`) and, for samples of more than one byte, of the byte order
-/// (`NoEndian`, `BadValue`); then `ShortSamples`; and last `Memory`, which is asked for once, for the samples.
+/// (`NoEndian`, `BadValue`); and last `ShortSamples`.
 #[tactic(auto, unfolding(crate::specs::Nrrd::nrrd_of))]
-pub fn read_volume(alloc: Global, bytes: &[u8]) -> Result<(VoxelData, u64), NrrdFault>
-    ensures { Answers result (nrrd_of bytes.now) }
+pub fn read_raw_volume(bytes: &[u8]) -> Result<(RawVolume<'_>, u64), NrrdFault>
+    ensures { result ≡ nrrd_of bytes.now }
 {
     let (header, body) = split(bytes)?;
     let (sizes, kind, big) = layout(&header)?;
-    let count = sizes.count() as usize;
-    let needed = kind.width() as usize * count;
+    let needed = kind.width() as usize * sizes.count() as usize;
     if body.len() < needed {
         return Err(short_samples(needed, body));
     }
-    let samples = samples_of(alloc, kind, big, body, count)?;
     let surplus = (body.len() - needed) as u64;
-    Ok((VoxelData::new(sizes, kind, samples), surplus))
+    Ok((RawVolume::new(sizes, kind, big, body), surplus))
+}
+
+/// Reads a volume from the bytes of a file, and gives the number of bytes after its samples, which are not read.
+/// The refusals are those of `read_raw_volume`, and last `Memory`, which is asked for once, for the samples.
+pub fn read_volume(alloc: Global, bytes: &[u8]) -> Result<(VoxelData, u64), NrrdFault>
+    ensures { Answers result (nrrd_of bytes.now) }
+{
+    let (raw, surplus) = read_raw_volume(bytes)?;
+    let sizes = raw.sizes();
+    let samples = raw.part(alloc, 0, sizes.count())?;
+    Ok((VoxelData::new(sizes, raw.kind(), samples), surplus))
 }

@@ -1,0 +1,9 @@
+//! The points at which a surface crosses the lattice edges of the volume in a file. The samples stay in the file's bytes:
+//! each is read once for its sign, a run at a time, and again at the ends of the edges that are crossing.
+#![tactic(auto)]
+
+mod edges;
+mod samples;
+
+pub use edges::{FileEdges, edges_of_file};
+pub use samples::FileSamples;
