@@ -7,7 +7,6 @@ use Rattle.iso_base.specs.Volume.{Volume}
 use Rattle.iso_io.specs.Causes.{Rose}
 use Rattle.iso_io.specs.Files.{Files}
 use Rattle.iso_io.specs.Shelves.{Lacks, content}
-use Rattle.mesh_read.specs.declared.fault.MeshFault.{MeshFault}
 use Rattle.session.specs.Sessions.{Ends, Session, script_limit}
 use Rattle.session.specs.declared.ending.Ending.{Ending}
 use Rattle.session.specs.declared.ending.Ending.TheVariants as endings
@@ -15,9 +14,9 @@ use Rattle.endings.specs.Status.{status_of}
 use Rattle.isobench.specs.Checks.{Checks, mesh_in, mesh_limit}
 use Rattle.isobench.specs.Meaning.{mesh_given, points_given}
 use Rattle.isobench.specs.Outcome.{Call, Converts, Rejects, Streams}
-use Rattle.isobench.specs.Serving.{Brings, CanServe, IsCarriedOut, Serves}
-use Rattle.isobench.specs.Sessions.{Opens, RunsSession, StaysShut, answer_of}
-use Rattle.isobench.specs.Volumes.{FileIs, volume_limit, volume_of}
+use Rattle.isobench.specs.Serving.{CanServe, IsCarriedOut, Serves}
+use Rattle.isobench.specs.Sessions.{RunsSession, StaysShut, answer_of}
+use Rattle.isobench.specs.Volumes.{volume_limit, volume_of}
 use Rattle.command_words.specs.declared.request.Request.{Request}
 use Rattle.command_words.specs.declared.request.Request.TheVariants as requests
 use Rattle.mesh_text.specs.declared.format.MeshFormat.{MeshFormat}

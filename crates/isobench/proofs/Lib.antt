@@ -2,7 +2,9 @@ pub mod Told
 pub mod ReadVolumes
 pub mod Texts
 pub mod Few
+pub mod FileEdges
 pub mod Openings
 pub mod Completing
 pub mod Headline
 pub mod Reasons
+pub mod SessionMeshes

@@ -1,5 +1,5 @@
 -- A session that begins with a shelf as it was before its volume was read.
-use Rattle.std.proofs.Common.{◌≡◌, ◌⊎◌, ℕ, ◌≤◌, List, [], ◌∷◌, ◌++◌, IfSome, refl, subst, arith, inr, ℤ, Ok}
+use Rattle.std.proofs.Common.{◌≡◌, ℕ, ◌≤◌, List, [], ◌∷◌, ◌++◌, subst, arith, inr, ℤ, Ok}
 use Rattle.std.specs.Prelude.{Option, Some}
 use Rattle.iso_base.specs.Volume.{Volume}
 use Rattle.iso_io.specs.Files.{Files}

@@ -1,8 +1,7 @@
 -- The cause of each status, from the outcome.
-use Rattle.std.proofs.Common.{◌≡◌, ◌⊎◌, ℕ, ◌<◌, ◌≤◌, List, length, true, false, Some, None, Ok, Err, MatchOption, IfSome, refl, sym, ap, ◌∙◌, subst, inl, inr, ℤ}
+use Rattle.std.proofs.Common.{◌≡◌, ◌⊎◌, ℕ, ◌<◌, ◌≤◌, List, length, Some, None, Ok, Err, MatchOption, IfSome, refl, sym, ap, ◌∙◌, subst, inl, inr, ℤ}
 use Rattle.std.specs.Prelude.{Option, Result}
 use Rattle.iso_base.specs.Volume.{Volume}
-use Rattle.iso_io.specs.Causes.{Rose}
 use Rattle.iso_io.specs.Files.{Files}
 use Rattle.std.specs.FinMap.{get}
 use Rattle.session.specs.declared.ending.Ending.TheVariants as endings
@@ -70,7 +69,7 @@ neither : (s t u v : Status) → (s ≡ t) ⊎ (s ≡ u) → s ≡ v → (t ≡ 
 neither s t u v (inl e) f not_t not_u = not_t (sym e ∙ f)
 neither s t u v (inr e) f not_t not_u = not_u (sym e ∙ f)
 
-is_done : (a : Answer) → status_of a ≡ statuses.Done → a ≡ answers.Done
+pub is_done : (a : Answer) → status_of a ≡ statuses.Done → a ≡ answers.Done
 is_done answers.Done e = refl
 is_done answers.MeshRefused e = absurd cc
 is_done answers.BadWords e = absurd cc
@@ -236,7 +235,7 @@ not_rejected call a s e other h = other (sym (ap status_of h.answer_is) ∙ e)
 shown : (r : Request) (call : Call) (a : Answer) (level : ℤ) (pad : Option ℤ) (format : MeshFormat) → r ≡ requests.Extract level pad format → a ≡ answers.Done → Serves r call a → HoldsWatertight level pad call.streams.input
 shown r call a level pad format e d h = (subst (λ (q : Request). Serves q call a) e h).2 d
 
-same_request : (a b : Request) → Some a ≡ Some b → a ≡ b
+pub same_request : (a b : Request) → Some a ≡ Some b → a ≡ b
 same_request a b e = cc
 
 pub headline : (o : Option Request) (call : Call) (a : Answer) (level : ℤ) (pad : Option ℤ) (format : MeshFormat) → MatchOption o (Rejects call a) (λ r. Serves r call a)

@@ -6,3 +6,4 @@ pub mod Checks
 pub mod Headline
 pub mod Causes
 pub mod Serving
+pub mod SessionMeshes

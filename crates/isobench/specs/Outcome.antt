@@ -1,5 +1,5 @@
 -- What a call of the program does to the outside, and by which answer it ends.
-use Rattle.std.specs.Prelude.{◌≡◌, ◌⊎◌, ℕ, ◌<◌, ◌≤◌, List, length, Option, None, Result, Ok, Err, IfSome}
+use Rattle.std.specs.Prelude.{◌≡◌, ℕ, ◌<◌, ◌≤◌, List, length, Option, None, Result, Ok, Err, IfSome}
 use Rattle.std.specs.Io.KnownBytes.{Appends, Keeps, IsAtEnd}
 use Rattle.iso_io.specs.Causes.{Rose}
 use Rattle.iso_io.specs.Seen.{Feed, Tape, AppendsFront}

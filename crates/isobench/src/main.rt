@@ -12,11 +12,12 @@ mod sessions;
 mod tests;
 mod volumes;
 
-use endings::Status;
+use endings::{Answer, Status, put_note};
 use iso_base::Steps;
 use iso_io::{FileShelf, StdSink, StdSource};
 use std::alloc::AllocError;
 use std::env;
+use std::io::ErrorKind;
 use std::marker::Brand;
 use std::process::ExitCode;
 use std::sync::ledger::{Blank, Ledger};
@@ -25,8 +26,15 @@ use std::sync::ledger::{Blank, Ledger};
 fn given_words(rt: &HostRuntime) -> Result<Vec<String>, AllocError> {
     match env::args(rt) {
         Ok(args) => args.skip(1).collect(rt.alloc()),
+        Err(error) if error.kind() == ErrorKind::OutOfMemory => Err(AllocError),
         Err(_) => Ok(Vec::new(rt.alloc())),
     }
+}
+
+/// Says on the standard error that memory could not be had for the words.
+fn without_words(rt: &HostRuntime) -> Status {
+    put_note(&mut StdSink::new(rt.stderr()), &Answer::Memory);
+    Status::Memory
 }
 
 /// Runs the words over the standard streams and the files of the system.
@@ -54,7 +62,7 @@ fn run_words<L: Ledger>(rt: &HostRuntime, blank: Blank, words: &[String]) -> Sta
 fn main(rt: HostRuntime) -> ExitCode {
     let status = match given_words(&rt) {
         Ok(words) => run_words::<Brand>(&rt, Blank::new(1), &words),
-        Err(_) => Status::Memory,
+        Err(AllocError) => without_words(&rt),
     };
     ExitCode::from(status.number())
 }

@@ -1,5 +1,5 @@
 //! All that the program does.
-ghost use Rattle.std.specs.Prelude.{◌≡◌, ◌↔◌, ℤ, Option, map, string_bytes, None, Some};
+ghost use Rattle.std.specs.Prelude.{◌≡◌, ◌↔◌, ℕ, ℤ, List, Option, map, string_bytes, None, Some};
 ghost use Rattle.iso_io.specs.Causes.{Rose};
 ghost use Rattle.command_words.specs.Words.{HasSamplePad, request_of};
 ghost use Rattle.endings.specs.Notes.{note_of};
@@ -8,10 +8,11 @@ ghost use Rattle.endings.specs.Tries.{Tries};
 ghost use Rattle.mesh_text.specs.declared.format.MeshFormat.{MeshFormat};
 ghost use Rattle.isobench.specs.Causes.{Asks, HasBadMesh, HasBadVolume, HasBrokenMesh, HasNoFile, HasTooMany};
 ghost use Rattle.isobench.specs.Headline.{HoldsWatertight};
+ghost use Rattle.isobench.specs.SessionMeshes.{HoldsWatertightMeshes};
 ghost use Rattle.isobench.specs.Serving.{CanServe, Ends, IsCarriedOut, Serves};
 ghost use Rattle.endings.specs.declared.answer.Answer.{Answer};
 ghost use Rattle.command_words.specs.declared.request.Request.{Request};
-ghost use Rattle.command_words.specs.declared.request.Request.TheVariants.{Extract};
+ghost use Rattle.command_words.specs.declared.request.Request.TheVariants.{Extract, Session};
 
 use crate::checks::check;
 use crate::meshes::extract;
@@ -147,10 +148,19 @@ pub fn run<S: Source, K: Sink, N: Sink, H: Shelf, L: Ledger>(
       left = left.new;
     }) }
 
-    // The headline, where a mesh is extracted: the mesh that was written is watertight. In a session each `ply` and `obj`
-    // line that is done says so of its mesh, in what `outcome` says of the lines that were run.
+    // The headline, where a mesh is extracted: the mesh that was written is watertight.
     ensures headline { (level : ℤ) (pad : Option ℤ) (format : MeshFormat) → request_of (map string_bytes words.now) ≡ Some (Extract level pad format)
         → result ≡ Status.Done → HoldsWatertight level pad (S.seen input.old) }
+
+    // The headline, in a session: each line `ply` or `obj` wrote the mesh of the state that the lines before it led to, and
+    // that mesh is watertight; or it was answered that memory was wanting or that the shelf failed.
+    ensures session_headline { (level : ℤ) (pad : Option ℤ) (name : List ℕ) → request_of (map string_bytes words.now) ≡ Some (Session level pad name)
+        → result ≡ Status.Done → HoldsWatertightMeshes level pad name (record {
+          streams = record { input = S.seen input.old; input_after = S.seen input.new; output = K.seen output.old; output_after = K.seen output.new };
+          store = H.seen shelf.old;
+          store_after = H.seen shelf.new;
+          left = left.new;
+        }) }
 
     // Nothing else stands in the way of a command.
     ensures complete { (request : Request) → request_of (map string_bytes words.now) ≡ Some request

@@ -25,7 +25,6 @@ fn answer(ending: Ending) -> Answer
 }
 
 /// Runs the script of the input on the volume of a file, and leaves the bench on which it was run.
-#[allow(clippy::too_many_arguments)]
 pub fn run_script<S: Source, K: Sink, H: Shelf, L: Ledger>(
     alloc: Global,
     level: Level,

@@ -2,6 +2,7 @@ use Rattle.std.proofs.Common.{sym, ◌∙◌}
 use Rattle.isobench.proofs.Completing.{completes}
 use Rattle.isobench.specs.Causes.{HasBadMesh, HasBadVolume, HasBrokenMesh, HasNoFile, HasTooMany}
 use Rattle.isobench.proofs.Reasons.{asked_and_served, headline, not_rejected, why_bad_mesh, why_bad_volume, why_mesh_refused, why_shelf_fault, why_too_long}
+use Rattle.isobench.proofs.SessionMeshes.{session_headline}
 use Rattle.isobench.proofs.run.run.Goals as goal
 
 pub returns-clause-complete : goal.returns-clause-complete
@@ -30,3 +31,6 @@ returns-clause-mesh_refused g c = λ e. let s = sym c.status.ensures ∙ e in
 
 pub returns-clause-headline : goal.returns-clause-headline
 returns-clause-headline g c = λ level pad format asked e. headline _ _ c.serve-answer.result level pad format c.serve-answer.ensures.ends asked (sym c.status.ensures ∙ e)
+
+pub returns-clause-session_headline : goal.returns-clause-session_headline
+returns-clause-session_headline g c = λ level pad name asked e. session_headline _ _ c.serve-answer.result level pad name c.serve-answer.ensures.ends asked (sym c.status.ensures ∙ e)
