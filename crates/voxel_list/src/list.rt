@@ -46,24 +46,6 @@ impl VoxelList {
         }
     }
 
-    /// The volume of these sizes, this kind, this pad and these samples.
-    pub fn from_parts(
-        sizes: Sizes,
-        kind: SampleKind,
-        pad: Option<i64>,
-        samples: Vec<i64>,
-    ) -> VoxelList
-        requires { IsVolume (record { grid = sizes; kind = kind; pad = pad; samples = samples.items }) }
-        ensures { result ≡ record { grid = sizes; kind = kind; pad = pad; samples = samples.items } }
-    {
-        VoxelList {
-            sizes,
-            kind,
-            pad,
-            samples,
-        }
-    }
-
     /// The volume with the pad round it: one more layer on each of the six sides, all of whose samples are the pad.
     /// A size fault comes exactly where the sizes grown by two are refused, and before want of memory.
     /// On a refusal the volume is dropped.
