@@ -1,20 +1,17 @@
 -- What each line of a session that asked for a mesh did.
-use Rattle.std.proofs.Common.{◌≡◌, ◌⊎◌, ℕ, List, [], ◌∷◌, ◌++◌, true, Ok, Err, Some, None, IfSome, MatchOption, refl, sym, ap, ◌∙◌, subst, inl, inr, append_assoc, ℤ}
+use Rattle.std.proofs.Common.{◌≡◌, ◌⊎◌, ℕ, List, [], ◌∷◌, ◌++◌, true, Ok, Some, None, IfSome, MatchOption, refl, sym, ap, ◌∙◌, subst, inl, inr, append_assoc, ℤ}
 use Rattle.std.specs.Prelude.{Option}
-use Rattle.iso_base.specs.declared.fault.BenchFault.TheVariants as faults
-use Rattle.iso_base.specs.Volume.{Volume}
-use Rattle.iso_defs.specs.Texts.{line}
 use Rattle.iso_io.specs.Files.{Files}
 use Rattle.bench_core.specs.Machine.{State}
 use Rattle.mesh_text.specs.declared.format.MeshFormat.{MeshFormat}
 use Rattle.mesh_text.specs.declared.format.MeshFormat.TheVariants as formats
 use Rattle.script.specs.Commands.{read_of}
-use Rattle.script.specs.Replies.{fault_text}
 use Rattle.session.specs.Following.{Followed, LineTurn, Runs, World}
 use Rattle.session.specs.Lines.{Saying, all_lines, until_quit}
 use Rattle.session.specs.Run.{is_excuse}
-use Rattle.session.specs.Sessions.{Ends, Session}
+use Rattle.session.specs.Sessions.{Ends}
 use Rattle.session.specs.Table.{Turn}
+use Rattle.session.proofs.MachineRun.{memory_excuses, shelf_excuses}
 use Rattle.session.specs.declared.ending.Ending.{Ending}
 use Rattle.session.specs.declared.ending.Ending.TheVariants as endings
 use Rattle.command_words.specs.declared.request.Request.{Request}
@@ -25,17 +22,9 @@ use Rattle.endings.specs.declared.answer.Answer.TheVariants as answers
 use Rattle.endings.specs.declared.answer.Status.TheVariants as statuses
 use Rattle.isobench.specs.Outcome.{Call, Rejects}
 use Rattle.isobench.specs.Serving.{Serves}
-use Rattle.isobench.specs.Sessions.{Opens, RunsSession, answer_of, first_state}
+use Rattle.isobench.specs.Sessions.{RunsSession, answer_of, session_between, world_after, world_before}
 use Rattle.isobench.specs.SessionMeshes.{HoldsWatertightMeshes, MeshTurn, ShowsMeshes, WroteMesh, writes_mesh}
 use Rattle.isobench.proofs.Reasons.{is_done, same_request}
-
-memory_excuses : is_excuse (line (fault_text faults.Memory)) ≡ true
-unfolding fault_text
-memory_excuses = refl
-
-shelf_excuses : is_excuse (line (fault_text faults.ShelfFailed)) ≡ true
-unfolding fault_text
-shelf_excuses = refl
 
 -- a line of those that were run: what led to it, its turn, and what it led to
 pub record Between (s s' : State) (f f' : Option Files) (before : List (List ℕ)) (asked : List ℕ) (later replies : List (List ℕ)) : Type 0 where
@@ -129,21 +118,11 @@ told_script : (o : Option (List ℕ)) (P Q : List ℕ → Type 0) → ((x : List
 told_script None P Q f h = tt
 told_script (Some x) P Q f h = f x h
 
--- the worlds before and after it
-abbrev world_before : {pad : Option ℤ} {name : List ℕ} {a : Answer} (level : ℤ) (call : Call) → Opens level pad name call a → World
-world_before level call o = record { state = first_state o.volume level; store = call.store; tape = call.streams.output }
-
-abbrev world_after : {pad : Option ℤ} {name : List ℕ} {a : Answer} (level : ℤ) (call : Call) → Opens level pad name call a → World
-world_after level call o = record { state = o.last; store = call.store_after; tape = call.streams.output_after }
-
-abbrev session_of : {pad : Option ℤ} {name : List ℕ} {a : Answer} (level : ℤ) (call : Call) → Opens level pad name call a → Session
-session_of level call o = record { input = call.streams.input; input_after = call.streams.input_after; world = world_before level call o; world_after = world_after level call o }
-
 of_session : (level : ℤ) (pad : Option ℤ) (name : List ℕ) (call : Call) → RunsSession level pad name call answers.Done → HoldsWatertightMeshes level pad name call
 of_session level pad name call (inl shut) = absurd shut.cause
 of_session level pad name call (inr o) =
-    let ended = subst (Ends (session_of level call o)) (done_ending o.ending o.answer_is) o.ends in
-    told_script call.streams.input.left _ _ (λ script h. (o.volume, o.last, o.holds, o.left_is, shows_meshes (world_before level call o) (world_after level call o) (until_quit (all_lines script)) h.0)) ended
+    let ended = subst (Ends (session_between call o.volume level o.last)) (done_ending o.ending o.answer_is) o.ends in
+    told_script call.streams.input.left _ _ (λ script h. (o.volume, o.last, o.holds, o.left_is, shows_meshes (world_before call o.volume level) (world_after call o.last) (until_quit (all_lines script)) h.0)) ended
 
 shown : (r : Request) (call : Call) (a : Answer) (level : ℤ) (pad : Option ℤ) (name : List ℕ) → r ≡ requests.Session level pad name → a ≡ answers.Done → Serves r call a → HoldsWatertightMeshes level pad name call
 shown r call a level pad name e d h = of_session level pad name call (subst (RunsSession level pad name call) d (subst (λ (q : Request). Serves q call a) e h))

@@ -2,7 +2,6 @@
 use Rattle.std.specs.Prelude.{◌≡◌, ◌⊎◌, ℕ, List, ◌∷◌, ◌++◌, true, Option, Some, Ok, IfSome, ℤ}
 use Rattle.std.specs.Io.KnownBytes.{Appends}
 use Rattle.iso_base.specs.Volume.{Volume}
-use Rattle.iso_defs.specs.Texts.{line}
 use Rattle.iso_io.specs.Files.{Files}
 use Rattle.iso_io.specs.Shelves.{with_file}
 use Rattle.bench_core.specs.Machine.{State}
@@ -18,7 +17,7 @@ use Rattle.session.specs.Lines.{all_lines, until_quit}
 use Rattle.session.specs.Run.{is_excuse}
 use Rattle.session.specs.Table.{says_of}
 use Rattle.isobench.specs.Outcome.{Call}
-use Rattle.isobench.specs.Sessions.{first_state}
+use Rattle.isobench.specs.Sessions.{world_after, world_before}
 use Rattle.isobench.specs.Volumes.{FileIs, volume_of}
 
 -- the command that writes the mesh in a format to the file of a name
@@ -58,5 +57,4 @@ pub record ShowsMeshes (w v : World) (lines : List (List ℕ)) : Type 0 where
 abbrev pub HoldsWatertightMeshes : ℤ → Option ℤ → List ℕ → Call → Type 0
 HoldsWatertightMeshes level pad name call = IfSome call.streams.input.left (λ script. (volume : Volume) × (last : State)
     × FileIs call.store name (λ bytes. volume_of pad level bytes ≡ Ok volume) × (call.left ≡ Some last)
-    × ShowsMeshes (record { state = first_state volume level; store = call.store; tape = call.streams.output })
-    (record { state = last; store = call.store_after; tape = call.streams.output_after }) (until_quit (all_lines script)))
+    × ShowsMeshes (world_before call volume level) (world_after call last) (until_quit (all_lines script)))

@@ -2,7 +2,8 @@
 use Rattle.std.specs.Prelude.{◌≡◌, ◌⊎◌, List, [], ℕ, Option, Some, None, Ok, ℤ}
 use Rattle.iso_base.specs.Volume.{Volume}
 use Rattle.bench_core.specs.Machine.{State}
-use Rattle.session.specs.Sessions.{Ends}
+use Rattle.session.specs.Following.{World}
+use Rattle.session.specs.Sessions.{Ends, Session}
 use Rattle.session.specs.declared.ending.Ending.{Ending}
 use Rattle.session.specs.declared.ending.Ending.TheVariants as endings
 use Rattle.isobench.specs.Outcome.{Call}
@@ -21,6 +22,17 @@ answer_of endings.OutputFault = answers.OutputFault
 abbrev pub first_state : Volume → ℤ → State
 first_state v level = record { volume = v; level = level; past = [] }
 
+-- what a session changes, before it and after it
+abbrev pub world_before : Call → Volume → ℤ → World
+world_before call volume level = record { state = first_state volume level; store = call.store; tape = call.streams.output }
+
+abbrev pub world_after : Call → State → World
+world_after call last = record { state = last; store = call.store_after; tape = call.streams.output_after }
+
+-- and its script
+abbrev pub session_between : Call → Volume → ℤ → State → Session
+session_between call volume level last = record { input = call.streams.input; input_after = call.streams.input_after; world = world_before call volume level; world_after = world_after call last }
+
 -- The session was not opened: no byte of the script was read, there is no reply, and no file is changed.
 pub record StaysShut (level : ℤ) (pad : Option ℤ) (name : List ℕ) (call : Call) (answer : Answer) : Type 0 where
   pub cause : LacksVolume pad level name call.store call.store_after answer
@@ -37,12 +49,7 @@ pub record Opens (level : ℤ) (pad : Option ℤ) (name : List ℕ) (call : Call
   pub left_is : call.left ≡ Some last
   pub ending : Ending
   pub answer_is : answer ≡ answer_of ending
-  pub ends : Ends (record {
-    input = call.streams.input;
-    input_after = call.streams.input_after;
-    world = record { state = first_state volume level; store = call.store; tape = call.streams.output };
-    world_after = record { state = last; store = call.store_after; tape = call.streams.output_after };
-  }) ending
+  pub ends : Ends (session_between call volume level last) ending
 
 abbrev pub RunsSession : ℤ → Option ℤ → List ℕ → Call → Answer → Type 0
 RunsSession level pad name call answer = StaysShut level pad name call answer ⊎ Opens level pad name call answer
