@@ -1,7 +1,8 @@
 -- Pads against levels.
-use Rattle.std.specs.Prelude.{◌≡◌, ℤ, ◌<ℤ◌, Some}
+use Rattle.std.specs.Prelude.{◌≡◌, ℤ, true, Some}
+use Rattle.iso_base.specs.Shifted.{is_above_pad}
 use Rattle.iso_base.specs.Volume.{Volume}
 
 -- the volume has a pad, and it is below the level
 abbrev pub HasPadBelow : Volume → ℤ → Type 0
-HasPadBelow v level = (pad : ℤ) × (v.pad ≡ Some pad) × (pad <ℤ level)
+HasPadBelow v level = (pad : ℤ) × (v.pad ≡ Some pad) × (is_above_pad level pad ≡ true)

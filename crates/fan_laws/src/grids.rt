@@ -1,7 +1,7 @@
 //! Laws of a grid, and of every field of shifted values on it.
 
 ghost use Rattle.iso_defs.specs.Grid.{Grid, cells, name_bound, point_count};
-ghost use Rattle.iso_defs.specs.Contours.{plane_pairs};
+ghost use Rattle.iso_defs.specs.Contours.{plane_pairs, contours, line_pairs};
 ghost use Rattle.iso_defs.specs.Lists.{below, count_pair};
 ghost use Rattle.iso_defs.specs.Outside.{IsThick};
 ghost use Rattle.iso_defs.specs.PlaneOfMesh.{IsPlaneOfMesh};
@@ -9,9 +9,8 @@ ghost use Rattle.iso_defs.specs.Rows.{row_cells, row_count, row_edges};
 ghost use Rattle.iso_defs.specs.Scratch.{cell_centres, cell_triangles, crossing_edges, named_triangles, number_of, triangles, vertex_names, vertices};
 ghost use Rattle.iso_defs.specs.Signs.{is_crossing};
 ghost use Rattle.fan_laws.specs.Together.{LiesInFace};
-ghost use Rattle.plane_laws.specs.Lines.{contours, line_pairs};
 ghost use Rattle.std.specs.List.{count_by, flat_map};
-ghost use Rattle.std.specs.Prelude.{if◌then◌else◌, length, nat_lt, pos, ℕ, ℤ, ◌*ℤ◌, ◌*◌, ◌+◌, ◌<◌, ◌==◌, ◌≡◌, ◌≢◌, ◌≤◌};
+ghost use Rattle.std.specs.Prelude.{if◌then◌else◌, length, nat_lt, ℕ, ℤ, ◌*◌, ◌+◌, ◌<◌, ◌==◌, ◌≡◌, ◌≢◌, ◌≤◌};
 
 use iso_base::{EdgeName, Sizes};
 
@@ -52,10 +51,4 @@ pub fn mesh_by_rows()
     ensures faces { (g : Grid) (s : ℕ → ℤ) → named_triangles g s ≡ flat_map (λ r. flat_map (cell_triangles g s) (row_cells g r)) (below (row_count g)) }
     ensures numbers { (g : Grid) (s : ℕ → ℤ) (r n : ℕ) → r < row_count g → r * (3 * g.nx) ≤ n → n < r * (3 * g.nx) + 3 * g.nx →
         number_of g s n ≡ length (flat_map (row_edges g s) (below r)) + count_by (λ u. nat_lt u n) (row_edges g s r) }
-{}
-
-/// Shifted values a thousand times as large give the same mesh.
-pub fn levels_by_thousands()
-    ensures vertices { (g : Grid) (s t : ℕ → ℤ) → ((p : ℕ) → t p ≡ pos 1000 *ℤ s p) → vertices g t ≡ vertices g s }
-    ensures triangles { (g : Grid) (s t : ℕ → ℤ) → ((p : ℕ) → t p ≡ pos 1000 *ℤ s p) → triangles g t ≡ triangles g s }
 {}

@@ -42,9 +42,9 @@ pub fn closed_when_padded(volume: &VoxelList, level: Level)
     let _ = volume.sizes();
 }
 
-/// A thousand times each sample less a thousand times the level gives the same mesh as each sample less the level.
+/// At a level that is a whole number, in units of samples, the mesh is that of each sample less the level.
 pub fn whole_levels_stay(volume: &VoxelList, level: i64)
     requires { unsigned_abs level < 2 ^ 33 }
-    ensures vertices { vertices volume.now.grid (λ p. (pos 1000 *ℤ sample volume.now.samples p) -ℤ (pos 1000 *ℤ level)) ≡ vertices volume.now.grid (λ p. sample volume.now.samples p -ℤ level) }
-    ensures triangles { triangles volume.now.grid (λ p. (pos 1000 *ℤ sample volume.now.samples p) -ℤ (pos 1000 *ℤ level)) ≡ triangles volume.now.grid (λ p. sample volume.now.samples p -ℤ level) }
+    ensures vertices { vertices volume.now.grid (field volume.now.samples (pos 1000 *ℤ level)) ≡ vertices volume.now.grid (λ p. sample volume.now.samples p -ℤ level) }
+    ensures triangles { triangles volume.now.grid (field volume.now.samples (pos 1000 *ℤ level)) ≡ triangles volume.now.grid (λ p. sample volume.now.samples p -ℤ level) }
 {}

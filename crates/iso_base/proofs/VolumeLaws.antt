@@ -1,32 +1,31 @@
 -- What volumes keep: samples in range, grids of two points and more, and a pad below the level outside of the surface.
-use Rattle.std.proofs.Common.{◌≡◌, ℕ, ◌<◌, Bool, true, false, refl, sym, ◌∙◌, ap, subst, arith, ℤ, pos, negsuc}
-use Rattle.std.specs.Prelude.{◌-ℤ◌, ◌<ℤ◌, Option, IfSome, Some, None, MatchOption, not}
+use Rattle.std.proofs.Common.{◌≡◌, ℕ, ◌-◌, ◌*◌, ◌<◌, ◌≤◌, Bool, true, false, refl, sym, ◌∙◌, ap, subst, arith, ℤ, pos, negsuc}
+use Rattle.std.specs.Prelude.{Option, IfSome, Some, None, MatchOption, not}
 use Rattle.std.proofs.lemmas.Int.{ints}
 use Rattle.std.proofs.lemmas.List.Elements.{All-get_or}
-use Rattle.iso_defs.specs.Signs.{is_above}
 use Rattle.iso_defs.specs.Grid.{Grid, point_count}
 use Rattle.iso_defs.specs.Outside.{is_outer, IsBelowOutside, IsSolid, IsThick}
-use Rattle.iso_base.specs.Sizing.{IsGrid}
-use Rattle.iso_base.specs.Shifted.{field}
+use Rattle.iso_base.specs.Sizing.{IsAxis, IsGrid}
+use Rattle.iso_base.specs.Shifted.{field, is_above_level, is_above_pad}
 use Rattle.iso_base.specs.Samples.{IsOfKind, IsSample}
 use Rattle.iso_base.specs.declared.kind.SampleKind.{SampleKind}
 use Rattle.iso_base.specs.declared.kind.SampleKind.TheVariants.{I8, U8, I16, U16, I32, U32}
-use Rattle.iso_base.specs.Volume.{Voxels, IsVoxels, Volume, IsVolume, HoldsPad, IsInner, unpadded, sample}
+use Rattle.iso_base.specs.Volume.{Voxels, IsVoxels, Volume, IsVolume, HoldsPad, IsInner, inner_grid, unpadded, sample}
 
--- a sample less than the level is below
-pub less_is_below : (a b : ℤ) → a <ℤ b → is_above (a -ℤ b) ≡ false
-less_is_below a b h = by_sign (a -ℤ b) refl
+-- a level above a pad has the pad below it
+pub pad_is_not_above : (pad level : ℤ) → is_above_pad level pad ≡ true → is_above_level pad level ≡ false
+pad_is_not_above pad level h = turned (is_above_level pad level) h
   where
-    by_sign : (z : ℤ) → z ≡ a -ℤ b → is_above z ≡ false
-    by_sign (pos n) e = absurd (omega (arith, ints))
-    by_sign (negsuc n) e = refl
+    turned : (b : Bool) → not b ≡ true → b ≡ false
+    turned true e = cc
+    turned false e = refl
 
 -- where the pad is below the level, so is the outer layer
-pub pad_is_below : (v : Volume) (level pad : ℤ) → IsVolume v → v.pad ≡ Some pad → pad <ℤ level → IsBelowOutside v.grid (field v.samples level)
+pub pad_is_below : (v : Volume) (level pad : ℤ) → IsVolume v → v.pad ≡ Some pad → is_above_pad level pad ≡ true → IsBelowOutside v.grid (field v.samples level)
 pad_is_below v level pad is e h p low out =
     let holds : IfSome (Some pad) (HoldsPad v) = subst (λ o. IfSome o (HoldsPad v)) e is.holds in
     let k : sample v.samples p ≡ pad = holds p low out in
-    ap (λ z. is_above (z -ℤ level)) k ∙ less_is_below pad level h
+    ap (λ z. is_above_level z level) k ∙ pad_is_not_above pad level h
 
 -- a grid within the limits has at least two points along each axis
 pub grid_is_thick : {g : Grid} → IsGrid g → IsThick g
@@ -49,10 +48,30 @@ kind_is_sample U16 z is = record { low = (let h = is.low in omega (arith, ints))
 kind_is_sample I32 z is = record { low = (let h = is.low in omega (arith, ints)); high = (let h = is.high in omega (arith, ints)) }
 kind_is_sample U32 z is = record { low = (let h = is.low in omega (arith, ints)); high = (let h = is.high in omega (arith, ints)) }
 
+-- without a pad the inner grid is the grid itself
+pub unpadded_inner : (v : Voxels) → IsGrid v.grid → IsGrid (inner_grid (unpadded v))
+unpadded_inner v is = record {
+  x = axis v.grid.nx is.x;
+  y = axis v.grid.ny is.y;
+  z = axis v.grid.nz is.z;
+  count = subst (λ n. n ≤ 160000000) (sizes v.grid.nx v.grid.ny v.grid.nz) is.count;
+}
+  where
+    axis : (n : ℕ) → IsAxis n → IsAxis (n - 2 * 0)
+    axis n is = record { least = (let h = is.least in omega arith); most = (let h = is.most in omega arith) }
+
+    sizes : (a b c : ℕ) → a * b * c ≡ (a - 2 * 0) * (b - 2 * 0) * (c - 2 * 0)
+    sizes a b c =
+        let x : a ≡ a - 2 * 0 = omega arith in
+        let y : b ≡ b - 2 * 0 = omega arith in
+        let z : c ≡ c - 2 * 0 = omega arith in
+        λ i. x i * y i * z i
+
 -- what a file gives is a volume without a pad
 pub unpadded_is : (v : Voxels) → IsVoxels v → IsVolume (unpadded v)
 unpadded_is v is = record {
   grid = is.grid;
+  inner = unpadded_inner v is.grid;
   count = is.count;
   pad = tt;
   holds = tt;

@@ -1,5 +1,5 @@
 -- Volumes: a grid, the kind of its samples, an optional pad, and one flat list of samples.
-use Rattle.std.specs.Prelude.{◌≡◌, ℕ, ◌<◌, ℤ, pos, List, length, slice_index_or, not, true, All, Option, None, IfSome, MatchOption}
+use Rattle.std.specs.Prelude.{◌≡◌, ℕ, ◌-◌, ◌*◌, ◌<◌, ℤ, pos, List, length, slice_index_or, not, true, All, Option, Some, None, IfSome, MatchOption}
 use Rattle.iso_defs.specs.Grid.{Grid, point_count}
 use Rattle.iso_defs.specs.Outside.{is_outer}
 use Rattle.iso_base.specs.Sizing.{IsGrid}
@@ -29,6 +29,19 @@ pub record Volume : Type 0 where
   pub pad : Option ℤ
   pub samples : List ℤ
 
+-- how many layers of points a pad adds on each side
+abbrev pub layer : Option ℤ → ℕ
+layer None = 0
+layer (Some pad) = 1
+
+-- the grid of a volume without the pad's layer on its six sides
+abbrev pub inner_grid : Volume → Grid
+inner_grid v = record {
+  nx = v.grid.nx - 2 * layer v.pad;
+  ny = v.grid.ny - 2 * layer v.pad;
+  nz = v.grid.nz - 2 * layer v.pad;
+}
+
 -- the outer layer holds the pad
 abbrev pub HoldsPad : Volume → ℤ → Type 0
 HoldsPad v value = (p : ℕ) → p < point_count v.grid → is_outer v.grid p ≡ true → sample v.samples p ≡ value
@@ -40,6 +53,7 @@ IsInner v p = MatchOption v.pad (Unit {0}) (λ _. not (is_outer v.grid p) ≡ tr
 -- what every volume is
 pub record IsVolume (v : Volume) : Type 0 where
   pub grid : IsGrid v.grid
+  pub inner : IsGrid (inner_grid v)
   pub count : length v.samples ≡ point_count v.grid
   pub pad : IfSome v.pad IsSample
   pub holds : IfSome v.pad (HoldsPad v)

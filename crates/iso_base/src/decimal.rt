@@ -1,6 +1,6 @@
 ghost use Rattle.std.specs.Prelude.{◌≡◌, ◌+◌, ◌<◌, ◌≤◌, ◌^◌, ◌++◌, ◌∷◌, [], unsigned_abs, length, decimal};
 ghost use Rattle.arrayvec.specs.ArrayString.{array_string_len};
-ghost use Rattle.iso_defs.specs.Texts.{decimal_text, thousandths};
+ghost use Rattle.iso_defs.specs.Texts.{decimal_text, level_size_text, level_text, thousandths};
 
 use arrayvec::ArrayString;
 use itoa::Buffer;
@@ -19,20 +19,20 @@ fn put_digit(digit: u64, into: &mut ArrayString<24>)
 }
 
 fn put_whole(n: u64, into: &mut ArrayString<24>)
-    requires bound { n < 10 ^ 11 }
-    requires room { array_string_len into.old + 11 ≤ 24 }
+    requires bound { n < 10 ^ 17 }
+    requires room { array_string_len into.old + 17 ≤ 24 }
     ensures text { into.new.bytes ≡ into.old.bytes ++ decimal n }
-    ensures room { array_string_len into.new ≤ array_string_len into.old + 11 }
+    ensures room { array_string_len into.new ≤ array_string_len into.old + 17 }
+    ensures short { n < 10 ^ 11 → array_string_len into.new ≤ array_string_len into.old + 11 }
 {
     let mut buffer = Buffer::new();
     into.push_str(buffer.format(n));
 }
 
 fn put_thousandths(n: u64, into: &mut ArrayString<24>)
-    requires bound { n ≤ 2 ^ 44 }
-    requires room { array_string_len into.old + 15 ≤ 24 }
+    requires room { array_string_len into.old + 21 ≤ 24 }
     ensures text { into.new.bytes ≡ into.old.bytes ++ thousandths n }
-    ensures room { array_string_len into.new ≤ array_string_len into.old + 15 }
+    ensures short { n ≤ 2 ^ 44 → array_string_len into.new ≤ array_string_len into.old + 15 }
 {
     put_whole(n / 1000, into);
     into.push('.');
@@ -45,7 +45,7 @@ fn put_thousandths(n: u64, into: &mut ArrayString<24>)
 /// Appends the number with three decimals: a sign where it is negative, the whole part, a point and three digits.
 pub fn put_decimal(value: Thousandth, into: &mut ArrayString<24>)
     requires bound { unsigned_abs value.0 < 2 ^ 44 }
-    requires room { array_string_len into.old + 16 ≤ 24 }
+    requires room { array_string_len into.old + 22 ≤ 24 }
     ensures text { into.new.bytes ≡ into.old.bytes ++ decimal_text value.0 }
     ensures room { array_string_len into.new ≤ array_string_len into.old + 16 }
 {
@@ -54,5 +54,29 @@ pub fn put_decimal(value: Thousandth, into: &mut ArrayString<24>)
         put_thousandths(value.0.unsigned_abs(), into);
     } else {
         put_thousandths(value.0.unsigned_abs(), into);
+    }
+}
+
+fn put_level_size(n: u64, into: &mut ArrayString<24>)
+    requires room { array_string_len into.old + 21 ≤ 24 }
+    ensures text { into.new.bytes ≡ into.old.bytes ++ level_size_text n }
+{
+    if n % 1000 == 0 {
+        put_whole(n / 1000, into);
+    } else {
+        put_thousandths(n, into);
+    }
+}
+
+/// Appends a level, given in thousandths: as the whole number that it is, else with three decimals.
+pub fn put_level(thousandths: i64, into: &mut ArrayString<24>)
+    requires room { array_string_len into.old + 22 ≤ 24 }
+    ensures { into.new.bytes ≡ into.old.bytes ++ level_text thousandths }
+{
+    if thousandths < 0 {
+        into.push('-');
+        put_level_size(thousandths.unsigned_abs(), into);
+    } else {
+        put_level_size(thousandths.unsigned_abs(), into);
     }
 }

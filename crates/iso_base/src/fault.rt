@@ -3,9 +3,11 @@
 ghost use Rattle.std.specs.Prelude.{◌≡◌};
 
 use std::alloc::{AllocError, AllocFailed};
+use thiserror::Error;
 
 /// Memory could not be had.
-#[derive(Clone, Copy, Debug, PartialEq, Eq)]
+#[derive(Clone, Copy, Debug, PartialEq, Eq, Error)]
+#[error("no memory")]
 pub struct Memory;
 
 impl From<AllocError> for Memory {
@@ -21,25 +23,37 @@ impl<T: Drop> From<AllocFailed<T>> for Memory {
 }
 
 /// Why a workbench refuses a command.
-#[derive(Clone, Copy, Debug, PartialEq, Eq)]
+#[derive(Clone, Copy, Debug, PartialEq, Eq, Error)]
 pub enum BenchFault {
     /// Memory could not be had.
+    #[error("no memory")]
     Memory,
     /// A point is not in the unpadded volume.
+    #[error("outside of the volume")]
     Outside,
     /// A value is not one of the volume's kind; with the range of that kind.
+    #[error("no value from {least} to {greatest}")]
     ValueOutside { least: i64, greatest: i64 },
-    /// A level's absolute value is 2^33 or more.
+    /// A level's absolute value is 2^33 times 1,000 thousandths or more.
+    #[error("level out of range")]
     LevelOutside,
-    /// There is a pad and the level is not above it.
+    /// There is a pad and the level, in thousandths, is not above it.
+    #[error("level of {level} thousandths not above pad {pad}")]
     LevelNotAbovePad { level: i64, pad: i64 },
     /// There is no earlier state.
+    #[error("nothing to undo")]
     NothingToUndo,
+    /// There is no later state.
+    #[error("nothing to redo")]
+    NothingToRedo,
     /// A box has more points than one command may fill; with their number.
+    #[error("box of {n} points")]
     FillTooLarge { n: u64 },
     /// The shelf did not take the file.
+    #[error("file not written")]
     ShelfFailed,
     /// The volume has no such plane.
+    #[error("no plane {k}")]
     NoSuchPlane { k: i64 },
 }
 

@@ -14,7 +14,7 @@ mod triangles;
 mod verdict;
 mod voxels;
 
-pub use decimal::{Thousandth, put_decimal};
+pub use decimal::{Thousandth, put_decimal, put_level};
 pub use edge::{CellName, EdgeName, edge_name, edge_of};
 pub use fault::{BenchFault, Memory, Written};
 pub use kind::SampleKind;

@@ -3,15 +3,19 @@ ghost use Rattle.iso_defs.specs.Grid.{point_count};
 ghost use Rattle.iso_base.specs.Sizing.{IsGrid, sized};
 
 use std::marker::Model;
+use thiserror::Error;
 
 /// Why sizes are refused. Axis 0 is x, 1 is y, 2 is z.
-#[derive(Clone, Copy, Debug, PartialEq, Eq)]
+#[derive(Clone, Copy, Debug, PartialEq, Eq, Error)]
 pub enum SizeFault {
     /// An axis has fewer than 2 samples.
+    #[error("axis {axis} has {n} samples, fewer than 2")]
     TooThin { axis: u8, n: u64 },
     /// An axis has more than 1,026 samples.
+    #[error("axis {axis} has {n} samples, more than 1026")]
     AxisTooLong { axis: u8, n: u64 },
     /// The grid has more than 160,000,000 samples.
+    #[error("{n} samples, more than 160000000")]
     TooMany { n: u64 },
 }
 

@@ -2,7 +2,7 @@
 use Rattle.std.proofs.Common.{◌≡◌, ℕ, ◌+◌, ◌*◌, ◌/◌, ◌%◌, ◌<◌, ◌≤◌, Bool, false, cond, eqb, ◌||◌, List, [], ◌∷◌, ◌++◌, map, length, get_or, take, drop, refl, sym, inl, inr, ◌∙◌, ap, subst, arith, ℤ, pos, Some, None}
 use Rattle.std.proofs.lemmas.List.{map-append}
 use Rattle.std.proofs.Math.Seq.{take-append_seam}
-use Rattle.iso_defs.specs.Contours.{line_from}
+use Rattle.iso_defs.specs.Contours.{line_from, lines_of_least}
 use Rattle.std.specs.List.{flat_map}
 use Rattle.std.proofs.lemmas.Bool.{cases_Bool}
 use Rattle.iso_defs.specs.Lists.{below, begins, ends, is_in}
@@ -10,7 +10,7 @@ use Rattle.iso_defs.specs.Grid.{Grid, index, edge_name, edge_lower, edge_upper, 
 use Rattle.iso_defs.specs.Place.{place, edge_coordinate}
 use Rattle.std.proofs.lemmas.Nat.{div-add-mod', div_below, mod_below}
 use Rattle.plane_laws.proofs.Places.{HasSquare, active_square, needs_width, needs_height}
-use Rattle.plane_laws.specs.Lines.{lines_of_least, start_of}
+use Rattle.plane_laws.specs.Lines.{start_of}
 use Rattle.plane_laws.specs.Sides.{slot_name}
 use Rattle.plane_laws.proofs.Scan.{covered, new_line, old_line, no_line}
 use Rattle.plane_laws.proofs.Squares.{single, low}

@@ -1,6 +1,6 @@
 ghost use Rattle.std.specs.Prelude.{◌≡◌, ℕ, ◌*◌, ◌<◌, ℤ, All, IfOk, IsTrue, ◌↔◌, length, map};
+ghost use Rattle.iso_defs.specs.Contours.{contours};
 ghost use Rattle.iso_base.specs.Samples.{IsSample};
-ghost use Rattle.plane_laws.specs.Lines.{contours};
 ghost use Rattle.iso_defs.specs.Lists.{ends};
 ghost use Rattle.plane_contour.specs.Planes.{IsActive, IsEdge, IsPlane, name_at, pairs_of, plane_size};
 ghost use Rattle.plane_contour.specs.Drawn.{HasPlane, IsLineMet, IsNumbered, drawn};

@@ -4,13 +4,13 @@ use Rattle.std.specs.List.{flat_map, count_by}
 use Rattle.std.proofs.lemmas.Bool.{cases_Bool, and_parts, eqb-true, both_ways, cases_lt}
 use Rattle.iso_defs.specs.Lists.{below, begins, ends, steps, closing, around, least_of, count_pair}
 use Rattle.iso_defs.specs.Grid.{Grid, name_bound}
-use Rattle.iso_defs.specs.Contours.{line_from, plane_pairs}
+use Rattle.iso_defs.specs.Contours.{line_from, plane_pairs, lines_of_least, contours, line_pairs}
 use Rattle.verdict_laws.proofs.Lists.{In, In-flat_map, in_flat_map}
 use Rattle.verdict_laws.proofs.Counts.{Distinct, count-cons, count_none, count_some, count_finds, count_once, eq_pair}
 use Rattle.verdict_laws.proofs.FanWalk.{IsSingle, one_next, next_in, begins_from, ends_from, ends_in}
 use Rattle.mesh_laws.proofs.Cells.{Distinct-range}
 use Rattle.mesh_laws.proofs.Rows.{flat_flat}
-use Rattle.plane_laws.specs.Lines.{lines_of_least, contours, line_pairs, last_of}
+use Rattle.plane_laws.specs.Lines.{last_of}
 use Rattle.plane_laws.proofs.Walks.{Reached, turned, Told}
 use Rattle.plane_laws.proofs.Homes.{Listed, same_head, Home, home, relist, listed_at, active_on, line_told, line_in, start_in, last_turned, trace_cons, least_on}
 use Rattle.plane_laws.proofs.Scan.{Found, found, one_of_least, below_in}

@@ -4,7 +4,7 @@ use Rattle.std.specs.List.{filter, flat_map, list_any, range_with_len}
 use Rattle.std.proofs.lemmas.Bool.{cases_Bool, cases_lt, eqb-true, eq-eqb, both_ways}
 use Rattle.iso_defs.specs.Lists.{below, begins, ends, is_in, least_of}
 use Rattle.iso_defs.specs.Grid.{Grid, name_bound}
-use Rattle.iso_defs.specs.Contours.{line_from}
+use Rattle.iso_defs.specs.Contours.{line_from, lines_at, all_lines, lines_of_least}
 use Rattle.iso_defs.proofs.Ranges.{range_append}
 use Rattle.verdict_laws.proofs.Lists.{In, In-flat_map, in_flat_map, In-filter, in_filter, in_any, any_in}
 use Rattle.verdict_laws.proofs.Counts.{Distinct}
@@ -12,7 +12,7 @@ use Rattle.verdict_laws.proofs.Fans.{in_is_in}
 use Rattle.verdict_laws.proofs.FanWalk.{IsSingle, next_in, ends_in}
 use Rattle.mesh_laws.proofs.Cells.{range_at_least, range_in, Distinct-range}
 use Rattle.mesh_laws.proofs.Rows.{filter_flat}
-use Rattle.plane_laws.specs.Lines.{lines_at, all_lines, lines_of_least, start_of}
+use Rattle.plane_laws.specs.Lines.{start_of}
 use Rattle.plane_laws.proofs.Homes.{IsActive, Listed, listed, same_head, Home, home, start_is, least_on, least_below, active_on}
 
 pub filter_none : {A : Type 0} (p : A → Bool) (xs : List A) → ((x : A) → In x xs → p x ≡ true → ⊥) → filter p xs ≡ []

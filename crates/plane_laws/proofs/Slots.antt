@@ -5,13 +5,12 @@ use Rattle.std.proofs.lemmas.Bool.{cases_Bool, cases_lt}
 use Rattle.std.proofs.Math.Nat.{mul-le-mul_left}
 use Rattle.iso_defs.specs.Lists.{below, begins, ends, is_in}
 use Rattle.iso_defs.specs.Grid.{Grid, name_bound}
-use Rattle.iso_defs.specs.Contours.{squares, plane_pairs}
+use Rattle.iso_defs.specs.Contours.{squares, plane_pairs, lines_of_least, contours}
 use Rattle.iso_defs.proofs.Ranges.{range_append}
 use Rattle.verdict_laws.proofs.Lists.{In}
 use Rattle.verdict_laws.proofs.FanWalk.{next_in, ends_in}
 use Rattle.mesh_laws.proofs.Cells.{range_at_least}
 use Rattle.mesh_laws.proofs.Neighbours.{by_four}
-use Rattle.plane_laws.specs.Lines.{lines_of_least, contours}
 use Rattle.plane_laws.specs.Sides.{slot_name}
 use Rattle.plane_laws.proofs.Scan.{flat_more, flat_none, flat_append, no_line, in_below, covered}
 use Rattle.plane_laws.proofs.Squares.{side, Source, source, first_up, second_down, Spot, spot, single, low}

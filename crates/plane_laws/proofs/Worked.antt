@@ -1,7 +1,7 @@
+use Rattle.iso_defs.specs.Contours.{contours}
 -- Worked contour lines, by computation.
 use Rattle.std.specs.Prelude.{◌≡◌, ℕ, ℤ, pos, negsuc, [], ◌∷◌, true, false, if◌then◌else◌, ◌==◌}
 use Rattle.std.proofs.Common.{refl}
-use Rattle.plane_laws.specs.Lines.{contours}
 
 -- one point above in the middle of three by three
 peak : ℕ → ℤ
