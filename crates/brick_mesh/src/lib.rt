@@ -1,0 +1,8 @@
+//! The entries of a brick: which of its cells have a crossing edge, and the case of each.
+#![tactic(auto)]
+
+mod block;
+mod entries;
+mod signs;
+
+pub use entries::{extract_brick, extract_row};

@@ -1,0 +1,10 @@
+pub mod BrickNumbers
+pub mod Runs
+pub mod Corners
+pub mod Reaching
+pub mod Standing
+pub mod Writing
+pub mod Gathering
+pub mod Flattening
+pub mod RowWriting
+pub mod RowVolumes

@@ -1,0 +1,15 @@
+use Rattle.std.proofs.Common.{◌+◌, length}
+use Rattle.brick_store.specs.Copies.{home}
+use Rattle.brick_store.specs.Rows.{AreRowWritten, reach_end}
+use Rattle.brick_store.proofs.rows.write_layer.Given as goal
+
+abbrev pub invariant-loop-y : goal.invariant-loop-y
+invariant-loop-y l =
+    AreRowWritten l.sizes l.p l.values (record {
+      x = home l.p.x;
+      x_end = reach_end l.sizes.nx (l.p.x + length l.values);
+      y = home l.p.y;
+      y_end = l.y;
+      z = l.z;
+      z_end = l.z + 1;
+    }) l.fn.copies l.copies

@@ -1,0 +1,50 @@
+use Rattle.std.proofs.Common.{◌≡◌, ◌+◌, List, length, arith, subst, ℤ}
+use Rattle.brick_store.specs.Copies.{home}
+use Rattle.brick_store.specs.Rows.{AreRowWritten, reach_end, row_zone}
+use Rattle.brick_store.proofs.RowWriting.{both_written, joined_z, row_reaches, row_stands}
+use Rattle.brick_store.proofs.rows.write_row.Goals as goal
+
+pub loop-z-preserved : goal.loop-z-preserved
+loop-z-preserved c =
+    let g = c.args.sizes.now in
+    let p = c.args.p in
+    both_written g p c.args.values.now _ _ _ c.args.copies.now c.loop-z.copies _
+    (joined_z g (home p.x) (reach_end g.nx (p.x + length c.args.values.now)) (home p.y) (reach_end g.ny (p.y + 1)) (home p.z) 0 c.loop-z.z
+    (omega (arith, c.reaching-first.ensures.first, c.loop-z.auto.z)))
+    c.loop-z.invariant c.write_layer.ensures
+
+pub returns-clause-copies : goal.returns-clause-copies
+returns-clause-copies c =
+    let g = c.args.sizes.now in
+    let p = c.args.p in
+    let values : List ℤ = c.args.values.now in
+    let all : c.loop-z.z ≡ reach_end g.nz (p.z + 1) = omega (arith, c.reaching-first.ensures, c.nz.ensures.value, c.loop-z.auto.z-end, c.loop-z-test.false) in
+    let is : AreRowWritten g p values (row_zone g p (length values)) c.args.copies.now c.loop-z.copies
+    = subst (λ z. AreRowWritten g p values (record {
+      x = home p.x;
+      x_end = reach_end g.nx (p.x + length values);
+      y = home p.y;
+      y_end = reach_end g.ny (p.y + 1);
+      z = home p.z;
+      z_end = z;
+    }) c.args.copies.now c.loop-z.copies) all c.loop-z.invariant in
+    (row_stands g p values (row_zone g p (length values)) c.args.copies.now c.loop-z.copies c.nz.ensures.grid c.requires.point c.requires.fits c.requires.copies
+    (λ b x y z o row. row_reaches g p (length values) b x y z c.nz.ensures.grid c.requires.point c.requires.fits o row) is).0
+
+pub returns-clause-samples : goal.returns-clause-samples
+returns-clause-samples c =
+    let g = c.args.sizes.now in
+    let p = c.args.p in
+    let values : List ℤ = c.args.values.now in
+    let all : c.loop-z.z ≡ reach_end g.nz (p.z + 1) = omega (arith, c.reaching-first.ensures, c.nz.ensures.value, c.loop-z.auto.z-end, c.loop-z-test.false) in
+    let is : AreRowWritten g p values (row_zone g p (length values)) c.args.copies.now c.loop-z.copies
+    = subst (λ z. AreRowWritten g p values (record {
+      x = home p.x;
+      x_end = reach_end g.nx (p.x + length values);
+      y = home p.y;
+      y_end = reach_end g.ny (p.y + 1);
+      z = home p.z;
+      z_end = z;
+    }) c.args.copies.now c.loop-z.copies) all c.loop-z.invariant in
+    (row_stands g p values (row_zone g p (length values)) c.args.copies.now c.loop-z.copies c.nz.ensures.grid c.requires.point c.requires.fits c.requires.copies
+    (λ b x y z o row. row_reaches g p (length values) b x y z c.nz.ensures.grid c.requires.point c.requires.fits o row) is).1

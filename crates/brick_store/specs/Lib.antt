@@ -1,0 +1,5 @@
+pub mod Holding
+pub mod Copies
+pub mod Gathered
+pub mod Next
+pub mod Rows

@@ -1,0 +1,12 @@
+//! A volume in bricks of 8x8x8 cells, each with its own copy of every sample at a corner of one of its cells.
+#![tactic(auto)]
+
+mod copies;
+mod filling;
+mod flat;
+mod numbering;
+mod rows;
+mod store;
+
+pub use numbering::BrickId;
+pub use store::BrickStore;

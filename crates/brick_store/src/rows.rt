@@ -1,0 +1,105 @@
+//! Samples of a row, along x, written in each brick that holds them.
+ghost use Rattle.std.specs.Prelude.{◌≡◌, ◌+◌, ◌*◌, ◌<◌, ◌≤◌, length};
+ghost use Rattle.iso_defs.specs.Bricks.{brick_count, bricks_along};
+ghost use Rattle.iso_base.specs.Points.{IsPoint, index_of};
+ghost use Rattle.brick_store.specs.Copies.{AreCopies, home, samples_of};
+ghost use Rattle.brick_store.specs.Rows.{AreRowWritten, brick_zone, layer_zone, line_zone, reach_end, row_set};
+
+use crate::copies::copy_place;
+use crate::numbering::{brick_at, bricks_along, home, reaching};
+use iso_base::{Point, Sizes};
+
+/// Writes the copies that one brick has of the samples of a row from a point on.
+#[tactic(auto, using(crate::proofs::Standing::few_bricks))]
+fn write_in_brick(
+    sizes: &Sizes,
+    copies: &mut [i64],
+    x: u32,
+    y: u32,
+    z: u32,
+    p: Point,
+    values: &[i64],
+)
+    requires count { length copies.old ≡ 729 * brick_count sizes.now }
+    requires x { x < bricks_along sizes.now 0 }
+    requires y { y < bricks_along sizes.now 1 }
+    requires z { z < bricks_along sizes.now 2 }
+    requires fits { p.x + length values.now ≤ sizes.now.nx }
+    requires x_from { p.x ≤ 8 * x + 8 }
+    requires x_to { 8 * x < p.x + length values.now }
+    requires y_from { 8 * y ≤ p.y }
+    requires y_to { p.y ≤ 8 * y + 8 }
+    requires z_from { 8 * z ≤ p.z }
+    requires z_to { p.z ≤ 8 * z + 8 }
+    ensures { AreRowWritten sizes.now p values.now (brick_zone x y z) copies.old copies.new }
+{
+    let _ = sizes.nx();
+    let from = p.x.max(8 * x);
+    let end = (p.x + values.len() as u32).min(8 * x + 9);
+    let brick = brick_at(sizes, x, y, z);
+    let start = copy_place(brick, from - 8 * x, p.y - 8 * y, p.z - 8 * z);
+    let first = (from - p.x) as usize;
+    let count = (end - from) as usize;
+    copies[start..start + count].copy_from_slice(&values[first..first + count]);
+}
+
+/// Where the bricks along x end that reach a row of points before an end.
+fn row_end(points: u32, end: u32) -> u32
+    requires points { points ≤ 1026 }
+    requires end { end ≤ points }
+    ensures { result ≡ reach_end points end }
+{
+    ((end + 7) / 8).min(bricks_along(points))
+}
+
+/// Writes the copies of a row in the bricks of a line along x.
+fn write_line(sizes: &Sizes, copies: &mut [i64], y: u32, z: u32, p: Point, values: &[i64])
+    requires count { length copies.old ≡ 729 * brick_count sizes.now }
+    requires y { y < bricks_along sizes.now 1 }
+    requires z { z < bricks_along sizes.now 2 }
+    requires some { 0 < length values.now }
+    requires fits { p.x + length values.now ≤ sizes.now.nx }
+    requires y_from { 8 * y ≤ p.y }
+    requires y_to { p.y ≤ 8 * y + 8 }
+    requires z_from { 8 * z ≤ p.z }
+    requires z_to { p.z ≤ 8 * z + 8 }
+    ensures { AreRowWritten sizes.now p values.now (line_zone sizes.now p (length values.now) y z) copies.old copies.new }
+{
+    let first = home(p.x);
+    let end = row_end(sizes.nx(), p.x + values.len() as u32);
+    for x in first..end {
+        write_in_brick(sizes, copies, x, y, z, p, values);
+    }
+}
+
+/// Writes the copies of a row in the bricks of a layer across z.
+fn write_layer(sizes: &Sizes, copies: &mut [i64], z: u32, p: Point, values: &[i64])
+    requires count { length copies.old ≡ 729 * brick_count sizes.now }
+    requires point { IsPoint sizes.now p }
+    requires z { z < bricks_along sizes.now 2 }
+    requires some { 0 < length values.now }
+    requires fits { p.x + length values.now ≤ sizes.now.nx }
+    requires z_from { 8 * z ≤ p.z }
+    requires z_to { p.z ≤ 8 * z + 8 }
+    ensures { AreRowWritten sizes.now p values.now (layer_zone sizes.now p (length values.now) z) copies.old copies.new }
+{
+    let (first, end) = reaching(sizes.ny(), p.y);
+    for y in first..end {
+        write_line(sizes, copies, y, z, p, values);
+    }
+}
+
+/// Writes the samples of a row from a point on in each brick that holds them.
+pub fn write_row(sizes: &Sizes, copies: &mut [i64], p: Point, values: &[i64])
+    requires copies { AreCopies sizes.now copies.old }
+    requires point { IsPoint sizes.now p }
+    requires some { 0 < length values.now }
+    requires fits { p.x + length values.now ≤ sizes.now.nx }
+    ensures copies { AreCopies sizes.now copies.new }
+    ensures samples { samples_of sizes.now copies.new ≡ row_set (index_of sizes.now p) values.now (samples_of sizes.now copies.old) }
+{
+    let (first, end) = reaching(sizes.nz(), p.z);
+    for z in first..end {
+        write_layer(sizes, copies, z, p, values);
+    }
+}

@@ -1,0 +1,178 @@
+ghost use Rattle.std.specs.Prelude.{◌≡◌, ℕ, ◌+◌, ◌<◌, ◌≤◌, All, IfOk, IfSome, length, map, slice_set, true};
+ghost use Rattle.std.specs.List.{filter};
+ghost use Rattle.iso_defs.specs.Lists.{below};
+ghost use Rattle.iso_defs.specs.Grid.{is_cell, point_count};
+ghost use Rattle.iso_defs.specs.Outside.{is_outer};
+ghost use Rattle.iso_defs.specs.Cell.{cell_values};
+ghost use Rattle.iso_defs.specs.Bricks.{brick_count, brick_point, in_brick};
+ghost use Rattle.iso_base.specs.Points.{IsPoint, index_of};
+ghost use Rattle.iso_base.specs.Samples.{IsOfKind, IsSample};
+ghost use Rattle.iso_base.specs.Volume.{IsInner, IsVolume, Volume, sample};
+ghost use Rattle.brick_store.specs.Holding.{IsCellOf, brick_of, holds_point, local_of, points_along, row_length};
+ghost use Rattle.brick_store.specs.Rows.{row_set};
+
+use crate::numbering::{self, BrickId};
+use crate::{copies, filling, flat, rows};
+use arrayvec::ArrayVec;
+use iso_base::{CellName, Memory, Point, SampleKind, Sizes};
+use std::alloc::Global;
+use std::marker::Model;
+use voxel_list::VoxelList;
+
+/// A volume in bricks of 8x8x8 cells, in the order of their numbers. Each has 729 samples of its own, eight bytes each:
+/// those at the corners of its cells, and zeros behind the end of the grid. Contracts see a store as the volume that it stands for.
+#[derive(Debug, Drop)]
+pub struct BrickStore {
+    sizes: Sizes,
+    kind: SampleKind,
+    pad: Option<i64>,
+    copies: Vec<i64>,
+}
+
+impl Model for BrickStore {
+    ghost use Rattle.iso_base.specs.Volume.{Volume};
+    ghost use Rattle.brick_store.specs.Copies.{AreBricks, volume_of};
+
+    ghost Value = { Volume };
+
+    ghost view = { λ s. volume_of s.sizes s.kind s.pad s.copies.items };
+
+    ghost invariant = { λ s. AreBricks s.sizes s.kind s.pad s.copies.items };
+}
+
+impl BrickStore {
+    /// The bricks of a volume, which is dropped, also where memory is refused.
+    pub fn of(alloc: Global, volume: VoxelList) -> Result<BrickStore, Memory>
+        ensures { IfOk result (λ b. b ≡ volume) }
+    {
+        let sizes = volume.sizes();
+        let copies = filling::all_copies(alloc, &sizes, volume.samples())?;
+        Ok(BrickStore {
+            sizes,
+            kind: volume.kind(),
+            pad: volume.pad(),
+            copies,
+        })
+    }
+
+    /// The sizes of the stored grid, with the pad's layer.
+    pub fn sizes(&self) -> Sizes
+        ensures value { result ≡ self.now.grid }
+        ensures volume { IsVolume self.now }
+    {
+        let _ = &self.kind;
+        self.sizes
+    }
+
+    /// The kind of the samples.
+    pub fn kind(&self) -> SampleKind
+        ensures { result ≡ self.now.kind }
+    {
+        self.kind
+    }
+
+    /// The pad; none says that there is no pad.
+    pub fn pad(&self) -> Option<i64>
+        ensures value { result ≡ self.now.pad }
+        ensures range { IfSome result IsSample }
+    {
+        self.pad
+    }
+
+    /// The number of bricks.
+    pub fn brick_count(&self) -> u32
+        ensures { result ≡ brick_count self.now.grid }
+    {
+        numbering::brick_count(&self.sizes)
+    }
+
+    /// The sample of a point of the stored grid.
+    pub fn get(&self, p: Point) -> i64
+        requires { IsPoint self.now.grid p }
+        ensures value { result ≡ sample self.now.samples (index_of self.now.grid p) }
+        ensures range { IsSample result }
+    {
+        self.copies[copies::home_place(&self.sizes, p)]
+    }
+
+    /// Replaces the sample of a point of the stored grid in each brick that holds it:
+    /// a point of the pad's layer by the pad again, any other by a sample of the kind.
+    pub fn set(&mut self, p: Point, value: i64)
+        requires point { IsPoint self.old.grid p }
+        requires pad { IfSome self.old.pad (λ pad. is_outer self.old.grid (index_of self.old.grid p) ≡ true → value ≡ pad) }
+        requires kind { IsInner self.old (index_of self.old.grid p) → IsOfKind self.old.kind value }
+        ensures { self.new ≡ record self.old { samples = slice_set self.old.samples (index_of self.old.grid p) value } }
+    {
+        copies::set(&self.sizes, &mut self.copies, p, value);
+    }
+
+    /// Replaces samples of a row, along x from a point of the stored grid on, in each brick that holds them.
+    /// None of them is of the pad's layer. The cost is that of the row: a piece of it is copied into each such brick.
+    pub fn set_row(&mut self, p: Point, values: &[i64])
+        requires point { IsPoint self.old.grid p }
+        requires some { 0 < length values.now }
+        requires fits { p.x + length values.now ≤ self.old.grid.nx }
+        requires inner { (k : ℕ) → k < length values.now → IsInner self.old (index_of self.old.grid p + k) }
+        requires kind { All (IsOfKind self.old.kind) values.now }
+        ensures { self.new ≡ record self.old { samples = row_set (index_of self.old.grid p) values.now self.old.samples } }
+    {
+        rows::write_row(&self.sizes, &mut self.copies, p, values);
+    }
+
+    /// The samples at the corners of a cell, by corner: corner c lies c % 2 points on along x, c / 2 % 2 along y and c / 4 along z.
+    pub fn cell_values(&self, cell: CellName) -> [i64; 8]
+        requires index { cell.0 < point_count self.now.grid }
+        requires cell { is_cell self.now.grid cell.0 ≡ true }
+        ensures value { result ≡ cell_values self.now.grid (sample self.now.samples) cell.0 }
+        ensures range { All IsSample result }
+    {
+        copies::cell_values(&self.sizes, &self.copies, cell)
+    }
+
+    /// The brick that has a cell: each cell is in one brick.
+    pub fn brick_of(&self, cell: CellName) -> BrickId
+        requires index { cell.0 < point_count self.now.grid }
+        requires cell { is_cell self.now.grid cell.0 ≡ true }
+        ensures value { result.0 ≡ brick_of self.now.grid cell.0 }
+        ensures has { IsCellOf self.now.grid result.0 cell.0 (local_of self.now.grid cell.0) }
+        ensures only { (brick local : ℕ) → IsCellOf self.now.grid brick cell.0 local → brick ≡ result.0 }
+    {
+        numbering::brick_of(&self.sizes, cell)
+    }
+
+    /// The bricks that hold a copy of a point, ascending: at most two along each axis.
+    pub fn bricks_holding(&self, p: Point) -> ArrayVec<BrickId, 8>
+        requires { IsPoint self.now.grid p }
+        ensures { map (λ b. b.0) result.items ≡ filter (holds_point self.now.grid p) (below (brick_count self.now.grid)) }
+    {
+        numbering::bricks_holding(&self.sizes, p)
+    }
+
+    /// How many points a brick has along x, y and z, at most nine along each.
+    pub fn points_along(&self, brick: BrickId) -> [u8; 3]
+        requires { brick.0 < brick_count self.now.grid }
+        ensures { result ≡ map (points_along self.now.grid brick.0) (below 3) }
+    {
+        numbering::points_along(&self.sizes, brick)
+    }
+
+    /// The samples of a row of a brick, from its first point along x on: its own copies, where they lie in memory.
+    pub fn row(&self, brick: BrickId, y: u8, z: u8) -> &[i64]
+        requires brick { brick.0 < brick_count self.now.grid }
+        requires y { y < 9 }
+        requires z { z < 9 }
+        requires inside { in_brick self.now.grid brick.0 0 y z ≡ true }
+        ensures value { result.now ≡ map (λ x. sample self.now.samples (brick_point self.now.grid brick.0 x y z)) (below (row_length self.now.grid brick.0)) }
+        ensures range { All IsSample result.now }
+    {
+        copies::row(&self.sizes, &self.copies, brick, y, z)
+    }
+
+    /// The volume as one list of samples. The store stays.
+    pub fn flat(&self, alloc: Global) -> Result<VoxelList, Memory>
+        ensures { IfOk result (λ v. v ≡ self.now) }
+    {
+        let samples = flat::all_samples(alloc, &self.sizes, &self.copies)?;
+        Ok(VoxelList::new(self.sizes, self.kind, self.pad, samples))
+    }
+}
