@@ -1,0 +1,4 @@
+pub mod Cache
+pub mod Filing
+pub mod Offering
+pub mod Economy

@@ -1,0 +1,66 @@
+//! Pages, and the links that lead from one to the next.
+ghost use Rattle.std.specs.Prelude.{◌≡◌, ℕ, ◌+◌, ◌-◌, ◌/◌, ◌<◌, ◌≤◌, ◌≢◌, [], length, take, slice_index_or, All};
+ghost use Rattle.page_pool.specs.Chains.{need};
+ghost use Rattle.page_pool.specs.Layout.{follow, content};
+
+/// How many entries a page has room for.
+pub(crate) const PAGE_ENTRIES: usize = 32;
+
+/// A page of the pool.
+pub(crate) type Page = [u32; PAGE_ENTRIES];
+
+/// How many pages a list of so many entries needs, which is one at least.
+pub fn pages_needed(entries: usize) -> u32
+    requires { entries ≤ 512 }
+    ensures { result ≡ need entries }
+{
+    (entries.div_ceil(PAGE_ENTRIES) as u32).max(1)
+}
+
+/// The page that `steps` links lead to.
+pub(crate) fn follow(links: &[u32], from: u32, steps: u32) -> u32
+    requires { (k : ℕ) → k < steps → follow links.now k from < length links.now }
+    ensures { result ≡ follow links.now steps from }
+{
+    let mut page = from;
+    for _ in 0..steps {
+        page = links[page as usize];
+    }
+    page
+}
+
+/// A page that begins with these entries.
+fn page_of(entries: &[u32]) -> Page
+    requires { length entries.now ≤ 32 }
+    ensures entries { take (length entries.now) result ≡ entries.now }
+    ensures len { length result ≡ 32 }
+{
+    let mut page = [0; PAGE_ENTRIES];
+    page[..entries.len()].copy_from_slice(entries);
+    page
+}
+
+/// Writes entries over as many linked pages as they need, and gives the page that follows them.
+pub(crate) fn write_over(pages: &mut Vec<Page>, links: &[u32], first: u32, entries: &[u32]) -> u32
+    requires few { length entries.now ≤ 512 }
+    requires links { length links.now ≡ length pages.old.items }
+    requires whole { All (λ page. length page ≡ 32) pages.old.items }
+    requires inside { (k : ℕ) → k < need (length entries.now) → follow links.now k first < length links.now }
+    requires apart { (k j : ℕ) → k < need (length entries.now) → j < need (length entries.now)
+        → follow links.now k first ≡ follow links.now j first → k ≡ j }
+    ensures next { result ≡ follow links.now (need (length entries.now)) first }
+    ensures count { length pages.new.items ≡ length pages.old.items }
+    ensures whole { All (λ page. length page ≡ 32) pages.new.items }
+    ensures written { take (length entries.now) (content pages.new.items links.now (need (length entries.now)) first) ≡ entries.now }
+    ensures others { (page : ℕ) → ((k : ℕ) → k < need (length entries.now) → follow links.now k first ≢ page)
+        → slice_index_or pages.new.items page [] ≡ slice_index_or pages.old.items page [] }
+{
+    let mut page = first;
+    for k in 0..pages_needed(entries.len()) as usize {
+        let start = PAGE_ENTRIES * k;
+        let end = entries.len().min(start + PAGE_ENTRIES);
+        pages[page as usize] = page_of(&entries[start..end]);
+        page = links[page as usize];
+    }
+    page
+}
