@@ -1,0 +1,105 @@
+//! The points of a box one after another.
+
+ghost use Rattle.std.specs.Prelude.{◌≡◌, ◌+◌, ◌%◌, ◌^◌, ◌<◌, ◌≤◌, true, replicate, slice_set};
+ghost use Rattle.iso_base.specs.Points.{IsPoint, index_of};
+ghost use Rattle.iso_base.specs.Samples.{IsOfKind};
+ghost use Rattle.iso_base.specs.Volume.{IsInner};
+ghost use Rattle.voxel_list.specs.Areas.{area_count, is_in_area};
+ghost use Rattle.edit_log.specs.Boxes.{IsBox, IsInnerArea, area_grid, area_index, filled, part_filled};
+
+use brick_store::BrickStore;
+use iso_base::{Point, Sizes};
+use voxel_list::FillBox;
+
+/// The point number k of a box: x is fastest, z slowest.
+pub fn area_point(sizes: &Sizes, area: &FillBox, k: u32) -> Point
+    requires high { IsPoint sizes.now area.now.high }
+    requires number { k < area_count area.now }
+    ensures value { index_of sizes.now result ≡ area_index sizes.now area.now k }
+    ensures within { is_in_area sizes.now area.now (index_of sizes.now result) ≡ true }
+    ensures in_grid { IsPoint sizes.now result }
+    ensures box_of_grid { IsBox sizes.now area.now }
+{
+    let (low, high) = (area.low(), area.high());
+    let width = high.x - low.x + 1;
+    let depth = high.y - low.y + 1;
+    Point {
+        x: low.x + k % width,
+        y: low.y + k / width % depth,
+        z: low.z + k / width / depth,
+    }
+}
+
+/// Replaces the sample of a point that holds no pad.
+pub fn put_sample(store: &mut BrickStore, point: Point, value: &i64)
+    requires point { IsPoint store.old.grid point }
+    requires inner { IsInner store.old (index_of store.old.grid point) }
+    requires kind { IsOfKind store.old.kind value.now }
+    ensures { store.new ≡ record store.old { samples = slice_set store.old.samples (index_of store.old.grid point) value.now } }
+{
+    store.set(point, *value);
+}
+
+/// The number of points of a box of a grid.
+pub fn area_count(sizes: &Sizes, area: &FillBox) -> u32
+    requires { IsPoint sizes.now area.now.high }
+    ensures value { result ≡ area_count area.now }
+    ensures box_of_grid { IsBox sizes.now area.now }
+{
+    let _ = (sizes.nx(), area.low());
+    area.count() as u32
+}
+
+/// The most points that are replaced together.
+const PIECE: u32 = 64;
+
+/// A value as often as a whole piece has points.
+fn piece_of(value: &i64) -> [i64; 64]
+    ensures { result ≡ replicate 64 value.now }
+{
+    [*value; PIECE as usize]
+}
+
+/// How many points of a box from the number k on, before an end, are replaced together: those of one row, a piece at most.
+fn piece_of_row(area: &FillBox, k: u32, end: u32) -> u32
+    requires { k < end }
+    ensures some { 0 < result }
+    ensures piece { result ≤ 64 }
+    ensures end { k + result ≤ end }
+    ensures row { k % (area_grid area.now).nx + result ≤ (area_grid area.now).nx }
+{
+    let width = area.high().x - area.low().x + 1;
+    (end - k).min(width - k % width).min(PIECE)
+}
+
+/// Replaces the samples of the points of a box from a number on, so many. The cost is that of the rows that they lie in.
+pub fn fill_part(store: &mut BrickStore, area: &FillBox, from: u32, count: u32, value: &i64)
+    requires high { IsPoint store.old.grid area.now.high }
+    requires inner { IsInnerArea store.old area.now }
+    requires part { from + count ≤ area_count area.now }
+    requires fits { from + count < 2 ^ 32 }
+    requires kind { 0 < count → IsOfKind store.old.kind value.now }
+    ensures { store.new ≡ record store.old { samples = part_filled store.old.grid area.now from (from + count) value.now store.old.samples } }
+{
+    let sizes = store.sizes();
+    let values = piece_of(value);
+    let end = from + count;
+    let mut k = from;
+    while k < end {
+        let piece = piece_of_row(area, k, end);
+        let row = &values[..piece as usize];
+        store.set_row(area_point(&sizes, area, k), row);
+        k += piece;
+    }
+}
+
+/// Replaces the samples of all points of a box, which holds no pad. The cost is that of the box. Takes no memory.
+pub fn fill_area(store: &mut BrickStore, area: &FillBox, value: &i64)
+    requires high { IsPoint store.old.grid area.now.high }
+    requires inner { IsInnerArea store.old area.now }
+    requires kind { IsOfKind store.old.kind value.now }
+    ensures { store.new ≡ record store.old { samples = filled store.old.grid area.now value.now store.old.samples } }
+{
+    let count = area_count(&store.sizes(), area);
+    fill_part(store, area, 0, count, value);
+}
