@@ -5,10 +5,11 @@ ghost use Rattle.iso_defs.specs.Place.{centre_position};
 ghost use Rattle.iso_defs.specs.Scratch.{centre_name};
 ghost use Rattle.flat_mesh.specs.Lattice.{heights};
 ghost use Rattle.flat_mesh.specs.Numbers.{AreNumbers};
-ghost use Rattle.flat_mesh.specs.Centres.{IsCellAt, cell_place, centre_of, local_coordinate, local_mean};
+ghost use Rattle.flat_mesh.specs.Centres.{IsCellAt, cell_place, centre_of, local_mean};
 ghost use Rattle.flat_mesh.specs.Faces.{AllCross, IsLoop};
 
 use crate::lattice::Lattice;
+use edge_points::{rounded_mean, x_in_cell, y_in_cell, z_in_cell};
 use iso_base::Point;
 
 /// A cell: the index of its lowest point, and that point.
@@ -24,65 +25,6 @@ pub struct Cell {
 pub struct LoopCentre {
     pub name: u32,
     pub at: [u32; 3],
-}
-
-const X: [u32; 12] = [0, 0, 0, 0, 0, 1000, 0, 1000, 0, 1000, 0, 1000];
-
-const Y: [u32; 12] = [0, 1000, 0, 1000, 0, 0, 0, 0, 0, 0, 1000, 1000];
-
-const Z: [u32; 12] = [0, 0, 1000, 1000, 0, 0, 1000, 1000, 0, 0, 0, 0];
-
-#[inline(always)]
-fn along_x(place: u16, edge: u8) -> u32
-    requires edge { edge < 12 }
-    requires place { place ≤ 1000 }
-    ensures value { result ≡ local_coordinate (λ _. place) 0 edge }
-    ensures bound { result ≤ 1000 }
-{
-    if edge < 4 {
-        u32::from(place)
-    } else {
-        X[edge as usize]
-    }
-}
-
-#[inline(always)]
-fn along_y(place: u16, edge: u8) -> u32
-    requires edge { edge < 12 }
-    requires place { place ≤ 1000 }
-    ensures value { result ≡ local_coordinate (λ _. place) 1 edge }
-    ensures bound { result ≤ 1000 }
-{
-    if 4 <= edge && edge < 8 {
-        u32::from(place)
-    } else {
-        Y[edge as usize]
-    }
-}
-
-#[inline(always)]
-fn along_z(place: u16, edge: u8) -> u32
-    requires edge { edge < 12 }
-    requires place { place ≤ 1000 }
-    ensures value { result ≡ local_coordinate (λ _. place) 2 edge }
-    ensures bound { result ≤ 1000 }
-{
-    if 8 <= edge {
-        u32::from(place)
-    } else {
-        Z[edge as usize]
-    }
-}
-
-#[inline(always)]
-fn mean(sum: u32, count: u32) -> u32
-    requires some { 0 < count }
-    requires few { count ≤ 12 }
-    requires bound { sum ≤ 1000 * count }
-    ensures value { result ≡ (2 * sum + count) / (2 * count) }
-    ensures bound { result ≤ 1000 }
-{
-    (2 * sum + count) / (2 * count)
 }
 
 /// The place on a crossing edge of a cell.
@@ -114,12 +56,16 @@ fn local_centre(lattice: &Lattice, cell: Cell, numbers: &[u32; 12], edges: &[u8]
     let mut z = 0;
     for edge in edges {
         let place = place_on(lattice, cell, numbers, *edge);
-        x += along_x(place, *edge);
-        y += along_y(place, *edge);
-        z += along_z(place, *edge);
+        x += x_in_cell(*edge, place);
+        y += y_in_cell(*edge, place);
+        z += z_in_cell(*edge, place);
     }
     let count = edges.len() as u32;
-    [mean(x, count), mean(y, count), mean(z, count)]
+    [
+        rounded_mean(x, count),
+        rounded_mean(y, count),
+        rounded_mean(z, count),
+    ]
 }
 
 /// The vertex at the centre of the loop of that turn.

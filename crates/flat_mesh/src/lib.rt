@@ -13,8 +13,7 @@ mod ranks;
 mod rows;
 mod slices;
 
+pub use centres::Cell;
 pub use extract::extract_flat;
 pub use mesh::{Mesh, VertexName};
-
-#[cfg(test)]
-mod tests;
+pub use ranks::{cell_numbers, rank_points};

@@ -4,19 +4,7 @@ ghost use Rattle.std.specs.List.{sum_by};
 ghost use Rattle.crossing_edges.specs.Flags.{before_axis, edges_in};
 ghost use Rattle.flat_mesh.specs.Numbers.{edge_numbers};
 
-/// How many bits each number below eight has.
-const COUNTS: [u8; 8] = [0, 1, 1, 2, 1, 2, 2, 3];
-
-/// How many crossing edges a point has, by its flags.
-#[inline(always)]
-#[tactic(auto, using(crate::proofs::FlagCounts::counts_are))]
-fn count_edges(flags: u8) -> u32
-    requires { flags < 8 }
-    ensures value { result ≡ edges_in flags }
-    ensures bound { result ≤ 3 }
-{
-    u32::from(COUNTS[flags as usize])
-}
+use crossing_edges::count_edges;
 
 /// Writes the number of the first crossing edge of each point of a run, and behind them that of the next point.
 pub fn rank_points(flags: &[u8], start: u32, out: &mut [u32])

@@ -1,0 +1,5 @@
+pub mod Blocks
+pub mod Spans
+pub mod Numbers
+pub mod FourRows
+pub mod Joining

@@ -1,0 +1,292 @@
+//! The lines of the triangles, cell by cell.
+ghost use Rattle.std.specs.Prelude.{◌≡◌, ◌+◌, ◌-◌, ◌*◌, ◌/◌, ◌%◌, ◌<◌, ◌≤◌, ◌^◌, ◌∷◌, [], All, IfOk, length, map, slice_index};
+ghost use Rattle.std.specs.List.{sum_by};
+ghost use Rattle.iso_defs.specs.Rows.{row_count};
+ghost use Rattle.cell_loops.specs.Loops.{IsLoop, row_loops};
+ghost use Rattle.crossing_edges.specs.Flags.{rank};
+ghost use Rattle.flat_mesh.specs.Lattice.{heights};
+ghost use Rattle.flat_mesh.specs.Faces.{cell_faces, centres_of, loop_faces};
+ghost use Rattle.flat_mesh.specs.Centres.{IsCellAt};
+ghost use Rattle.stitch_rows.specs.Bricks.{AreMarked};
+ghost use Rattle.stitch_rows.specs.Named.{NamesCases};
+ghost use Rattle.stitch_rows.specs.Rows.{IsCaseOf};
+ghost use Rattle.stitch.specs.Blocks.{Adds, IsBehind};
+ghost use Rattle.stitch.specs.Numbers.{AreRowRanks, IsCaseRow, asked_before, asked_in_row};
+ghost use Rattle.stitch.specs.Spans.{all_faces_text, face_lines, faces_text, row_faces_text};
+ghost use Rattle.stitch.specs.FourRows.{AreCorners, HasNumber};
+
+use crate::block::Block;
+use crate::corners::{Corners, edge_numbers, rank_corners};
+use crate::ranks::row_at;
+use crate::style::Style;
+use crate::walk::next_cases;
+use case_table::CaseRow;
+use cell_loops::{loop_count, loop_edges};
+use edge_points::RowRanks;
+use flat_mesh::Cell;
+use iso_base::{Point, Steps};
+use iso_io::{Failed, Sink};
+use std::sync::ledger::Ledger;
+use stitch_rows::{ActiveRow, CellRows, Field, ROW, RankedRow};
+
+/// The number of a vertex of a loop.
+#[inline(always)]
+fn corner(numbers: &[u32; 12], edges: &[u8], i: usize) -> u32
+    requires edges { All (λ e. e < 12) edges.now }
+    requires bound { i < length edges.now }
+    ensures { result ≡ slice_index (map (slice_index numbers.now) edges.now) i }
+{
+    numbers[edges[i] as usize]
+}
+
+/// Puts the line of a triangle behind the others.
+#[inline(always)]
+fn put_face(style: Style, a: u32, b: u32, c: u32, block: &mut Block)
+    requires room { length block.old.waiting + 64 ≤ 32768 }
+    ensures put { IsBehind block.old block.new (face_lines style.format ((a ∷ b ∷ c ∷ []) ∷ [])) }
+    ensures few { length block.new.waiting ≤ length block.old.waiting + 64 }
+    ensures bytes { block.new.total ≤ block.old.total + 64 }
+{
+    block.push_line(&style.face_text(&[a, b, c]));
+}
+
+/// Puts the lines of the triangles of a loop with a centre behind the others.
+fn put_fan(style: Style, numbers: &[u32; 12], edges: &[u8], centre: u32, block: &mut Block)
+    requires edges { All (λ e. e < 12) edges.now }
+    requires long { 3 < length edges.now }
+    requires few { length edges.now ≤ 12 }
+    requires room { length block.old.waiting + 768 ≤ 32768 }
+    ensures put { IsBehind block.old block.new (face_lines style.format (loop_faces (map (slice_index numbers.now) edges.now) centre)) }
+    ensures few { length block.new.waiting ≤ length block.old.waiting + 768 }
+    ensures bytes { block.new.total ≤ block.old.total + 768 }
+{
+    let first = corner(numbers, edges, 0);
+    let mut last = first;
+    for i in 1..edges.len() {
+        let next = corner(numbers, edges, i);
+        put_face(style, last, next, centre, block);
+        last = next;
+    }
+    put_face(style, last, first, centre, block);
+}
+
+/// Puts the lines of the triangles of a loop behind the others, from the numbers of the edges of its cell and that of its
+/// centre.
+fn put_loop(style: Style, numbers: &[u32; 12], edges: &[u8], centre: u32, block: &mut Block)
+    requires edges { IsLoop edges.now }
+    requires room { length block.old.waiting + 768 ≤ 32768 }
+    ensures put { IsBehind block.old block.new (face_lines style.format (loop_faces (map (slice_index numbers.now) edges.now) centre)) }
+    ensures few { length block.new.waiting ≤ length block.old.waiting + 768 }
+    ensures bytes { block.new.total ≤ block.old.total + 768 }
+{
+    if edges.len() > 3 {
+        put_fan(style, numbers, edges, centre, block);
+        return;
+    }
+    put_face(
+        style,
+        corner(numbers, edges, 0),
+        corner(numbers, edges, 1),
+        corner(numbers, edges, 2),
+        block,
+    );
+}
+
+/// The number of the next centre behind a loop.
+#[inline(always)]
+fn behind_loop(edges: &[u8], next: u32) -> u32
+    requires { next < 2 ^ 32 - 1 }
+    ensures value { result ≡ next + centres_of edges.now }
+    ensures bound { result ≤ next + 1 }
+{
+    if edges.len() > 3 { next + 1 } else { next }
+}
+
+/// Puts the lines of the triangles of the loops of a case behind the others, where `first` is the number of the first centre,
+/// and gives that of the next one.
+fn put_loops(style: Style, numbers: &[u32; 12], case: CaseRow, first: u32, block: &mut Block) -> u32
+    requires room { length block.old.waiting + 3072 ≤ 32768 }
+    requires first { first < 2 ^ 31 }
+    ensures put { IsBehind block.old block.new (face_lines style.format (cell_faces numbers.now (row_loops case) first)) }
+    ensures next { result ≡ first + sum_by centres_of (row_loops case) }
+    ensures bytes { block.new.total ≤ block.old.total + 3072 }
+{
+    let mut next = first;
+    for turn in 0..loop_count(case) {
+        let edges = loop_edges(case, turn);
+        put_loop(style, numbers, edges, next, block);
+        next = behind_loop(edges, next);
+    }
+    next
+}
+
+/// Puts the lines of the triangles of a cell behind the others, where `next` is the number of its first centre, and gives that
+/// of the next cell's.
+fn write_cell<K: Sink>(
+    field: &Field,
+    style: Style,
+    corners: &Corners,
+    total: u32,
+    cell: Cell,
+    case: u16,
+    next: u32,
+    block: &mut Block,
+    sink: &mut K,
+) -> Result<u32, Failed>
+    requires cell { IsCellAt field.now.grid cell }
+    requires case { IsCaseOf field.now cell.index case }
+    requires corners { AreCorners field.now cell.low.y cell.low.z corners.now }
+    requires total { total ≡ rank field.now.grid (heights field.now) (3 * (field.now.grid.nx * row_count field.now.grid)) }
+    requires next { HasNumber field.now total cell.index next }
+    ensures adds { Adds (K.seen sink.old) (K.seen sink.new) block.old block.new result (faces_text style.format field.now cell.index 1) }
+    ensures next { IfOk result (λ n. HasNumber field.now total (cell.index + 1) n) }
+    ensures bytes { IfOk result (λ _. block.new.total ≤ block.old.total + 3072) }
+{
+    let _ = field.sizes();
+    let case = CaseRow::of(case);
+    if loop_count(case) == 0 {
+        return Ok(next);
+    }
+    block.reserve(sink)?;
+    let numbers = edge_numbers(field, corners, cell);
+    let next = put_loops(style, &numbers, case, next, block);
+    Ok(next)
+}
+
+/// Puts the lines of the triangles of a row of cells behind the others.
+fn write_cells<K: Sink>(
+    field: &Field,
+    style: Style,
+    corners: &Corners,
+    total: u32,
+    row: u32,
+    cases: &[u16],
+    next: u32,
+    block: &mut Block,
+    sink: &mut K,
+) -> Result<u32, Failed>
+    requires row { row < row_count field.now.grid }
+    requires count { length cases.now ≡ field.now.grid.nx }
+    requires cases { IsCaseRow field.now row cases.now }
+    requires corners { AreCorners field.now (row % field.now.grid.ny) (row / field.now.grid.ny) corners.now }
+    requires total { total ≡ rank field.now.grid (heights field.now) (3 * (field.now.grid.nx * row_count field.now.grid)) }
+    requires next { HasNumber field.now total (field.now.grid.nx * row) next }
+    ensures adds { Adds (K.seen sink.old) (K.seen sink.new) block.old block.new result (row_faces_text style field.now row) }
+    ensures next { IfOk result (λ n. HasNumber field.now total (field.now.grid.nx * (row + 1)) n) }
+    ensures bytes { IfOk result (λ _. block.new.total ≤ block.old.total + 3072 * field.now.grid.nx) }
+{
+    let sizes = field.sizes();
+    let (y, z) = row_at(&sizes, row);
+    let start = sizes.nx() * row;
+    let mut next = next;
+    for x in 0..sizes.nx() - 1 {
+        let cell = Cell {
+            index: start + x,
+            low: Point { x, y, z },
+        };
+        next = write_cell(
+            field,
+            style,
+            corners,
+            total,
+            cell,
+            cases[x as usize],
+            next,
+            block,
+            sink,
+        )?;
+    }
+    Ok(next)
+}
+
+/// Puts the lines of the triangles of the row of cells that a row of points begins behind the others.
+fn write_row<R: CellRows, K: Sink, L: Ledger>(
+    field: &Field,
+    style: Style,
+    active: &mut ActiveRow,
+    rows: &mut R,
+    ranks: &RowRanks,
+    total: u32,
+    row: u32,
+    cases: &mut [u16],
+    corners: &mut Corners,
+    next: u32,
+    block: &mut Block,
+    sink: &mut K,
+    steps: &mut Steps<L>,
+) -> Result<u32, Failed>
+    requires marked { AreMarked field.now active.old }
+    requires named { NamesCases (R.named rows.old) field.now.grid (heights field.now) }
+    requires ranks { AreRowRanks field.now ranks.now total }
+    requires row { row < row_count field.now.grid }
+    requires cases { length cases.old ≡ field.now.grid.nx }
+    requires next { HasNumber field.now total (field.now.grid.nx * row) next }
+    ensures adds { Adds (K.seen sink.old) (K.seen sink.new) block.old block.new result (row_faces_text style field.now row) }
+    ensures next { IfOk result (λ n. HasNumber field.now total (field.now.grid.nx * (row + 1)) n) }
+    ensures marked { AreMarked field.now active.new }
+    ensures same { R.named rows.new ≡ R.named rows.old }
+    ensures least { steps.old ≤ steps.new }
+    ensures most { steps.new ≤ steps.old + 8 * asked_in_row field.now (R.named rows.old) row }
+    ensures bytes { IfOk result (λ _. block.new.total ≤ block.old.total + 3072 * field.now.grid.nx) }
+{
+    if !next_cases(field, active, rows, ranks, total, row, cases, steps) {
+        return Ok(next);
+    }
+    rank_corners(field, active, ranks, total, row, corners);
+    let next = write_cells(field, style, corners, total, row, cases, next, block, sink)?;
+    Ok(next)
+}
+
+fn no_corners() -> Corners {
+    Corners {
+        near: RankedRow::new(),
+        up: RankedRow::new(),
+        far: RankedRow::new(),
+        both: RankedRow::new(),
+    }
+}
+
+/// Puts the lines of all triangles behind the others.
+pub fn write_faces<R: CellRows, K: Sink, L: Ledger>(
+    field: &Field,
+    style: Style,
+    rows: &mut R,
+    ranks: &RowRanks,
+    total: u32,
+    block: &mut Block,
+    sink: &mut K,
+    steps: &mut Steps<L>,
+) -> Result<(), Failed>
+    requires named { NamesCases (R.named rows.old) field.now.grid (heights field.now) }
+    requires ranks { AreRowRanks field.now ranks.now total }
+    ensures adds { Adds (K.seen sink.old) (K.seen sink.new) block.old block.new result (all_faces_text style field.now) }
+    ensures same { R.named rows.new ≡ R.named rows.old }
+    ensures least { steps.old ≤ steps.new }
+    ensures most { steps.new ≤ steps.old + 8 * asked_before field.now (R.named rows.old) (row_count field.now.grid) }
+    ensures bytes { IfOk result (λ _. block.new.total ≤ block.old.total + 3072 * (field.now.grid.nx * row_count field.now.grid)) }
+{
+    let sizes = field.sizes();
+    let mut cases = [0; ROW];
+    let cases = &mut cases[..sizes.nx() as usize];
+    let mut active = ActiveRow::new();
+    let mut corners = no_corners();
+    let mut next = total;
+    for row in 0..sizes.ny() * sizes.nz() {
+        next = write_row(
+            field,
+            style,
+            &mut active,
+            rows,
+            ranks,
+            total,
+            row,
+            cases,
+            &mut corners,
+            next,
+            block,
+            sink,
+            steps,
+        )?;
+    }
+    Ok(())
+}

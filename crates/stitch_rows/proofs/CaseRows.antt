@@ -1,0 +1,81 @@
+-- The cases of a row of cells, brick by brick.
+use Rattle.std.proofs.Common.{◌≡◌, ℕ, ◌+◌, ◌-◌, ◌*◌, ◌<◌, ◌≤◌, true, false, List, length, get_or, min, sym, ◌∙◌, ap, subst, arith, inl, inr, zero-add}
+use Rattle.std.proofs.lemmas.Bool.{cases_lt}
+use Rattle.std.proofs.lemmas.List.FromFn.{get_or-map-range_with_len, length-map-range_with_len}
+use Rattle.iso_defs.specs.Grid.{index}
+use Rattle.iso_defs.specs.Bricks.{brick_point, cell_case, cells_along, is_active, row_cases}
+use Rattle.iso_base.specs.Sizing.{IsGrid}
+use Rattle.flat_mesh.specs.Lattice.{Leveled, heights}
+use Rattle.stitch_rows.specs.declared.bricks.BrickRow.{BrickRow}
+use Rattle.stitch_rows.specs.Bricks.{HoldRow}
+use Rattle.stitch_rows.specs.Named.{IsCellRow, Named, NamesCases}
+use Rattle.stitch_rows.specs.Rows.{AreCasesTo, IsCaseOf}
+use Rattle.stitch_rows.proofs.Places.{cell_row, point_is, row_there, start_x, starts}
+use Rattle.stitch_rows.proofs.QuietBricks.{quiet_cell}
+use Rattle.stitch_rows.proofs.CellCases.{case_is, quiet_case}
+
+module _ (v : Leveled) (is : IsGrid v.grid) (x y z : ℕ) (hx : 8 * x + 1 < v.grid.nx) (hy : y + 1 < v.grid.ny) (hz : z + 1 < v.grid.nz) (held : BrickRow) (hold : HoldRow v.grid y z held) where
+  y_in : y < v.grid.ny
+  y_in = omega arith
+
+  z_in : z < v.grid.nz
+  z_in = omega arith
+
+  abbrev brick : ℕ
+  brick = held.first + x
+
+  -- how many cells the brick has along x
+  pub cells_are : cells_along v.grid brick ≡ min 8 (v.grid.nx - 1 - 8 * x)
+  cells_are = ap (λ n. min 8 (v.grid.nx - 1 - n)) (starts v.grid is x y z hx y_in z_in held hold 0 ∙ start_x v.grid is x y z hx y_in z_in)
+
+  pub is_row : IsCellRow v.grid brick held.y held.z
+  is_row = cell_row v.grid is x y z hx y_in z_in held hold hy hz
+
+  -- the cases that are named for an active brick
+  module _ (names : Named) (named : NamesCases names v.grid (heights v)) (active : is_active v.grid (heights v) brick ≡ true) (run : List ℕ) (same : run ≡ names.cases brick held.y held.z) where
+    run_is : run ≡ row_cases v.grid (heights v) brick held.y held.z
+    run_is = same ∙ named.each brick held.y held.z active is_row
+
+    pub run_length : length run ≡ min 8 (v.grid.nx - 1 - 8 * x)
+    run_length = ap length run_is ∙ (length-map-range_with_len (λ i. cell_case v.grid (heights v) (brick_point v.grid brick i held.y held.z)) 0 (cells_along v.grid brick) ∙ cells_are)
+
+    run_at : (i : ℕ) → i < length run → get_or run i 0 ≡ cell_case v.grid (heights v) (index v.grid (8 * x + i) y z)
+    run_at i low =
+        let len : length run ≡ cells_along v.grid brick
+        = ap length run_is ∙ length-map-range_with_len (λ i. cell_case v.grid (heights v) (brick_point v.grid brick i held.y held.z)) 0 (cells_along v.grid brick) in
+        ap (λ l. get_or l i 0) run_is
+        ∙ (get_or-map-range_with_len (λ i. cell_case v.grid (heights v) (brick_point v.grid brick i held.y held.z)) 0 (cells_along v.grid brick) i i 0 (omega arith) (zero-add i)
+        ∙ ap (cell_case v.grid (heights v)) (point_is v.grid is x y z hx y_in z_in held hold i))
+
+    pub cases_more : (start : ℕ) (old new : List ℕ) → start ≡ 8 * x
+        → ((k : ℕ) → k < length run → get_or new (start + k) 0 ≡ get_or run k 0) → ((k : ℕ) → k < start → get_or new k 0 ≡ get_or old k 0)
+        → AreCasesTo v y z (8 * x) old → AreCasesTo v y z (8 * x + 8) new
+    cases_more start old new at inside before cases k in_row low =
+        elim (cases_lt k (8 * x)) [
+          | inl earlier ↦ subst (IsCaseOf v (index v.grid k y z)) (sym (before k (omega arith))) (cases k in_row earlier)
+          | inr here ↦ (
+              let i : ℕ = k - 8 * x in
+              let within : i < length run = let len = run_length in omega arith in
+              let there : start + i ≡ k = omega arith in
+              let point : 8 * x + i ≡ k = omega arith in
+              let e : get_or new k 0 ≡ cell_case v.grid (heights v) (index v.grid k y z)
+              = sym (ap (λ n. get_or new n 0) there) ∙ (inside i within ∙ (run_at i within ∙ ap (λ n. cell_case v.grid (heights v) (index v.grid n y z)) point)) in
+              subst (IsCaseOf v (index v.grid k y z)) (sym e) (case_is v (index v.grid k y z)))
+        ]
+
+  -- those of a brick that is not active
+  pub quiet_more : (start end : ℕ) (old new : List ℕ) → is_active v.grid (heights v) brick ≡ false → start ≡ 8 * x → end ≡ min (start + 8) v.grid.nx
+      → ((k : ℕ) → start ≤ k → k < end → get_or new k 0 ≡ 0) → ((k : ℕ) → k < start → get_or new k 0 ≡ get_or old k 0)
+      → AreCasesTo v y z (8 * x) old → AreCasesTo v y z (8 * x + 8) new
+  quiet_more start end old new quiet at to inside before cases k in_row low =
+      elim (cases_lt k (8 * x)) [
+        | inl earlier ↦ subst (IsCaseOf v (index v.grid k y z)) (sym (before k (omega arith))) (cases k in_row earlier)
+        | inr here ↦ (
+            let i : ℕ = k - 8 * x in
+            let point : 8 * x + i ≡ k = omega arith in
+            let wide : 8 * x + (i + 1) < v.grid.nx = omega arith in
+            let there = row_there v.grid is x y z hx y_in z_in held hold (i + 1) 1 1 wide hy hz in
+            let none = quiet_cell v brick i held.y held.z (index v.grid k y z) quiet (omega arith) (is_row.y_low) (is_row.z_low) there
+            (point_is v.grid is x y z hx y_in z_in held hold i ∙ ap (λ n. index v.grid n y z) point) in
+            subst (IsCaseOf v (index v.grid k y z)) (sym (inside k (omega arith) (omega arith))) (quiet_case v (index v.grid k y z) none))
+      ]

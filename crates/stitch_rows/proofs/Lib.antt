@@ -1,0 +1,9 @@
+pub mod Places
+pub mod QuietBricks
+pub mod Asked
+pub mod CellCases
+pub mod CaseRows
+pub mod Heights
+pub mod NextBricks
+pub mod FlagRows
+pub mod StillFlags

@@ -1,0 +1,40 @@
+use Rattle.std.proofs.Common.{◌+◌, ◌*◌, sym, subst, ◌∙◌, refl, arith}
+use Rattle.flat_mesh.specs.Lattice.{heights}
+use Rattle.iso_defs.specs.Grid.{Grid}
+use Rattle.stitch_rows.specs.Named.{IsCellRow}
+use Rattle.stitch_rows.proofs.Asked.{asked_one}
+use Rattle.stitch_rows.proofs.Places.{few_bricks}
+use Rattle.stitch_rows.proofs.CaseRows.{cases_more, is_row, run_length}
+use Rattle.stitch_rows.proofs.cases.active_cases.Goals as goal
+
+pub overflow_add-row : goal.overflow_add-row
+overflow_add-row g c =
+    let v = c.args.field.now in
+    let row = is_row v c.sizes.ensures.leveled.grid c.args.x c.args.y c.args.z c.requires.x c.requires.y c.requires.z c.args.row c.requires.row in
+    omega (arith, row.known, few_bricks v.grid c.sizes.ensures.leveled.grid)
+
+pub row-requires : goal.row-requires
+row-requires g c =
+    let v = c.args.field.now in
+    subst (λ (g : Grid). IsCellRow g (c.args.row.first + c.args.x) c.args.row.y c.args.row.z) (sym c.requires.named.grid)
+    (is_row v c.sizes.ensures.leveled.grid c.args.x c.args.y c.args.z c.requires.x c.requires.y c.requires.z c.args.row c.requires.row)
+
+pub put_run-requires : goal.put_run-requires
+put_run-requires g c =
+    let v = c.args.field.now in
+    let len = run_length v c.sizes.ensures.leveled.grid c.args.x c.args.y c.args.z c.requires.x c.requires.y c.requires.z c.args.row c.requires.row
+    (g.R.CellRows.named c.args.rows.now) c.requires.named c.requires.active.is c.as_slice.result.now (c.as_slice.ensures.value ∙ c.row.ensures.cases) in
+    omega (arith, len, c.requires.cases)
+
+pub returns-clause-cases : goal.returns-clause-cases
+returns-clause-cases g c =
+    let v = c.args.field.now in
+    cases_more v c.sizes.ensures.leveled.grid c.args.x c.args.y c.args.z c.requires.x c.requires.y c.requires.z c.args.row c.requires.row
+    (g.R.CellRows.named c.args.rows.now) c.requires.named c.requires.active.is c.as_slice.result.now (c.as_slice.ensures.value ∙ c.row.ensures.cases)
+    (8 * c.args.x) c.args.cases.now c.put_run.new.out refl c.put_run.ensures.inside c.put_run.ensures.before c.requires.before
+
+pub returns-clause-most : goal.returns-clause-most
+returns-clause-most g c =
+    let v = c.args.field.now in
+    let one = asked_one v.grid (heights v) (g.R.CellRows.named c.args.rows.now) (c.args.row.first + c.args.x) c.requires.active.is in
+    omega (arith, one, c.row.ensures.most)

@@ -1,0 +1,20 @@
+use Rattle.std.proofs.Common.{◌≡◌, ◌+◌, ◌*◌, ◌≤◌, ◌∙◌, ap, subst, arith}
+use Rattle.iso_defs.specs.Grid.{Grid}
+use Rattle.stitch_rows.specs.Rows.{HasMoreFlags}
+use Rattle.stitch_rows.proofs.FlagRows.{flags_list}
+use Rattle.stitch_rows.proofs.points.flag_row.Goals as goal
+
+pub loop-x-preserved : goal.loop-x-preserved
+loop-x-preserved c =
+    let next : 8 * c.loop-x.x + 8 ≡ 8 * (c.loop-x.x + 1) = omega arith in
+    subst (λ n. HasMoreFlags c.args.field.now c.args.y c.args.z n c.brick_flags.new.flags) next c.brick_flags.ensures
+
+pub returns-clause-each : goal.returns-clause-each
+returns-clause-each c =
+    let v = c.args.field.now in
+    let end : v.grid.nx ≤ 8 * c.loop-x.x + 1
+    = omega (arith, c.loop-x-test.false, c.count_along-x-end.ensures.value, c.nx.ensures.value, ap (λ (g : Grid). g.nx) c.sizes-sizes.ensures.value) in
+    c.loop-x.invariant.all end
+
+pub returns-clause-list : goal.returns-clause-list
+returns-clause-list c = flags_list c.args.field.now c.args.y c.args.z c.loop-x.flags (c.loop-x.auto.flags ∙ c.requires.flags) (returns-clause-each c)

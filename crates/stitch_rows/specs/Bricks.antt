@@ -1,0 +1,54 @@
+-- The bricks that hold a row of points.
+use Rattle.std.specs.Prelude.{◌≡◌, ℕ, ◌+◌, ◌-◌, ◌*◌, ◌/◌, ◌<◌, ◌≤◌, ℤ, Bool, true, false, min, List, slice_index_or}
+use Rattle.iso_defs.specs.Grid.{Grid}
+use Rattle.iso_defs.specs.Bricks.{brick_count, bricks_along, is_active}
+use Rattle.flat_mesh.specs.Lattice.{Leveled, heights}
+use Rattle.stitch_rows.specs.declared.active.ActiveRow.{ActiveRow}
+use Rattle.stitch_rows.specs.declared.bricks.BrickRow.{BrickRow}
+use Rattle.stitch_rows.specs.declared.points.Rows.{Rows}
+
+-- the last row of bricks along an axis that holds a coordinate
+abbrev pub brick_at : Grid → ℕ → ℕ → ℕ
+brick_at g axis c = min (c / 8) (bricks_along g axis - 1)
+
+-- the first brick that holds the points (x, y, z) for the least x
+abbrev pub first_brick : Grid → ℕ → ℕ → ℕ
+first_brick g y z = bricks_along g 0 * (brick_at g 1 y + bricks_along g 1 * brick_at g 2 z)
+
+-- the bricks that hold a row of points, and where it is in them
+pub record HoldRow (g : Grid) (y z : ℕ) (row : BrickRow) : Type 0 where
+  pub first : row.first ≡ first_brick g y z
+  pub y_at : row.y + 8 * brick_at g 1 y ≡ y
+  pub z_at : row.z + 8 * brick_at g 2 z ≡ z
+
+-- the next coordinate along an axis of this size, or the last one again
+abbrev pub next_at : ℕ → ℕ → ℕ
+next_at c size = min (c + 1) (size - 1)
+
+-- the same of a row and of the next ones along y and z, or of itself where there is none
+pub record HoldRows (g : Grid) (y z : ℕ) (rows : Rows) : Type 0 where
+  pub here : HoldRow g y z rows.here
+  pub up : HoldRow g (next_at y g.ny) z rows.up
+  pub far : HoldRow g y (next_at z g.nz) rows.far
+
+-- a brick is active at a level
+pub record IsActive (v : Leveled) (brick : ℕ) : Type 0 where
+  pub is : is_active v.grid (heights v) brick ≡ true
+
+-- a brick is not
+pub record IsStill (v : Leveled) (brick : ℕ) : Type 0 where
+  pub is : is_active v.grid (heights v) brick ≡ false
+
+-- the least active brick from a number on, or a number behind all bricks
+pub record IsNextFrom (g : Grid) (s : ℕ → ℤ) (from next : ℕ) : Type 0 where
+  pub least : from ≤ next
+  pub active : next < brick_count g → is_active g s next ≡ true
+  pub none_before : (b : ℕ) → from ≤ b → b < next → b < brick_count g → is_active g s b ≡ false
+
+-- these say which of the first bricks of a row of bricks are active
+pub record AreMarkedTo (v : Leveled) (first count : ℕ) (marks : List Bool) : Type 0 where
+  pub each : (x : ℕ) → x < count → first + x < brick_count v.grid → slice_index_or marks x false ≡ is_active v.grid (heights v) (first + x)
+
+-- and these of all of them
+abbrev pub AreMarked : Leveled → ActiveRow → Type 0
+AreMarked v row = AreMarkedTo v row.first (bricks_along v.grid 0) row.active

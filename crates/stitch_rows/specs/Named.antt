@@ -1,0 +1,40 @@
+-- The cases that are named for the cells of rows of bricks.
+use Rattle.std.specs.Prelude.{◌≡◌, ℕ, ◌+◌, ◌<◌, ◌&&◌, ℤ, Bool, true, not, cond, List}
+use Rattle.std.specs.List.{count_by, range_with_len}
+use Rattle.iso_defs.specs.Grid.{Grid}
+use Rattle.iso_defs.specs.Bricks.{brick_count, bricks_along, in_brick, is_active, row_cases}
+use Rattle.stitch_rows.specs.Bricks.{first_brick}
+
+-- for each row of each brick the case numbers of its cells, and which bricks are kept
+pub record Named : Type 0 where
+  pub grid : Grid
+  pub cases : ℕ → ℕ → ℕ → List ℕ
+  pub kept : ℕ → Bool
+
+-- a brick has a row of cells
+pub record IsCellRow (g : Grid) (brick y z : ℕ) : Type 0 where
+  pub known : brick < brick_count g
+  pub y_low : y < 8
+  pub z_low : z < 8
+  pub there : in_brick g brick 1 (y + 1) (z + 1) ≡ true
+
+-- these are named for each row of each active brick
+pub record NamesCases (names : Named) (g : Grid) (s : ℕ → ℤ) : Type 0 where
+  pub grid : names.grid ≡ g
+  pub each : (brick y z : ℕ) → is_active g s brick ≡ true → IsCellRow g brick y z → names.cases brick y z ≡ row_cases g s brick y z
+
+-- how many steps a row of a brick may cost
+abbrev pub row_cost : Named → ℕ → ℕ
+row_cost names brick = cond (names.kept brick) 0 8
+
+-- whether the brick is active and not kept
+unfoldable pub is_asked : Grid → (ℕ → ℤ) → Named → ℕ → Bool
+is_asked g s names brick = is_active g s brick && not (names.kept brick)
+
+-- how many bricks are, among n from a number on
+unfoldable pub asked_among : Grid → (ℕ → ℤ) → Named → ℕ → ℕ → ℕ
+asked_among g s names a n = count_by (is_asked g s names) (range_with_len a n)
+
+-- how many are, among the bricks that hold the points (x, y, z) for all x
+abbrev pub asked_along : Grid → (ℕ → ℤ) → Named → ℕ → ℕ → ℕ
+asked_along g s names y z = asked_among g s names (first_brick g y z) (bricks_along g 0)

@@ -1,0 +1,146 @@
+//! The cases of the cells of a row, brick by brick.
+ghost use Rattle.std.specs.Prelude.{◌≡◌, ℕ, ◌+◌, ◌*◌, ◌<◌, ◌≤◌, length, slice_index};
+ghost use Rattle.flat_mesh.specs.Lattice.{heights};
+ghost use Rattle.stitch_rows.specs.Bricks.{AreMarked, HoldRow, IsActive, IsStill, first_brick};
+ghost use Rattle.stitch_rows.specs.Named.{NamesCases, asked_along, asked_among};
+ghost use Rattle.stitch_rows.specs.Rows.{AreCases, AreCasesTo};
+
+use crate::active::ActiveRow;
+use crate::bricks::{BrickRow, count_along};
+use crate::field::Field;
+use crate::named::CellRows;
+use arrayvec::ArrayVec;
+use brick_store::BrickId;
+use iso_base::Steps;
+use std::sync::ledger::Ledger;
+
+/// Writes a run of numbers from a place on.
+fn put_run(run: &[u16], start: usize, out: &mut [u16])
+    requires { start + length run.now ≤ length out.old }
+    ensures inside { (k : ℕ) → k < length run.now → slice_index out.new (start + k) ≡ slice_index run.now k }
+    ensures before { (k : ℕ) → k < start → slice_index out.new k ≡ slice_index out.old k }
+{
+    for i in 0..run.len() {
+        out[start + i] = run[i];
+    }
+}
+
+/// Writes 0 from a place to before another.
+fn put_zeros(start: usize, end: usize, out: &mut [u16])
+    requires { end ≤ length out.old }
+    ensures inside { (k : ℕ) → start ≤ k → k < end → slice_index out.new k ≡ 0 }
+    ensures before { (k : ℕ) → k < start → slice_index out.new k ≡ slice_index out.old k }
+{
+    for i in start..end {
+        out[i] = 0;
+    }
+}
+
+/// Writes the cases of the cells of a row that an active brick has: those from 8 * x on.
+fn active_cases<R: CellRows, L: Ledger>(
+    field: &Field,
+    rows: &mut R,
+    row: BrickRow,
+    x: u32,
+    y: u32,
+    z: u32,
+    cases: &mut [u16],
+    steps: &mut Steps<L>,
+)
+    requires x { 8 * x + 1 < field.now.grid.nx }
+    requires y { y + 1 < field.now.grid.ny }
+    requires z { z + 1 < field.now.grid.nz }
+    requires row { HoldRow field.now.grid y z row }
+    requires cases { length cases.old ≡ field.now.grid.nx }
+    requires active { IsActive field.now (row.first + x) }
+    requires named { NamesCases (R.named rows.old) field.now.grid (heights field.now) }
+    requires before { AreCasesTo field.now y z (8 * x) cases.old }
+    ensures cases { AreCasesTo field.now y z (8 * x + 8) cases.new }
+    ensures same { R.named rows.new ≡ R.named rows.old }
+    ensures least { steps.old ≤ steps.new }
+    ensures most { steps.new ≤ steps.old + 8 * asked_among field.now.grid (heights field.now) (R.named rows.old) (row.first + x) 1 }
+{
+    let _ = field.sizes();
+    let mut run = ArrayVec::new();
+    rows.row(BrickId(row.first + x), row.y, row.z, &mut run, steps);
+    put_run(run.as_slice(), 8 * x as usize, cases);
+}
+
+/// Writes a case without loops for each cell of a row that a brick which is not active has: those from 8 * x on.
+fn quiet_cases(field: &Field, row: BrickRow, x: u32, y: u32, z: u32, cases: &mut [u16])
+    requires x { 8 * x + 1 < field.now.grid.nx }
+    requires y { y + 1 < field.now.grid.ny }
+    requires z { z + 1 < field.now.grid.nz }
+    requires row { HoldRow field.now.grid y z row }
+    requires cases { length cases.old ≡ field.now.grid.nx }
+    requires still { IsStill field.now (row.first + x) }
+    requires before { AreCasesTo field.now y z (8 * x) cases.old }
+    ensures { AreCasesTo field.now y z (8 * x + 8) cases.new }
+{
+    let nx = field.sizes().nx() as usize;
+    let start = 8 * x as usize;
+    put_zeros(start, (start + 8).min(nx), cases);
+}
+
+/// Writes the cases of the cells of a row that a brick has: those from 8 * x on.
+fn brick_cases<R: CellRows, L: Ledger>(
+    field: &Field,
+    active: &ActiveRow,
+    rows: &mut R,
+    row: BrickRow,
+    x: u32,
+    y: u32,
+    z: u32,
+    cases: &mut [u16],
+    steps: &mut Steps<L>,
+)
+    requires active { AreMarked field.now active.now }
+    requires first { active.now.first ≡ row.first }
+    requires x { 8 * x + 1 < field.now.grid.nx }
+    requires y { y + 1 < field.now.grid.ny }
+    requires z { z + 1 < field.now.grid.nz }
+    requires row { HoldRow field.now.grid y z row }
+    requires cases { length cases.old ≡ field.now.grid.nx }
+    requires named { NamesCases (R.named rows.old) field.now.grid (heights field.now) }
+    requires before { AreCasesTo field.now y z (8 * x) cases.old }
+    ensures cases { AreCasesTo field.now y z (8 * x + 8) cases.new }
+    ensures same { R.named rows.new ≡ R.named rows.old }
+    ensures least { steps.old ≤ steps.new }
+    ensures most { steps.new ≤ steps.old + 8 * asked_among field.now.grid (heights field.now) (R.named rows.old) (row.first + x) 1 }
+{
+    let _ = field.sizes();
+    if active.is_active(x) {
+        active_cases(field, rows, row, x, y, z, cases, steps);
+    } else {
+        quiet_cases(field, row, x, y, z, cases);
+    }
+}
+
+/// Writes for each cell of a row the number of a case that has its loops. It asks for each row of an active brick once, and
+/// for no row of another one.
+pub fn case_row<R: CellRows, L: Ledger>(
+    field: &Field,
+    active: &ActiveRow,
+    rows: &mut R,
+    y: u32,
+    z: u32,
+    cases: &mut [u16],
+    steps: &mut Steps<L>,
+)
+    requires active { AreMarked field.now active.now }
+    requires first { active.now.first ≡ first_brick field.now.grid y z }
+    requires y { y + 1 < field.now.grid.ny }
+    requires z { z + 1 < field.now.grid.nz }
+    requires cases { length cases.old ≡ field.now.grid.nx }
+    requires named { NamesCases (R.named rows.old) field.now.grid (heights field.now) }
+    ensures cases { AreCases field.now y z cases.new }
+    ensures same { R.named rows.new ≡ R.named rows.old }
+    ensures least { steps.old ≤ steps.new }
+    ensures most { steps.new ≤ steps.old + 8 * asked_along field.now.grid (heights field.now) (R.named rows.old) y z }
+{
+    let sizes = field.sizes();
+    let row = BrickRow::of(&sizes, y, z);
+    for x in 0..count_along(sizes.nx()) {
+        brick_cases(field, active, rows, row, x, y, z, cases, steps);
+    }
+}

@@ -1,0 +1,249 @@
+//! The points of a row: their flags, and the numbers of their crossing edges.
+ghost use Rattle.std.specs.Prelude.{◌≡◌, ℕ, ◌+◌, ◌-◌, ◌*◌, ◌<◌, ◌≤◌, length, slice_index};
+ghost use Rattle.crossing_edges.specs.Flags.{flags_from, rank};
+ghost use Rattle.flat_mesh.specs.Lattice.{heights};
+ghost use Rattle.flat_mesh.specs.Rows.{row_start};
+ghost use Rattle.crossing_edges.specs.Signs.{flag_of, right_of};
+ghost use Rattle.stitch_rows.specs.Bricks.{AreMarked, HoldRow, HoldRows, IsStill, first_brick, next_at};
+ghost use Rattle.stitch_rows.specs.Rows.{AreFirst, AreFlags, AreFlagsTo, AreRunSigns, HasMoreFlags};
+
+use crate::active::ActiveRow;
+use crate::bricks::{BrickRow, count_along};
+use crate::field::Field;
+use corner_signs::sign_row;
+use flat_mesh::rank_points;
+use iso_base::Sizes;
+
+/// The most points of a row.
+pub const ROW: usize = 1026;
+
+/// One more.
+const NUMBERS: usize = 1027;
+
+/// The most points of a row that a brick holds.
+const RUN: usize = 9;
+
+/// Where the rows are that decide the flags of a row of points: it itself, and the next ones along y and z, or it itself again where
+/// there is none.
+#[derive(Clone, Copy)]
+struct Rows {
+    here: BrickRow,
+    up: BrickRow,
+    far: BrickRow,
+}
+
+/// Writes the signs of the points of a row that a brick holds: those from 8 * x on.
+#[inline(always)]
+fn run_signs(field: &Field, row: BrickRow, x: u32, y: u32, z: u32, out: &mut [u8; RUN])
+    requires x { 8 * x + 1 < field.now.grid.nx }
+    requires y { y < field.now.grid.ny }
+    requires z { z < field.now.grid.nz }
+    requires row { HoldRow field.now.grid y z row }
+    ensures { AreRunSigns field.now (8 * x) y z out.new }
+{
+    let run = field.run(row, x, y, z);
+    sign_row(run, field.level(), &mut out[..run.len()]);
+}
+
+/// The next coordinate, or the last one again.
+#[inline(always)]
+fn next_along(at: u32, size: u32) -> u32
+    requires { at < size }
+    ensures value { result ≡ next_at at size }
+    ensures bound { result < size }
+{
+    (at + 1).min(size - 1)
+}
+
+/// Where the rows are that decide the flags of a row of points.
+fn rows_at(sizes: &Sizes, y: u32, z: u32) -> Rows
+    requires y { y < sizes.now.ny }
+    requires z { z < sizes.now.nz }
+    ensures { HoldRows sizes.now y z result }
+{
+    Rows {
+        here: BrickRow::of(sizes, y, z),
+        up: BrickRow::of(sizes, next_along(y, sizes.ny()), z),
+        far: BrickRow::of(sizes, y, next_along(z, sizes.nz())),
+    }
+}
+
+/// Writes the flags of a run of points from a place on, from their signs and those of the next points along y and z.
+fn put_flags(here: &[u8], up: &[u8], far: &[u8], start: usize, flags: &mut [u8])
+    requires some { 0 < length here.now }
+    requires up { length up.now ≡ length here.now }
+    requires far { length far.now ≡ length here.now }
+    requires flags { start + length here.now ≤ length flags.old }
+    ensures inside { (i : ℕ) → i < length here.now → slice_index flags.new (start + i)
+        ≡ flag_of (slice_index here.now i) (right_of here.now (length here.now) i) (slice_index up.now i) (slice_index far.now i) }
+    ensures before { (k : ℕ) → k < start → slice_index flags.new k ≡ slice_index flags.old k }
+{
+    crossing_edges::flag_row(here, up, far, &mut flags[start..start + here.len()]);
+}
+
+/// Writes the flags of the points of a row that an active brick holds: those from 8 * x on.
+fn active_flags(field: &Field, rows: Rows, x: u32, y: u32, z: u32, flags: &mut [u8])
+    requires x { 8 * x + 1 < field.now.grid.nx }
+    requires y { y < field.now.grid.ny }
+    requires z { z < field.now.grid.nz }
+    requires rows { HoldRows field.now.grid y z rows }
+    requires flags { length flags.old ≡ field.now.grid.nx }
+    requires before { AreFlagsTo field.now y z (8 * x) flags.old }
+    ensures { HasMoreFlags field.now y z (8 * x + 8) flags.new }
+{
+    let sizes = field.sizes();
+    let (mut here, mut up, mut far) = ([0; RUN], [0; RUN], [0; RUN]);
+    run_signs(field, rows.here, x, y, z, &mut here);
+    run_signs(field, rows.up, x, next_along(y, sizes.ny()), z, &mut up);
+    run_signs(field, rows.far, x, y, next_along(z, sizes.nz()), &mut far);
+    let count = (sizes.nx() - 8 * x).min(RUN as u32) as usize;
+    let start = 8 * x as usize;
+    put_flags(&here[..count], &up[..count], &far[..count], start, flags);
+}
+
+/// Writes 0 from a place to before another.
+fn put_zeros(start: usize, end: usize, flags: &mut [u8])
+    requires start { start ≤ end }
+    requires end { end ≤ length flags.old }
+    ensures inside { (k : ℕ) → start ≤ k → k < end → slice_index flags.new k ≡ 0 }
+    ensures before { (k : ℕ) → k < start → slice_index flags.new k ≡ slice_index flags.old k }
+{
+    flags[start..end].fill(0);
+}
+
+/// Writes the flags of the points of a row that a brick holds which is not active: those from 8 * x on.
+fn quiet_flags(field: &Field, row: BrickRow, x: u32, y: u32, z: u32, flags: &mut [u8])
+    requires x { 8 * x + 1 < field.now.grid.nx }
+    requires y { y < field.now.grid.ny }
+    requires z { z < field.now.grid.nz }
+    requires row { HoldRow field.now.grid y z row }
+    requires still { IsStill field.now (row.first + x) }
+    requires flags { length flags.old ≡ field.now.grid.nx }
+    requires before { AreFlagsTo field.now y z (8 * x) flags.old }
+    ensures { HasMoreFlags field.now y z (8 * x + 8) flags.new }
+{
+    let nx = field.sizes().nx() as usize;
+    let start = 8 * x as usize;
+    put_zeros(start, (start + RUN).min(nx), flags);
+}
+
+/// Writes the flags of the points of a row that a brick holds: those from 8 * x on.
+fn brick_flags(
+    field: &Field,
+    active: &ActiveRow,
+    rows: Rows,
+    x: u32,
+    y: u32,
+    z: u32,
+    flags: &mut [u8],
+)
+    requires active { AreMarked field.now active.now }
+    requires first { active.now.first ≡ rows.here.first }
+    requires x { 8 * x + 1 < field.now.grid.nx }
+    requires y { y < field.now.grid.ny }
+    requires z { z < field.now.grid.nz }
+    requires rows { HoldRows field.now.grid y z rows }
+    requires flags { length flags.old ≡ field.now.grid.nx }
+    requires before { AreFlagsTo field.now y z (8 * x) flags.old }
+    ensures { HasMoreFlags field.now y z (8 * x + 8) flags.new }
+{
+    let _ = field.sizes();
+    if active.is_active(x) {
+        active_flags(field, rows, x, y, z, flags);
+    } else {
+        quiet_flags(field, rows.here, x, y, z, flags);
+    }
+}
+
+/// Writes the flags of the points of a row. It looks at active bricks alone.
+pub fn flag_row(field: &Field, active: &ActiveRow, y: u32, z: u32, flags: &mut [u8])
+    requires active { AreMarked field.now active.now }
+    requires first { active.now.first ≡ first_brick field.now.grid y z }
+    requires y { y < field.now.grid.ny }
+    requires z { z < field.now.grid.nz }
+    requires flags { length flags.old ≡ field.now.grid.nx }
+    ensures each { AreFlags field.now y z flags.new }
+    ensures list { flags.new ≡ flags_from field.now.grid (heights field.now) (row_start field.now.grid y z) field.now.grid.nx }
+{
+    let sizes = field.sizes();
+    let rows = rows_at(&sizes, y, z);
+    for x in 0..count_along(sizes.nx()) {
+        brick_flags(field, active, rows, x, y, z, flags);
+    }
+}
+
+/// Writes the flags of the points of a row at the front of a buffer.
+fn set_flags(field: &Field, active: &ActiveRow, y: u32, z: u32, flags: &mut [u8; ROW])
+    requires active { AreMarked field.now active.now }
+    requires first { active.now.first ≡ first_brick field.now.grid y z }
+    requires y { y < field.now.grid.ny }
+    requires z { z < field.now.grid.nz }
+    ensures { AreFlags field.now y z flags.new }
+{
+    let nx = field.sizes().nx() as usize;
+    flag_row(field, active, y, z, &mut flags[..nx]);
+}
+
+/// Writes the numbers of the first crossing edges of the points of a row, and behind them that of the next row.
+fn rank_run(field: &Field, y: u32, z: u32, before: u32, flags: &[u8], first: &mut [u32])
+    requires y { y < field.now.grid.ny }
+    requires z { z < field.now.grid.nz }
+    requires before { before ≡ rank field.now.grid (heights field.now) (3 * row_start field.now.grid y z) }
+    requires count { length flags.now ≡ field.now.grid.nx }
+    requires flags { AreFlags field.now y z flags.now }
+    requires first { length first.old ≡ field.now.grid.nx + 1 }
+    ensures { AreFirst field.now y z first.new }
+{
+    let _ = field.sizes();
+    rank_points(flags, before, first);
+}
+
+/// Writes the same at the front of a buffer.
+fn set_first(
+    field: &Field,
+    y: u32,
+    z: u32,
+    before: u32,
+    flags: &[u8; ROW],
+    first: &mut [u32; NUMBERS],
+)
+    requires y { y < field.now.grid.ny }
+    requires z { z < field.now.grid.nz }
+    requires before { before ≡ rank field.now.grid (heights field.now) (3 * row_start field.now.grid y z) }
+    requires flags { AreFlags field.now y z flags.now }
+    ensures { AreFirst field.now y z first.new }
+{
+    let nx = field.sizes().nx() as usize;
+    rank_run(field, y, z, before, &flags[..nx], &mut first[..nx + 1]);
+}
+
+/// The flags of the points of a row, the number of the first crossing edge of each, and behind them that of the next row.
+#[derive(Drop)]
+pub struct RankedRow {
+    pub flags: [u8; ROW],
+    pub first: [u32; NUMBERS],
+}
+
+impl RankedRow {
+    /// A row of which nothing is known.
+    pub fn new() -> RankedRow {
+        RankedRow {
+            flags: [0; ROW],
+            first: [0; NUMBERS],
+        }
+    }
+}
+
+/// Writes the flags and the numbers of the points of a row, where `before` crossing edges begin in earlier rows.
+pub fn rank_row(field: &Field, active: &ActiveRow, y: u32, z: u32, before: u32, row: &mut RankedRow)
+    requires active { AreMarked field.now active.now }
+    requires first { active.now.first ≡ first_brick field.now.grid y z }
+    requires y { y < field.now.grid.ny }
+    requires z { z < field.now.grid.nz }
+    requires before { before ≡ rank field.now.grid (heights field.now) (3 * row_start field.now.grid y z) }
+    ensures flags { AreFlags field.now y z row.new.flags }
+    ensures first { AreFirst field.now y z row.new.first }
+{
+    set_flags(field, active, y, z, &mut row.flags);
+    set_first(field, y, z, before, &row.flags, &mut row.first);
+}
