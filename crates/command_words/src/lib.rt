@@ -7,6 +7,3 @@ mod request;
 
 pub use read::read_words;
 pub use request::Request;
-
-#[cfg(test)]
-mod tests;

@@ -1,15 +1,17 @@
 //! Which request the words are.
 
-ghost use Rattle.std.specs.Prelude.{◌≡◌, map, string_bytes, IfSome};
+ghost use Rattle.std.specs.Prelude.{◌≡◌, ◌≤◌, map, string_bytes, IfSome};
 ghost use Rattle.iso_base.specs.Samples.{IsSample};
-ghost use Rattle.command_words.specs.Words.{level_value, pad_value, format_value, level_in, pad_in, format_in, points_of, extract_of, session_of, check_of, request_of, HasSamplePad};
+ghost use Rattle.command_words.specs.Words.{level_value, pad_value, format_value, count_value, sizes_value};
+ghost use Rattle.command_words.specs.Words.{level_in, pad_in, format_in, bricks_in, pages_in, sizes_in};
+ghost use Rattle.command_words.specs.Words.{points_of, extract_of, session_of, check_of, gen_of, request_of, HasSamplePad, HasCapacity};
 
 use crate::options::{Found, only_options, plain_word, value_of};
 use crate::request::Request;
-use iso_base::Level;
+use iso_base::{Level, Sizes};
 use mesh_text::MeshFormat;
-use script::FileName;
-use text_lines::number;
+use script::{FileName, count};
+use text_lines::{level_number, number, whole};
 
 const LEVEL: &[u8] = b"--level=";
 
@@ -17,11 +19,15 @@ const PAD: &[u8] = b"--pad=";
 
 const FORMAT: &[u8] = b"--format=";
 
-/// The level of a text: a number of absolute value below 2^33.
+const BRICKS: &[u8] = b"--bricks=";
+
+const PAGES: &[u8] = b"--pages=";
+
+/// The level of a text: a level number within the limit of levels.
 fn level(text: &[u8]) -> Option<Level>
     ensures { result ≡ level_value text.now }
 {
-    Level::new(number(text)?)
+    Level::new(level_number(text)?)
 }
 
 /// The pad of a text: a number from -2^31 to 2^32 - 1.
@@ -47,6 +53,40 @@ fn format(text: &[u8]) -> Option<MeshFormat>
         Some(MeshFormat::Obj)
     } else {
         None
+    }
+}
+
+/// The count of a text, from one number to another.
+fn count_within(text: &[u8], least: u32, most: u32) -> Option<u32>
+    ensures value { result ≡ count_value least most text.now }
+    ensures least { IfSome result (λ n. least ≤ n) }
+    ensures most { IfSome result (λ n. n ≤ most) }
+{
+    let n = count(text)?;
+    if least <= n && n <= most {
+        Some(n)
+    } else {
+        None
+    }
+}
+
+/// The sizes of three texts, samples along x, y and z.
+fn sizes(x: &[u8], y: &[u8], z: &[u8]) -> Option<Sizes>
+    ensures { result ≡ sizes_value x.now y.now z.now }
+{
+    Sizes::new(whole(x)?, whole(y)?, whole(z)?).ok()
+}
+
+/// The sizes of words that are three.
+fn sizes_in(words: &[String]) -> Option<Sizes>
+    ensures { result ≡ sizes_in (map string_bytes words.now) }
+{
+    let (x, words) = words.split_first()?;
+    let (y, words) = words.split_first()?;
+    let (z, words) = words.split_first()?;
+    match words.split_first() {
+        None => sizes(x.as_bytes(), y.as_bytes(), z.as_bytes()),
+        Some(_) => None,
     }
 }
 
@@ -83,10 +123,37 @@ fn format_in(words: &[String]) -> Option<MeshFormat>
     }
 }
 
+/// How many bricks may keep their mesh; 4,096 where that is left out.
+fn bricks_in(words: &[String]) -> Option<u32>
+    ensures value { result ≡ bricks_in (map string_bytes words.now) }
+    ensures least { IfSome result (λ n. 1 ≤ n) }
+    ensures most { IfSome result (λ n. n ≤ 65536) }
+{
+    match value_of(words, BRICKS) {
+        Found::Nothing => Some(4096),
+        Found::Once(text) => count_within(text, 1, 65_536),
+        Found::Again => None,
+    }
+}
+
+/// In how many pages; 65,536 where that is left out.
+fn pages_in(words: &[String]) -> Option<u32>
+    ensures value { result ≡ pages_in (map string_bytes words.now) }
+    ensures least { IfSome result (λ n. 16 ≤ n) }
+    ensures most { IfSome result (λ n. n ≤ 1048576) }
+{
+    match value_of(words, PAGES) {
+        Found::Nothing => Some(65_536),
+        Found::Once(text) => count_within(text, 16, 1_048_576),
+        Found::Again => None,
+    }
+}
+
 #[tactic(auto, unfolding(crate::specs::Words::points_of))]
 fn points(words: &[String]) -> Option<Request>
     ensures value { result ≡ points_of (map string_bytes words.now) }
     ensures pads { IfSome result HasSamplePad }
+    ensures capacity { IfSome result HasCapacity }
 {
     if !only_options(words, &[LEVEL]) {
         return None;
@@ -102,6 +169,7 @@ fn points(words: &[String]) -> Option<Request>
 fn extract(words: &[String]) -> Option<Request>
     ensures value { result ≡ extract_of (map string_bytes words.now) }
     ensures pads { IfSome result HasSamplePad }
+    ensures capacity { IfSome result HasCapacity }
 {
     if !only_options(words, &[LEVEL, PAD, FORMAT]) {
         return None;
@@ -119,8 +187,9 @@ fn extract(words: &[String]) -> Option<Request>
 fn session(words: &[String]) -> Option<Request>
     ensures value { result ≡ session_of (map string_bytes words.now) }
     ensures pads { IfSome result HasSamplePad }
+    ensures capacity { IfSome result HasCapacity }
 {
-    if !only_options(words, &[LEVEL, PAD]) {
+    if !only_options(words, &[LEVEL, PAD, BRICKS, PAGES]) {
         return None;
     }
     let Found::Once(name) = plain_word(words) else {
@@ -129,13 +198,22 @@ fn session(words: &[String]) -> Option<Request>
     let name = FileName::new(name)?;
     let level = level_in(words)?;
     let pad = pad_in(words)?;
-    Some(Request::Session { level, pad, name })
+    let bricks = bricks_in(words)?;
+    let pages = pages_in(words)?;
+    Some(Request::Session {
+        level,
+        pad,
+        name,
+        bricks,
+        pages,
+    })
 }
 
 #[tactic(auto, unfolding(crate::specs::Words::check_of))]
 fn check(words: &[String]) -> Option<Request>
     ensures value { result ≡ check_of (map string_bytes words.now) }
     ensures pads { IfSome result HasSamplePad }
+    ensures capacity { IfSome result HasCapacity }
 {
     if !only_options(words, &[]) {
         return None;
@@ -147,6 +225,21 @@ fn check(words: &[String]) -> Option<Request>
     Some(Request::Check { format })
 }
 
+#[tactic(auto, unfolding(crate::specs::Words::gen_of))]
+fn generation(words: &[String]) -> Option<Request>
+    ensures value { result ≡ gen_of (map string_bytes words.now) }
+    ensures pads { IfSome result HasSamplePad }
+    ensures capacity { IfSome result HasCapacity }
+{
+    if !only_options(words, &[]) {
+        return None;
+    }
+    let (seed, words) = words.split_first()?;
+    let seed = whole(seed.as_bytes())?;
+    let sizes = sizes_in(words)?;
+    Some(Request::Gen { seed, sizes })
+}
+
 /// What the words ask for; none exactly where they are no command line. The first word is the command. A later word that
 /// begins with `-` is an option `--name=value`, in any order, each at most once; all others are plain words.
 /// The words do not hold the program's name.
@@ -154,6 +247,7 @@ fn check(words: &[String]) -> Option<Request>
 pub fn read_words(words: &[String]) -> Option<Request>
     ensures value { result ≡ request_of (map string_bytes words.now) }
     ensures pads { IfSome result HasSamplePad }
+    ensures capacity { IfSome result HasCapacity }
 {
     let (command, words) = words.split_first()?;
     let command = command.as_bytes();
@@ -165,6 +259,8 @@ pub fn read_words(words: &[String]) -> Option<Request>
         session(words)
     } else if command == b"check".as_slice() {
         check(words)
+    } else if command == b"gen".as_slice() {
+        generation(words)
     } else {
         None
     }

@@ -1,8 +1,8 @@
-use iso_base::Level;
+use iso_base::{Level, Sizes};
 use mesh_text::MeshFormat;
 use script::FileName;
 
-/// What the program is asked to do. A pad is a sample that is put round the volume.
+/// What the program is asked to do. A level is in thousandths; a pad is a sample that is put round the volume.
 #[derive(Drop)]
 pub enum Request {
     /// The points at which the surface crosses lattice edges.
@@ -15,14 +15,22 @@ pub enum Request {
         pad: Option<i64>,
         format: MeshFormat,
     },
-    /// The lines of a script, over the volume in the shelf's file of this name.
+    /// The lines of a script, over the volume in the shelf's file of this name. At most so many bricks keep their mesh,
+    /// in so many pages.
     Session {
         level: Level,
         pad: Option<i64>,
         name: FileName,
+        bricks: u32,
+        pages: u32,
     },
     /// The verdict on a mesh in this form.
     Check {
         format: MeshFormat,
+    },
+    /// The volume that a seed generates.
+    Gen {
+        seed: u64,
+        sizes: Sizes,
     },
 }

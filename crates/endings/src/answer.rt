@@ -4,6 +4,7 @@ ghost use Rattle.endings.specs.Status.{mesh_status, nrrd_status, number_of, stat
 use iso_base::SizeFault;
 use mesh_read::MeshFault;
 use nrrd::NrrdFault;
+use thiserror::Error;
 
 /// How the program ends. Its number is what the system is told.
 #[derive(Clone, Copy, Debug, PartialEq, Eq)]
@@ -51,13 +52,16 @@ impl Status {
 }
 
 /// Why there is no volume to work on.
-#[derive(Clone, Copy, Debug, PartialEq, Eq)]
+#[derive(Clone, Copy, Debug, PartialEq, Eq, Error)]
 pub enum VolumeFault {
     /// The bytes hold no volume.
+    #[error("{0}")]
     Nrrd(NrrdFault),
     /// The sizes with the pad's layers are not within the limits.
+    #[error("with the pad: {0}")]
     Pad(SizeFault),
-    /// There is a pad and the level is not above it.
+    /// There is a pad and the level, in thousandths, is not above it.
+    #[error("level of {level} thousandths not above pad {pad}")]
     LevelNotAbovePad { level: i64, pad: i64 },
 }
 

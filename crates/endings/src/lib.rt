@@ -9,6 +9,3 @@ mod verdicts;
 pub use answer::{Answer, Status, VolumeFault};
 pub use notes::put_note;
 pub use verdicts::verdict_line;
-
-#[cfg(test)]
-mod tests;

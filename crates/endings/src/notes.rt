@@ -6,7 +6,7 @@ ghost use Rattle.endings.specs.Notes.{encoding_name, field_name, mesh_text, note
 ghost use Rattle.endings.specs.Tries.{Tries};
 
 use crate::answer::{Answer, VolumeFault};
-use crate::parts::{put_counted, put_counted_twice, put_named, put_signed_twice};
+use crate::parts::{put_counted, put_counted_twice, put_level_and_pad, put_named};
 use arrayvec::ArrayString;
 use iso_base::SizeFault;
 use iso_io::{Sink, write_all_of};
@@ -116,7 +116,7 @@ fn put_volume(fault: VolumeFault, into: &mut ArrayString<128>)
             put_size(fault, into);
         }
         VolumeFault::LevelNotAbovePad { level, pad } => {
-            put_signed_twice("volume 17 level not above pad ", level, pad, into);
+            put_level_and_pad("volume 17 level not above pad ", level, pad, into);
         }
     }
 }

@@ -3,9 +3,10 @@
 ghost use Rattle.std.specs.Prelude.{◌≡◌, ◌+◌, ◌≤◌, ◌++◌, length, decimal};
 ghost use Rattle.std.specs.Fmt.{signed_decimal};
 ghost use Rattle.arrayvec.specs.ArrayString.{array_string_len};
-ghost use Rattle.endings.specs.Parts.{counted, counted_twice, signed_twice};
+ghost use Rattle.endings.specs.Parts.{counted, counted_twice, level_and_pad};
 
 use arrayvec::ArrayString;
+use iso_base::put_level;
 use itoa::Buffer;
 
 fn put_number(n: u64, into: &mut ArrayString<128>)
@@ -48,16 +49,18 @@ pub fn put_counted_twice(words: &str, first: u64, second: u64, into: &mut ArrayS
     put_number(second, into);
 }
 
-/// Appends words and two numbers that may be negative.
-pub fn put_signed_twice(words: &str, first: i64, second: i64, into: &mut ArrayString<128>)
+/// Appends words, a level, given in thousandths, and a pad.
+pub fn put_level_and_pad(words: &str, level: i64, pad: i64, into: &mut ArrayString<128>)
     requires room { array_string_len into.old + length words.now ≤ 40 }
-    ensures text { into.new.bytes ≡ into.old.bytes ++ signed_twice words.now first second }
+    ensures text { into.new.bytes ≡ into.old.bytes ++ level_and_pad words.now level pad }
     ensures room { array_string_len into.new ≤ 121 }
 {
+    let mut level_text = ArrayString::new();
+    put_level(level, &mut level_text);
     into.push_str(words);
-    put_signed(first, into);
+    into.push_str(level_text.as_str());
     into.push(' ');
-    put_signed(second, into);
+    put_signed(pad, into);
 }
 
 /// Appends words and a name.

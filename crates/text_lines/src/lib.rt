@@ -10,6 +10,3 @@ pub use levels::level_number;
 pub use lines::next_line;
 pub use numbers::{digits, number, whole};
 pub use words::{next_word, same_word, three_words, without_blanks};
-
-#[cfg(test)]
-mod tests;

@@ -12,4 +12,4 @@ unfolding volume_text
 returns-in-LevelNotAbovePad-clause-text c =
     let level : to_z w64 (of_z w64 c.in-LevelNotAbovePad.level) ≡ c.in-LevelNotAbovePad.level = search (rules, to_z-of_z) in
     let pad : to_z w64 (of_z w64 c.in-LevelNotAbovePad.pad) ≡ c.in-LevelNotAbovePad.pad = search (rules, to_z-of_z) in
-    rw c.in-LevelNotAbovePad.is (rw (level, pad) at c.put_signed_twice.ensures.text)
+    rw c.in-LevelNotAbovePad.is (rw (level, pad) at c.put_level_and_pad.ensures.text)
