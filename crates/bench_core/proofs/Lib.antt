@@ -1,10 +1,10 @@
 pub mod States
-pub mod Insides
-pub mod Filling
+pub mod Histories
+pub mod Changing
 pub mod Meshes
-pub mod InnerSamples
-pub mod RowsPut
-pub mod SavedSizes
 pub mod SavedFiles
 pub mod PlaneFields
 pub mod Triangles
+pub mod Touching
+pub mod Staying
+pub mod Surfaces

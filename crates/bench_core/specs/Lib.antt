@@ -1,5 +1,5 @@
 pub mod Machine
-pub mod Unpadded
 pub mod Texts
 pub mod Surface
-pub mod Inner
+pub mod History
+pub mod Keeping

@@ -1,96 +1,132 @@
-ghost use Rattle.std.specs.Prelude.{◌≡◌, ◌⊎◌, ◌+◌, ◌<◌, ◌≤◌, [], ◌∷◌, take, get_or, pos, length, is_some, IfSome, IfNone, IsSomeAnd, None, Some, Ok, IfOk, IfErr, OnOk, OnErr, IsErrOf};
-ghost use Rattle.iso_base.specs.Samples.{least_of, greatest_of};
-ghost use Rattle.bench_core.specs.Inner.{IsInside};
+ghost use Rattle.std.specs.Prelude.{◌≡◌, ◌⊎◌, ◌+◌, ◌*◌, ◌<◌, ◌≤◌, take, get_or, pos, length, is_some, IfSome, IfNone, IsSomeAnd, None, Some, Ok, IfOk, IfErr, OnOk, IsErrOf};
+ghost use Rattle.iso_base.specs.Samples.{IsSample, least_of, greatest_of};
+ghost use Rattle.inner_volume.specs.Places.{IsInside, place_of, plane_of};
 ghost use Rattle.bench_core.specs.Surface.{IsCutOfMesh, IsWatertight};
 ghost use Rattle.bench_core.specs.Texts.{WritesFile, contour_of, mesh_text, mesh_written, obj_text, obj_written, ply_text, ply_written, report_of, save_text};
-ghost use Rattle.bench_core.specs.Machine.{IsAbovePad, IsStep, area_by, begin_fault, checked_level, contour_step, fill_at, fill_step, level_step, pad_fault, place_of, plane_of, set_at, set_step, stored, undo_step};
-ghost use Rattle.bench_core.specs.Unpadded.{inner_grid, inner_voxels};
+ghost use Rattle.voxel_list.specs.Areas.{between};
+ghost use Rattle.edit_log.specs.Changes.{Suits, after, area_of, before, moment};
+ghost use Rattle.bench_core.specs.Machine.{IsAbovePad, IsState, IsStep, IsSureStep, area_by, begin_fault, changed, checked_level, contour_step, fill_at, fill_step, level_step, pad_fault, redo_step, set_at, set_step, undo_step};
+ghost use Rattle.bench_core.specs.Keeping.{IsRightBench, Keeps, Refreshes, fill_area, first_area, first_bench, set_area, turn_steps, waiting_bricks, without_points, write_steps};
+ghost use Rattle.inner_volume.specs.Unpadded.{inner_voxels};
 ghost use Rattle.nrrd.specs.Nrrd.{nrrd_of};
-ghost use Rattle.iso_base.specs.Sizing.{IsGrid};
 
 use crate::contour::plane_contours;
-use crate::earlier::Earlier;
-use crate::edits::{fill_area, is_in_range, layer_of, put_sample};
+use crate::edits::{area_change, is_in_range, one_change};
 use crate::fault::BeginFault;
-use crate::mesh_file::write_mesh;
-use crate::saved::write_volume;
+use crate::follow::follow;
 use crate::summary::mesh_numbers;
-use crate::surface::watertight;
-use flat_mesh::extract_flat;
+use brick_store::BrickStore;
+use edge_points::RowRanks;
+use edit_log::{Change, EditLog};
+use inner_volume::{place_in, plane_in, write_volume};
 use iso_base::{BenchFault, Level, Memory, Point, SampleKind, Steps, Written};
 use iso_io::{Failed, Shelf};
+use kept_mesh::{refresh_bricks, write_mesh};
+use mesh_cache::{Capacity, MeshCache};
 use mesh_report::Report;
 use mesh_text::MeshFormat;
-use mesh_write::STAGE;
 use plane_contour::Contours;
+use span_tree::SpanTree;
 use std::alloc::Global;
 use std::marker::Model;
 use std::sync::ledger::Ledger;
 use voxel_list::{FillBox, VoxelList};
 
-/// A volume, a level, and what was before. Contracts see it as the state of the machine.
+/// A volume in bricks, a level, and the changes that led there or were taken back. Contracts see it as the state of the
+/// machine, whose earlier and later states are those that the changes lead back and on to.
 #[derive(Drop)]
 pub struct Bench {
     alloc: Global,
-    volume: VoxelList,
+    store: BrickStore,
     level: Level,
-    past: Vec<Earlier>,
-    // Blocks of a text gather here; it is empty between calls.
-    waiting: Vec<u8>,
+    log: EditLog,
+    tree: SpanTree,
+    cache: MeshCache,
+    // Of use while a mesh is written.
+    ranks: RowRanks,
 }
 
 impl Model for Bench {
-    ghost use Rattle.std.specs.Prelude.{◌≡◌, []};
-    ghost use Rattle.bench_core.specs.Machine.{State, IsState};
+    ghost use Rattle.std.specs.Prelude.{◌≡◌};
+    ghost use Rattle.bench_core.specs.History.{IsHistory, state_of};
+    ghost use Rattle.bench_core.specs.Keeping.{IsKept, Workbench};
 
-    ghost Value = { State };
+    ghost Value = { Workbench };
 
-    ghost view = { λ b. record { volume = b.volume; level = b.level; past = b.past.items } };
+    ghost view = { λ b. record { state = state_of b.store b.level b.log; cache = b.cache } };
 
-    ghost invariant = { λ b. IsState (record { volume = b.volume; level = b.level; past = b.past.items }) × (b.waiting.items ≡ []) };
+    ghost invariant = { λ b. IsHistory b.store b.level b.log × (IsKept b.store b.tree b.cache × (b.ranks.grid ≡ b.store.grid)) };
 }
-
-// How many earlier states are kept.
-const DEPTH: usize = 64;
 
 // How many points one `fill` may change.
 const MOST_FILLED: u64 = 1_048_576;
 
 impl Bench {
-    /// A bench with no past. `LevelNotAbovePad` comes exactly where there is a pad and the level is not above it.
-    /// On a refusal the volume is dropped.
-    pub fn begin(alloc: Global, volume: VoxelList, level: Level) -> Result<Bench, BeginFault>
-        ensures state { IfOk result (λ b. b ≡ record { volume = volume; level = level; past = [] }) }
+    /// A bench with neither past nor future. `LevelNotAbovePad` comes exactly where there is a pad and the level is not
+    /// above it. On a refusal the volume is dropped.
+    pub fn begin(
+        alloc: Global,
+        volume: VoxelList,
+        level: Level,
+        capacity: Capacity,
+    ) -> Result<Bench, BeginFault>
+        ensures opened { IfOk result (λ b. b ≡ first_bench volume level capacity) }
+        ensures sound { IfOk result (λ b. IsState b.state) }
         ensures above { IfOk result (λ _. begin_fault volume.pad level ≡ None) }
         ensures fault { IfErr result (λ fault. (fault ≡ BeginFault.Memory) ⊎ (begin_fault volume.pad level ≡ Some fault)) }
     {
         let _ = volume.sizes();
-        if let Some(fault) = refused(volume.pad(), level.value()) {
+        if let Some(fault) = refused(volume.pad(), level) {
             return Err(fault);
         }
-        let Ok(waiting) = Vec::with_capacity(alloc, STAGE) else {
+        let Ok(store) = BrickStore::of(alloc, volume) else {
+            return Err(BeginFault::Memory);
+        };
+        let Ok(tree) = SpanTree::of(alloc, &store) else {
+            return Err(BeginFault::Memory);
+        };
+        let Ok(cache) = MeshCache::new(alloc, capacity) else {
+            return Err(BeginFault::Memory);
+        };
+        let Ok(log) = EditLog::new(alloc) else {
+            return Err(BeginFault::Memory);
+        };
+        let Ok(ranks) = RowRanks::new(alloc, &store.sizes()) else {
             return Err(BeginFault::Memory);
         };
         Ok(Bench {
             alloc,
-            volume,
+            store,
             level,
-            past: Vec::new(alloc),
-            waiting,
+            log,
+            tree,
+            cache,
+            ranks,
         })
+    }
+
+    /// How much of the mesh may be kept. All that is kept is right for the volume.
+    pub fn capacity(&self) -> Capacity
+        ensures value { result ≡ self.now.cache.limits }
+        ensures sound { IsState self.now.state }
+        ensures right { IsRightBench self.now }
+    {
+        self.cache.capacity()
     }
 
     /// Whether the volume has a pad.
     pub fn is_padded(&self) -> bool
-        ensures { result ≡ is_some self.now.volume.pad }
+        ensures { result ≡ is_some self.now.state.volume.pad }
     {
-        self.volume.pad().is_some()
+        self.store.pad().is_some()
     }
 
     /// Replaces one sample. Coordinates do not count the pad's layer. Refused, in this order: `Outside` exactly where
-    /// the point is not in the unpadded volume; `ValueOutside` exactly where the value is not of the kind; `Memory`.
+    /// the point is not in the unpadded volume; `ValueOutside` exactly where the value is not of the kind. No memory.
     pub fn set(&mut self, x: i64, y: i64, z: i64, value: i64) -> Result<(), BenchFault>
-        ensures step { IsStep self.old self.new result (set_step self.old (x, y, z) value) }
+        ensures step { IsSureStep self.old.state self.new.state result (set_step self.old.state (x, y, z) value) }
+        ensures kept { Keeps self.old self.new result (set_area self.old.state (x, y, z)) }
+        ensures no_memory { IsErrOf result BenchFault.Memory → ⊥ }
         ensures not_shelf { IsErrOf result BenchFault.ShelfFailed → ⊥ }
     {
         let Some(point) = self.place(x, y, z) else {
@@ -100,25 +136,18 @@ impl Bench {
     }
 
     fn set_at(&mut self, point: Point, value: i64) -> Result<(), BenchFault>
-        requires { IsInside self.old.volume point }
-        ensures step { IsStep self.old self.new result (set_at self.old value (Some point)) }
+        requires { IsInside self.old.state.volume point }
+        ensures step { IsSureStep self.old.state self.new.state result (set_at self.old.state value (Some point)) }
+        ensures kept { Keeps self.old self.new result (Some (between point point)) }
+        ensures no_memory { IsErrOf result BenchFault.Memory → ⊥ }
         ensures not_shelf { IsErrOf result BenchFault.ShelfFailed → ⊥ }
     {
-        let kind = self.volume.kind();
+        let kind = self.store.kind();
         if !is_in_range(kind, value) {
             return Err(value_fault(kind));
         }
-        let area = FillBox::between(&self.volume.sizes(), point, point);
-        let Ok(()) = remember(
-            self.alloc,
-            &mut self.past,
-            &self.volume,
-            self.level,
-            Some(area),
-        ) else {
-            return Err(BenchFault::Memory);
-        };
-        put_sample(&mut self.volume, point, &value);
+        let change = one_change(&self.store, point, &value);
+        self.make(change);
         Ok(())
     }
 
@@ -126,7 +155,8 @@ impl Bench {
     /// order: `Outside` and `ValueOutside` as for `set`; `FillTooLarge` exactly where the box has more than 1,048,576
     /// points; `Memory`.
     pub fn fill(&mut self, corners: [i64; 6], value: i64) -> Result<(), BenchFault>
-        ensures step { IsStep self.old self.new result (fill_step self.old (get_or corners 0 (pos 0), get_or corners 1 (pos 0), get_or corners 2 (pos 0)) (get_or corners 3 (pos 0), get_or corners 4 (pos 0), get_or corners 5 (pos 0)) value) }
+        ensures step { IsStep self.old.state self.new.state result (fill_step self.old.state (get_or corners 0 (pos 0), get_or corners 1 (pos 0), get_or corners 2 (pos 0)) (get_or corners 3 (pos 0), get_or corners 4 (pos 0), get_or corners 5 (pos 0)) value) }
+        ensures kept { Keeps self.old self.new result (fill_area self.old.state (get_or corners 0 (pos 0), get_or corners 1 (pos 0), get_or corners 2 (pos 0)) (get_or corners 3 (pos 0), get_or corners 4 (pos 0), get_or corners 5 (pos 0))) }
         ensures not_shelf { IsErrOf result BenchFault.ShelfFailed → ⊥ }
     {
         let [ax, ay, az, bx, by, bz] = corners;
@@ -137,12 +167,13 @@ impl Bench {
     }
 
     fn fill_at(&mut self, area: FillBox, value: i64) -> Result<(), BenchFault>
-        requires low { IsInside self.old.volume area.low }
-        requires high { IsInside self.old.volume area.high }
-        ensures step { IsStep self.old self.new result (fill_at self.old value (Some area)) }
+        requires low { IsInside self.old.state.volume area.low }
+        requires high { IsInside self.old.state.volume area.high }
+        ensures step { IsStep self.old.state self.new.state result (fill_at self.old.state value (Some area)) }
+        ensures kept { Keeps self.old self.new result (Some area) }
         ensures not_shelf { IsErrOf result BenchFault.ShelfFailed → ⊥ }
     {
-        let kind = self.volume.kind();
+        let kind = self.store.kind();
         if !is_in_range(kind, value) {
             return Err(value_fault(kind));
         }
@@ -150,75 +181,114 @@ impl Bench {
         if n > MOST_FILLED {
             return Err(BenchFault::FillTooLarge { n });
         }
-        let Ok(()) = remember(
-            self.alloc,
-            &mut self.past,
-            &self.volume,
-            self.level,
-            Some(area),
-        ) else {
+        let Ok(change) = area_change(self.alloc, &self.store, area, &value) else {
             return Err(BenchFault::Memory);
         };
-        fill_area(&mut self.volume, &area, &value);
+        self.make(change);
         Ok(())
     }
 
-    /// Replaces the level. Refused, in this order: `LevelOutside` exactly where its absolute value is 2^33 or more;
-    /// `LevelNotAbovePad` exactly where there is a pad and the level is not above it; `Memory`.
-    pub fn level(&mut self, value: i64) -> Result<(), BenchFault>
-        ensures step { IsStep self.old self.new result (level_step self.old value) }
+    /// Replaces the level, given in thousandths. Refused, in this order: `LevelOutside` exactly where its absolute value is
+    /// 2^33 times 1,000 or more; `LevelNotAbovePad` exactly where there is a pad and the level is not above it. No memory.
+    pub fn level(&mut self, value: i128) -> Result<(), BenchFault>
+        ensures step { IsSureStep self.old.state self.new.state result (level_step self.old.state value) }
+        ensures kept { self.new.cache ≡ self.old.cache }
+        ensures no_memory { IsErrOf result BenchFault.Memory → ⊥ }
         ensures not_shelf { IsErrOf result BenchFault.ShelfFailed → ⊥ }
     {
-        let level = match checked(self.volume.pad(), value) {
-            Ok(level) => level,
-            Err(fault) => return Err(fault),
-        };
-        let Ok(()) = remember(self.alloc, &mut self.past, &self.volume, self.level, None) else {
-            return Err(BenchFault::Memory);
-        };
-        self.level = level;
-        Ok(())
-    }
-
-    /// Goes back to the newest earlier volume and level. `NothingToUndo` comes exactly where there is none.
-    pub fn undo(&mut self) -> Result<(), BenchFault>
-        ensures step { IsStep self.old self.new result (undo_step self.old) }
-        ensures not_shelf { IsErrOf result BenchFault.ShelfFailed → ⊥ }
-    {
-        if self.past.is_empty() {
-            return Err(BenchFault::NothingToUndo);
+        let _ = self.store.sizes();
+        let old = self.level;
+        match checked(self.store.pad(), value) {
+            Ok(new) => {
+                self.make(Change::LevelWas { old, new });
+                Ok(())
+            }
+            Err(fault) => Err(fault),
         }
-        let (volume, level) = self.past.remove(0).into_parts();
-        self.volume = volume;
-        self.level = level;
+    }
+
+    /// Makes a change and puts it in the log. What is kept for bricks goes stale where the change has points.
+    fn make(&mut self, change: Change)
+        requires suits { Suits self.old.state.volume change }
+        requires back { before change (after change (moment self.old.state.volume self.old.state.level)) ≡ moment self.old.state.volume self.old.state.level }
+        requires above { IsAbovePad self.old.state.volume.pad (after change (moment self.old.state.volume self.old.state.level)).level }
+        ensures state { let next = after change (moment self.old.state.volume self.old.state.level) in self.new.state ≡ changed self.old.state next.volume.samples next.level (area_of self.old.state.volume.grid change) }
+        ensures kept { self.new.cache ≡ without_points self.old.state.volume.grid (area_of self.old.state.volume.grid change) self.old.cache }
+    {
+        let area = change.area(&self.store);
+        change.make(&mut self.store, &mut self.level);
+        let _ = self.store.sizes();
+        follow(&mut self.tree, &mut self.cache, &self.store, area);
+        self.log.push(change);
+    }
+
+    /// Goes back to the newest earlier volume and level. `NothingToUndo` comes exactly where there is none. No memory.
+    pub fn undo(&mut self) -> Result<(), BenchFault>
+        ensures step { IsSureStep self.old.state self.new.state result (undo_step self.old.state) }
+        ensures kept { Keeps self.old self.new result (first_area self.old.state.past) }
+        ensures no_memory { IsErrOf result BenchFault.Memory → ⊥ }
+        ensures not_shelf { IsErrOf result BenchFault.ShelfFailed → ⊥ }
+    {
+        let Some(change) = self.log.undo() else {
+            return Err(BenchFault::NothingToUndo);
+        };
+        let area = change.area(&self.store);
+        let _ = self.store.sizes();
+        change.take_back(&mut self.store, &mut self.level);
+        follow(&mut self.tree, &mut self.cache, &self.store, area);
         Ok(())
     }
 
-    /// A refresh turn. Nothing is kept yet that could be refreshed, so it does nothing and classifies no cell.
-    pub fn work<L: Ledger>(&mut self, n: u32, steps: &mut Steps<L>)
-        ensures state { self.new ≡ self.old }
-        ensures counted { steps.new ≡ steps.old }
+    /// Goes on to the next later volume and level. `NothingToRedo` comes exactly where there is none. No memory.
+    pub fn redo(&mut self) -> Result<(), BenchFault>
+        ensures step { IsSureStep self.old.state self.new.state result (redo_step self.old.state) }
+        ensures kept { Keeps self.old self.new result (first_area self.old.state.future) }
+        ensures no_memory { IsErrOf result BenchFault.Memory → ⊥ }
+        ensures not_shelf { IsErrOf result BenchFault.ShelfFailed → ⊥ }
     {
-        let _ = n;
-        let _ = &*steps;
+        let Some(change) = self.log.redo() else {
+            return Err(BenchFault::NothingToRedo);
+        };
+        let area = change.area(&self.store);
+        let _ = self.store.sizes();
+        change.make(&mut self.store, &mut self.level);
+        follow(&mut self.tree, &mut self.cache, &self.store, area);
+        Ok(())
     }
 
-    /// Makes the name's file the PLY text of the mesh, in blocks of 32 KiB and more. `Memory` comes before the shelf is
-    /// touched. `ShelfFailed` comes only where the shelf's count of faults rose; the file is then as before or a front
-    /// of the text, and all other files are as before. The bench's state stays in every case.
+    /// A refresh turn: what is to be kept of the first `n` active bricks of which nothing is kept at the level, ascending, is
+    /// offered to the cache. The counter rises by at most 512 for each.
+    pub fn work<L: Ledger>(&mut self, n: u32, steps: &mut Steps<L>)
+        ensures { Refreshes self.old self.new (take n (waiting_bricks self.old)) turn_steps steps.old steps.new }
+    {
+        let (store, tree) = (&self.store, &self.tree);
+        refresh_bricks(&mut self.cache, store, tree, self.level, n, steps);
+    }
+
+    /// A refresh turn for all of these bricks.
+    fn refresh_all<L: Ledger>(&mut self, steps: &mut Steps<L>)
+        ensures { Refreshes self.old self.new (waiting_bricks self.old) turn_steps steps.old steps.new }
+    {
+        let _ = self.store.sizes();
+        self.work(u32::MAX, steps);
+    }
+
+    /// Makes the name's file the PLY text of the mesh, which is written as it is made. What waits is refreshed first, in every
+    /// case; the state stays. `ShelfFailed` comes only where the shelf's count of faults rose; the file is then as before or a
+    /// front of the text, and all other files are as before. The counter rises by at most 2,048 for each brick that waited. No
+    /// memory is taken but what the cache keeps, which is not missed where it cannot be had.
     pub fn write_ply<H: Shelf, L: Ledger>(
         &mut self,
         shelf: &mut H,
         name: &str,
         steps: &mut Steps<L>,
     ) -> Result<Written, BenchFault>
-        ensures state { self.new ≡ self.old }
-        ensures file { WritesFile (H.seen shelf.old) (H.seen shelf.new) result name.now (ply_text self.old) (ply_written self.old) }
-        ensures surface { OnOk result (IsWatertight self.old.volume self.old.level) }
-        ensures counted { steps.new ≡ steps.old }
+        ensures refreshed { Refreshes self.old self.new (waiting_bricks self.old) write_steps steps.old steps.new }
+        ensures file { WritesFile (H.seen shelf.old) (H.seen shelf.new) result name.now (ply_text self.old.state) (ply_written self.old.state) }
+        ensures surface { OnOk result (IsWatertight self.old.state.volume self.old.state.level) }
+        ensures no_memory { IsErrOf result BenchFault.Memory → ⊥ }
     {
-        let _ = &*steps;
-        self.write_as(shelf, name, MeshFormat::Ply)
+        self.write_as(shelf, name, MeshFormat::Ply, steps)
     }
 
     /// Makes the name's file the OBJ text of the mesh; all else is as for `write_ply`.
@@ -228,33 +298,50 @@ impl Bench {
         name: &str,
         steps: &mut Steps<L>,
     ) -> Result<Written, BenchFault>
-        ensures state { self.new ≡ self.old }
-        ensures file { WritesFile (H.seen shelf.old) (H.seen shelf.new) result name.now (obj_text self.old) (obj_written self.old) }
-        ensures surface { OnOk result (IsWatertight self.old.volume self.old.level) }
-        ensures counted { steps.new ≡ steps.old }
+        ensures refreshed { Refreshes self.old self.new (waiting_bricks self.old) write_steps steps.old steps.new }
+        ensures file { WritesFile (H.seen shelf.old) (H.seen shelf.new) result name.now (obj_text self.old.state) (obj_written self.old.state) }
+        ensures surface { OnOk result (IsWatertight self.old.state.volume self.old.state.level) }
+        ensures no_memory { IsErrOf result BenchFault.Memory → ⊥ }
     {
-        let _ = &*steps;
-        self.write_as(shelf, name, MeshFormat::Obj)
+        self.write_as(shelf, name, MeshFormat::Obj, steps)
     }
 
-    fn write_as<H: Shelf>(
+    fn write_as<H: Shelf, L: Ledger>(
         &mut self,
         shelf: &mut H,
         name: &str,
         format: MeshFormat,
+        steps: &mut Steps<L>,
     ) -> Result<Written, BenchFault>
-        ensures state { self.new ≡ self.old }
-        ensures file { WritesFile (H.seen shelf.old) (H.seen shelf.new) result name.now (mesh_text format self.old) (mesh_written format self.old) }
-        ensures surface { OnOk result (IsWatertight self.old.volume self.old.level) }
+        ensures refreshed { Refreshes self.old self.new (waiting_bricks self.old) write_steps steps.old steps.new }
+        ensures file { WritesFile (H.seen shelf.old) (H.seen shelf.new) result name.now (mesh_text format self.old.state) (mesh_written format self.old.state) }
+        ensures surface { OnOk result (IsWatertight self.old.state.volume self.old.state.level) }
+        ensures no_memory { IsErrOf result BenchFault.Memory → ⊥ }
     {
-        watertight(&self.volume, self.level);
-        let Ok(mesh) = extract_flat(self.alloc, &self.volume, self.level) else {
-            return Err(BenchFault::Memory);
-        };
-        let padded = self.volume.pad().is_some();
-        let written = write_mesh(shelf, name, &mut self.waiting, &mesh, format, padded);
-        self.waiting.clear();
-        match written {
+        self.refresh_all(steps);
+        self.write_kept(shelf, name, format, steps)
+    }
+
+    /// Writes the mesh by what is kept of it.
+    fn write_kept<H: Shelf, L: Ledger>(
+        &mut self,
+        shelf: &mut H,
+        name: &str,
+        format: MeshFormat,
+        steps: &mut Steps<L>,
+    ) -> Result<Written, BenchFault>
+        ensures same { self.new ≡ self.old }
+        ensures file { WritesFile (H.seen shelf.old) (H.seen shelf.new) result name.now (mesh_text format self.old.state) (mesh_written format self.old.state) }
+        ensures surface { IsWatertight self.old.state.volume self.old.state.level }
+        ensures no_memory { IsErrOf result BenchFault.Memory → ⊥ }
+        ensures least { steps.old ≤ steps.new }
+        ensures most { steps.new ≤ steps.old + 1536 * length (waiting_bricks self.old) }
+    {
+        let (store, tree, cache) = (&self.store, &self.tree, &self.cache);
+        let ranks = &mut self.ranks;
+        match write_mesh(
+            shelf, name, store, tree, cache, ranks, self.level, format, steps,
+        ) {
             Ok(written) => Ok(written),
             Err(Failed) => Err(BenchFault::ShelfFailed),
         }
@@ -264,11 +351,11 @@ impl Bench {
     /// the shelf's count of faults rose; the file is then as before or a front of the text, and all other files are as
     /// before. No memory is taken.
     pub fn save<H: Shelf>(&self, shelf: &mut H, name: &str) -> Result<u64, BenchFault>
-        ensures file { WritesFile (H.seen shelf.old) (H.seen shelf.new) result name.now (save_text self.now) (length (save_text self.now)) }
-        ensures read_again { OnOk result (IsGrid (inner_grid self.now.volume) → nrrd_of (save_text self.now) ≡ Ok (inner_voxels self.now.volume, 0)) }
+        ensures file { WritesFile (H.seen shelf.old) (H.seen shelf.new) result name.now (save_text self.now.state) (length (save_text self.now.state)) }
+        ensures read_again { nrrd_of (save_text self.now.state) ≡ Ok (inner_voxels self.now.state.volume, 0) }
         ensures no_memory { IsErrOf result BenchFault.Memory → ⊥ }
     {
-        match write_volume(shelf, name, &self.volume) {
+        match write_volume(shelf, name, &self.store) {
             Ok(bytes) => Ok(bytes),
             Err(Failed) => Err(BenchFault::ShelfFailed),
         }
@@ -278,15 +365,15 @@ impl Bench {
     /// in the mesh. The cost grows with the plane alone. Refused, in this order: `NoSuchPlane` exactly where k is not a
     /// plane of the unpadded volume; `Memory`.
     pub fn contour(&self, k: i64) -> Result<Contours, BenchFault>
-        ensures step { IsStep self.now self.now result (contour_step self.now k) }
-        ensures lines { IfOk result (λ c. c ≡ contour_of self.now k) }
-        ensures cut { OnOk result (IsSomeAnd (plane_of self.now.volume k) (IsCutOfMesh self.now.volume self.now.level)) }
+        ensures step { IsStep self.now.state self.now.state result (contour_step self.now.state k) }
+        ensures lines { IfOk result (λ c. c ≡ contour_of self.now.state k) }
+        ensures cut { OnOk result (IsSomeAnd (plane_of self.now.state.volume k) (IsCutOfMesh self.now.state.volume self.now.state.level)) }
         ensures not_shelf { IsErrOf result BenchFault.ShelfFailed → ⊥ }
     {
         let Some(plane) = self.plane(k) else {
             return Err(BenchFault::NoSuchPlane { k });
         };
-        match plane_contours(self.alloc, &self.volume, self.level, plane) {
+        match plane_contours(self.alloc, &self.store, self.level, plane) {
             Ok(lines) => Ok(lines),
             Err(Memory) => Err(BenchFault::Memory),
         }
@@ -294,12 +381,15 @@ impl Bench {
 
     /// The numbers of the mesh, and of each of its components by its least vertex. `Memory` is its only refusal.
     pub fn report(&self) -> Result<Report, BenchFault>
-        ensures step { IsStep self.now self.now result (Ok self.now) }
-        ensures numbers { IfOk result (λ r. r ≡ report_of self.now) }
+        ensures step { IsStep self.now.state self.now.state result (Ok self.now.state) }
+        ensures numbers { IfOk result (λ r. r ≡ report_of self.now.state) }
         ensures memory { IfErr result (λ fault. fault ≡ BenchFault.Memory) }
         ensures not_shelf { IsErrOf result BenchFault.ShelfFailed → ⊥ }
     {
-        match mesh_numbers(self.alloc, &self.volume, self.level) {
+        let Ok(volume) = self.store.flat(self.alloc) else {
+            return Err(BenchFault::Memory);
+        };
+        match mesh_numbers(self.alloc, &volume, self.level) {
             Ok(report) => Ok(report),
             Err(Memory) => Err(BenchFault::Memory),
         }
@@ -307,35 +397,29 @@ impl Bench {
 
     /// The stored plane of one that does not count the pad's layer.
     fn plane(&self, k: i64) -> Option<u32>
-        ensures plane { result ≡ plane_of self.now.volume k }
-        ensures within { IfSome result (λ p. p < self.now.volume.grid.nz) }
+        ensures plane { result ≡ plane_of self.now.state.volume k }
+        ensures within { IfSome result (λ p. p < self.now.state.volume.grid.nz) }
     {
-        stored_at(self.volume.sizes().nz(), layer_of(&self.volume), k)
+        plane_in(&self.store, k)
     }
 
     /// The stored point of coordinates that do not count the pad's layer.
-    #[tactic(auto, unfolding(crate::specs::Machine::place_of))]
     fn place(&self, x: i64, y: i64, z: i64) -> Option<Point>
-        ensures place { result ≡ place_of self.now.volume (x, y, z) }
-        ensures inside { IfSome result (IsInside self.now.volume) }
+        ensures place { result ≡ place_of self.now.state.volume (x, y, z) }
+        ensures inside { IfSome result (IsInside self.now.state.volume) }
     {
-        let sizes = self.volume.sizes();
-        let layer = layer_of(&self.volume);
-        Some(Point {
-            x: stored_at(sizes.nx(), layer, x)?,
-            y: stored_at(sizes.ny(), layer, y)?,
-            z: stored_at(sizes.nz(), layer, z)?,
-        })
+        place_in(&self.store, x, y, z)
     }
 
+    /// The stored box of two corners that do not count the pad's layer.
     fn area(&self, ax: i64, ay: i64, az: i64, bx: i64, by: i64, bz: i64) -> Option<FillBox>
-        ensures area { result ≡ area_by (place_of self.now.volume (ax, ay, az)) (place_of self.now.volume (bx, by, bz)) }
-        ensures low { IfSome result (λ a. IsInside self.now.volume a.low) }
-        ensures high { IfSome result (λ a. IsInside self.now.volume a.high) }
+        ensures area { result ≡ area_by (place_of self.now.state.volume (ax, ay, az)) (place_of self.now.state.volume (bx, by, bz)) }
+        ensures low { IfSome result (λ a. IsInside self.now.state.volume a.low) }
+        ensures high { IfSome result (λ a. IsInside self.now.state.volume a.high) }
     {
         let a = self.place(ax, ay, az)?;
         let b = self.place(bx, by, bz)?;
-        Some(FillBox::between(&self.volume.sizes(), a, b))
+        Some(FillBox::between(&self.store.sizes(), a, b))
     }
 }
 
@@ -348,29 +432,40 @@ fn value_fault(kind: SampleKind) -> BenchFault
     }
 }
 
-fn refused(pad: Option<i64>, level: i64) -> Option<BeginFault>
+/// Why a bench is not opened on a volume with this pad at a level.
+fn refused(pad: Option<i64>, level: Level) -> Option<BeginFault>
+    requires { IfSome pad IsSample }
     ensures fault { result ≡ begin_fault pad level }
     ensures above { IfNone result (IsAbovePad pad level) }
 {
     match pad {
-        Some(pad) if level <= pad => Some(BeginFault::LevelNotAbovePad { level, pad }),
+        Some(pad) if !level.is_above_pad(pad) => Some(BeginFault::LevelNotAbovePad {
+            level: level.value(),
+            pad,
+        }),
         _ => None,
     }
 }
 
-fn not_above(pad: Option<i64>, value: i64) -> Option<BenchFault>
-    ensures fault { result ≡ pad_fault pad value }
+/// Why a bench with this pad does not take a level.
+fn not_above(pad: Option<i64>, level: Level) -> Option<BenchFault>
+    requires { IfSome pad IsSample }
+    ensures fault { result ≡ pad_fault pad level }
     ensures not_shelf { IfSome result (λ fault. fault ≡ BenchFault.ShelfFailed → ⊥) }
-    ensures above { IfNone result (IsAbovePad pad value) }
+    ensures above { IfNone result (IsAbovePad pad level) }
 {
     match pad {
-        Some(pad) if value <= pad => Some(BenchFault::LevelNotAbovePad { level: value, pad }),
+        Some(pad) if !level.is_above_pad(pad) => Some(BenchFault::LevelNotAbovePad {
+            level: level.value(),
+            pad,
+        }),
         _ => None,
     }
 }
 
-/// A level within the limit and above the pad.
-fn checked(pad: Option<i64>, value: i64) -> Result<Level, BenchFault>
+/// A level of so many thousandths, within the limit and above the pad.
+fn checked(pad: Option<i64>, value: i128) -> Result<Level, BenchFault>
+    requires { IfSome pad IsSample }
     ensures level { result ≡ checked_level pad value }
     ensures above { IfOk result (IsAbovePad pad) }
     ensures not_shelf { IsErrOf result BenchFault.ShelfFailed → ⊥ }
@@ -378,45 +473,8 @@ fn checked(pad: Option<i64>, value: i64) -> Result<Level, BenchFault>
     let Some(level) = Level::new(value) else {
         return Err(BenchFault::LevelOutside);
     };
-    match not_above(pad, value) {
+    match not_above(pad, level) {
         None => Ok(level),
         Some(fault) => Err(fault),
-    }
-}
-
-/// Puts what is now first in the past, and keeps 64.
-fn remember(
-    alloc: Global,
-    past: &mut Vec<Earlier>,
-    volume: &VoxelList,
-    level: Level,
-    area: Option<FillBox>,
-) -> Result<(), Memory>
-    ensures done { OnOk result (past.new.items ≡ take 64 (record { volume = volume.now; level = level; area = area } ∷ past.old.items)) }
-    ensures kept { OnErr result (past.new.items ≡ past.old.items) }
-{
-    let volume = volume.copy(alloc)?;
-    past.insert(
-        0,
-        Earlier {
-            volume,
-            level,
-            area,
-        },
-    )?;
-    past.truncate(DEPTH);
-    Ok(())
-}
-
-fn stored_at(n: u32, layer: u32, x: i64) -> Option<u32>
-    requires layer { layer ≤ 1 }
-    requires size { n ≤ 1026 }
-    ensures value { result ≡ stored n layer x }
-    ensures inside { IfSome result (λ p. (layer ≤ p) × (p + layer < n)) }
-{
-    if 0 <= x && x < i64::from(n) - 2 * i64::from(layer) {
-        Some(x as u32 + layer)
-    } else {
-        None
     }
 }

@@ -11,8 +11,7 @@ use Rattle.nrrd.specs.declared.fault.Field.{Field}
 use Rattle.nrrd.specs.declared.fault.Field.TheVariants.{Dimension, Kind, Sizes, Encoding, Endian, LineSkip, ByteSkip}
 use Rattle.nrrd.specs.declared.fault.NrrdFault.{NrrdFault}
 use Rattle.nrrd.specs.Fields.{Fields, Saying, IsBad, IsUnread, NamesFile, Gives, same_field, value_for, values, value, fault_at, line_fault, first_fault, fields_in, meaning_of, meanings}
-use Rattle.nrrd.specs.Checks.{◌>>=◌}
-use Rattle.nrrd.specs.Nrrd.{unless_fault}
+use Rattle.text_lines.specs.Refusals.{◌>>=◌, unless_fault}
 use Rattle.nrrd.specs.Scanning.{get_field, put_field, no_fields, after_line, after_lines}
 
 get_put : (h : Fields) (g f : Field) (v : List ℕ) → get_field (put_field h g v) f ≡ cond (same_field f g) (Some v) (get_field h f)
@@ -209,18 +208,18 @@ faults_from all k n = slice_get (filter_map (line_fault all) (range_with_len k n
 
 -- the values of all lines, unless one from k on has a fault
 abbrev left : List Saying → ℕ → ℕ → Result Fields NrrdFault
-left all k n = unless_fault (faults_from all k n) (fields_in all)
+left all k n = unless_fault (faults_from all k n) (Ok (fields_in all))
 
-left_here : (before says : List Saying) (s : Saying) → left (before ++ s ∷ says) (length before) (suc (length says)) ≡ unless_fault (option_or (fault_at before (length before + 2) s) (faults_from (before ++ s ∷ says) (length before + 1) (length says))) (fields_in (before ++ s ∷ says))
+left_here : (before says : List Saying) (s : Saying) → left (before ++ s ∷ says) (length before) (suc (length says)) ≡ unless_fault (option_or (fault_at before (length before + 2) s) (faults_from (before ++ s ∷ says) (length before + 1) (length says))) (Ok (fields_in (before ++ s ∷ says)))
 left_here before says s =
     let all = before ++ s ∷ says in
     let rest = filter_map (line_fault all) (range_with_len (length before + 1) (length says)) in
-    ap (λ (o : Option NrrdFault). unless_fault o (fields_in all)) (first_or (line_fault all (length before)) rest)
-    ∙ ap (λ (o : Option NrrdFault). unless_fault (option_or o (slice_get rest 0)) (fields_in all)) (fault_here before says s)
+    ap (λ (o : Option NrrdFault). unless_fault o (Ok (fields_in all))) (first_or (line_fault all (length before)) rest)
+    ∙ ap (λ (o : Option NrrdFault). unless_fault (option_or o (slice_get rest 0)) (Ok (fields_in all))) (fault_here before says s)
 
 by_saying : (before says : List Saying) (s : Saying) (h : Fields) → Agrees h before
     → ((h' : Fields) → Agrees h' (before ++ s ∷ []) → after_lines h' (length before + 2 + 1) says ≡ left (before ++ s ∷ says) (length before + 1) (length says))
-    → after_lines h (length before + 2) (s ∷ says) ≡ unless_fault (option_or (fault_at before (length before + 2) s) (faults_from (before ++ s ∷ says) (length before + 1) (length says))) (fields_in (before ++ s ∷ says))
+    → after_lines h (length before + 2) (s ∷ says) ≡ unless_fault (option_or (fault_at before (length before + 2) s) (faults_from (before ++ s ∷ says) (length before + 1) (length says))) (Ok (fields_in (before ++ s ∷ says)))
 by_saying before says IsBad h agrees later = refl
 by_saying before says NamesFile h agrees later = refl
 by_saying before says IsUnread h agrees later = later h (agrees_unread h before agrees)
@@ -255,7 +254,7 @@ lines_left before (s ∷ says) h agrees =
     by_saying before says s h agrees later ∙ sym (left_here before says s)
 
 -- the lines in order give the first values, or the first fault
-pub all_lines : (says : List Saying) → after_lines no_fields 2 says ≡ unless_fault (first_fault says) (fields_in says)
+pub all_lines : (says : List Saying) → after_lines no_fields 2 says ≡ unless_fault (first_fault says) (Ok (fields_in says))
 all_lines says = lines_left [] says no_fields get_none
 
 -- one line of the pass

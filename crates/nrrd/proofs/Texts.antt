@@ -1,5 +1,5 @@
 -- The written texts, piece by piece.
-use Rattle.std.proofs.Common.{◌≡◌, ℕ, ◌+◌, ◌<◌, ◌≤◌, List, [], ◌∷◌, ◌++◌, length, get_or, take, drop, sym, ap, ◌∙◌, arith, All, ℤ, pos, append_assoc, to_z, of_z}
+use Rattle.std.proofs.Common.{◌≡◌, ℕ, suc, ◌+◌, ◌*◌, ◌<◌, ◌≤◌, List, [], ◌∷◌, ◌++◌, length, get_or, take, drop, sym, ap, ◌∙◌, arith, All, ℤ, pos, append_assoc, to_z, of_z}
 use Rattle.std.proofs.lemmas.List.{take-append-drop, append-nil, get_or-drop, length-drop, length-append, length-take-le}
 use Rattle.std.proofs.lemmas.List.Concat.{flat_map-cons}
 use Rattle.std.proofs.lemmas.Grind.{flat_map-append, take_at_read}
@@ -22,6 +22,16 @@ all_behind P rest after n back each = rw back (λ k d lt. let at = get_or-drop n
 
 pub length_sample : (kind : SampleKind) (v : ℤ) → length (sample_text kind v) ≡ width_of kind
 length_sample kind v = length-bytes_low_first 0 (width_of kind) (bits_of kind v)
+
+-- each sample has as many bytes as its kind
+pub length-samples_text : (kind : SampleKind) (xs : List ℤ) → length (samples_text kind xs) ≡ width_of kind * length xs
+length-samples_text kind [] = omega arith
+length-samples_text kind (x ∷ xs) =
+    length-append (sample_text kind x) (samples_text kind xs)
+    ∙ (ap (λ n. n + length (samples_text kind xs)) (length_sample kind x) ∙ (ap (λ n. width_of kind + n) (length-samples_text kind xs) ∙ more (width_of kind) (length xs)))
+  where
+    more : (w n : ℕ) → w + w * n ≡ w * suc n
+    more w n = omega arith
 
 one_more : (kind : SampleKind) (piece : List ℤ) (i : ℕ) → i < length piece → samples_text kind (take (i + 1) piece) ≡ samples_text kind (take i piece) ++ sample_text kind (get_or piece i (pos 0))
 one_more kind piece i lt =

@@ -14,13 +14,8 @@ use Rattle.nrrd.specs.declared.fault.NrrdFault.{NrrdFault}
 use Rattle.nrrd.specs.declared.fault.NrrdFault.TheVariants.{MissingField, BadValue, NotThreeAxes, UnsupportedKind, UnsupportedEncoding, SkipUnsupported, Size, NoEndian}
 use Rattle.text_lines.specs.Words.{is_word, words_of, three_in}
 use Rattle.text_lines.specs.Numbers.{number_of, whole_of}
+use Rattle.text_lines.specs.Refusals.{◌>>=◌}
 use Rattle.nrrd.specs.Fields.{Fields}
-
--- the next step, unless this one refused
-infixl 10 ◌>>=◌
-abbrev pub ◌>>=◌ : {A B : Type 0} → Result A NrrdFault → (A → Result B NrrdFault) → Result B NrrdFault
-(Ok x) >>= f = f x
-(Err e) >>= f = Err e
 
 -- the value, as it is seen
 abbrev pub map_ok : {A B : Type 0} → (A → B) → Result A NrrdFault → Result B NrrdFault

@@ -1,5 +1,5 @@
 -- The volume that the bytes of a file give, or the first refusal.
-use Rattle.std.specs.Prelude.{◌≡◌, ℕ, ◌-◌, ◌*◌, Bool, ◌||◌, nat_lt, List, [], ◌∷◌, length, bytes_eq, Option, Some, None, Result, Ok, Err, if◌then◌else◌, codes}
+use Rattle.std.specs.Prelude.{◌≡◌, ℕ, ◌-◌, ◌*◌, Bool, true, false, ◌||◌, nat_lt, List, [], ◌∷◌, length, bytes_eq, Option, Some, None, Result, Ok, Err, if◌then◌else◌, codes}
 use Rattle.iso_defs.specs.Grid.{Grid, point_count}
 use Rattle.iso_base.specs.Samples.{width_of}
 use Rattle.iso_base.specs.Volume.{Voxels}
@@ -7,25 +7,21 @@ use Rattle.iso_base.specs.declared.kind.SampleKind.{SampleKind}
 use Rattle.nrrd.specs.declared.fault.NrrdFault.{NrrdFault}
 use Rattle.nrrd.specs.declared.fault.NrrdFault.TheVariants.{NotNrrd, HeaderTooLong, ShortSamples, Memory}
 use Rattle.text_lines.specs.Lines.{Line, lines_of}
+use Rattle.text_lines.specs.Refusals.{◌>>=◌, unless_fault, AnswersBut, FailsBut}
 use Rattle.nrrd.specs.HeaderLines.{header_texts, sample_bytes}
 use Rattle.nrrd.specs.Fields.{Fields, fields_in, first_fault, meanings}
-use Rattle.nrrd.specs.Checks.{◌>>=◌, layout_of}
+use Rattle.nrrd.specs.Checks.{layout_of}
 use Rattle.nrrd.specs.Samples.{samples_in}
 
 -- the first line, of any of the five versions
 unfoldable pub is_first : List ℕ → Bool
 is_first text = bytes_eq text (codes "NRRD0001") || bytes_eq text (codes "NRRD0002") || bytes_eq text (codes "NRRD0003") || bytes_eq text (codes "NRRD0004") || bytes_eq text (codes "NRRD0005")
 
--- this, unless there is a fault
-abbrev pub unless_fault : {A : Type 0} → Option NrrdFault → A → Result A NrrdFault
-unless_fault None x = Ok x
-unless_fault (Some fault) x = Err fault
-
 -- what the lines say, where the whole header has this many bytes
 abbrev pub header_of : ℕ → List Line → Result (Fields × List ℕ) NrrdFault
 header_of bytes lines =
     if nat_lt 65536 bytes then Err (HeaderTooLong bytes) else
-    unless_fault (first_fault (meanings (header_texts lines))) (fields_in (meanings (header_texts lines)), sample_bytes lines)
+    unless_fault (first_fault (meanings (header_texts lines))) (Ok (fields_in (meanings (header_texts lines)), sample_bytes lines))
 
 -- the fields and the bytes of the samples, by all lines
 abbrev pub by_lines : ℕ → List Line → Result (Fields × List ℕ) NrrdFault
@@ -49,12 +45,15 @@ nrrd_of bytes = do
   layout ← layout_of parts.0
   measured layout.0 layout.1 layout.2 parts.1
 
+-- whether memory was wanting
+abbrev pub is_memory : NrrdFault → Bool
+is_memory Memory = true
+is_memory _ = false
+
 -- a refusal is the one that is read; want of memory says nothing
 abbrev pub Fails : {A : Type 0} → NrrdFault → Result A NrrdFault → Type 0
-Fails Memory read = Unit {0}
-Fails fault read = read ≡ Err fault
+Fails fault read = FailsBut is_memory fault read
 
 -- the answer is the one that is read, but that memory may be wanting
 abbrev pub Answers : {A : Type 0} → Result A NrrdFault → Result A NrrdFault → Type 0
-Answers (Ok x) read = read ≡ Ok x
-Answers (Err fault) read = Fails fault read
+Answers result read = AnswersBut is_memory result read

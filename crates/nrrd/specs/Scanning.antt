@@ -8,7 +8,7 @@ use Rattle.nrrd.specs.declared.header.Header.{Header}
 use Rattle.nrrd.specs.declared.meaning.Meaning.{Meaning}
 use Rattle.nrrd.specs.declared.meaning.Meaning.TheVariants as seen
 use Rattle.nrrd.specs.Fields.{Fields, Saying, IsBad, IsUnread, NamesFile, Gives}
-use Rattle.nrrd.specs.Checks.{◌>>=◌}
+use Rattle.text_lines.specs.Refusals.{◌>>=◌}
 
 -- what a line says, without where it lies in memory
 abbrev pub seen_line : Meaning → Saying

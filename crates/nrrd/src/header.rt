@@ -1,11 +1,11 @@
 //! The lines of a header, in order.
-ghost use Rattle.std.specs.Prelude.{◌≡◌, ◌+◌, ◌^◌, ◌≤◌, ◌<◌, length, Option, MatchOption, IfSome, [], ◌∷◌};
+ghost use Rattle.std.specs.Prelude.{◌≡◌, ◌+◌, ◌^◌, ◌≤◌, ◌<◌, length, Option, MatchOption, IfSome, [], ◌∷◌, Ok};
 ghost use Rattle.std.specs.Option.{option_map};
 ghost use Rattle.text_lines.specs.Lines.{lines_of};
 ghost use Rattle.nrrd.specs.HeaderLines.{header_texts, sample_bytes};
 ghost use Rattle.nrrd.specs.Fields.{fields_in, first_fault, meanings, meaning_of};
 ghost use Rattle.nrrd.specs.Checks.{map_ok};
-ghost use Rattle.nrrd.specs.Nrrd.{unless_fault};
+ghost use Rattle.text_lines.specs.Refusals.{unless_fault};
 ghost use Rattle.nrrd.specs.Scanning.{seen_fields, get_field, put_field, no_fields, after_line};
 
 use crate::fault::{Field, NrrdFault};
@@ -121,7 +121,7 @@ fn header_line(bytes: &[u8]) -> Option<(&[u8], &[u8])>
 /// its second line on, which is line 2, and of the samples.
 pub fn read_fields(bytes: &[u8]) -> Result<Header<'_>, NrrdFault>
     requires { length bytes.now ≤ 65536 + length (sample_bytes (lines_of bytes.now)) }
-    ensures { map_ok seen_fields result ≡ unless_fault (first_fault (meanings (header_texts (lines_of bytes.now)))) (fields_in (meanings (header_texts (lines_of bytes.now)))) }
+    ensures { map_ok seen_fields result ≡ unless_fault (first_fault (meanings (header_texts (lines_of bytes.now)))) (Ok (fields_in (meanings (header_texts (lines_of bytes.now))))) }
 {
     let mut header = Header::empty();
     let mut number = 2u32;

@@ -37,6 +37,7 @@ impl<'a> RawVolume<'a> {
         requires { width_of kind * point_count sizes ≤ length bytes.now }
         ensures { result ≡ voxels_in sizes kind big bytes.now }
     {
+        // Reading a size brings in that the sizes are those of a grid.
         let _ = sizes.nx();
         RawVolume {
             sizes,

@@ -175,6 +175,5 @@ pub fn samples_of(
     ensures samples { IfOk result (λ v. v.items ≡ samples_in kind big bytes.now count) }
     ensures each { IfOk result (λ v. All (IsOfKind kind) v.items) }
 {
-    let samples = numbers_of(alloc, kind, big, bytes, count)?;
-    Ok(samples)
+    numbers_of(alloc, kind, big, bytes, count)
 }

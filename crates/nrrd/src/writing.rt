@@ -1,9 +1,10 @@
 //! Volumes in print.
-ghost use Rattle.std.specs.Prelude.{◌≡◌, ◌+◌, ◌*◌, ◌<◌, ◌≤◌, ◌++◌, length, take, All, [], decimal, pos};
+ghost use Rattle.std.specs.Prelude.{◌≡◌, ◌+◌, ◌*◌, ◌<◌, ◌≤◌, ◌++◌, length, take, All, List, [], decimal, pos, ℤ};
 ghost use Rattle.arrayvec.specs.ArrayString.{array_string_len};
 ghost use Rattle.iso_io.specs.Seen.{Puts};
+ghost use Rattle.iso_defs.specs.Grid.{point_count};
 ghost use Rattle.iso_base.specs.Samples.{width_of, IsOfKind};
-ghost use Rattle.nrrd.specs.Writing.{kind_text, order_text, sizes_text, head_text, samples_text};
+ghost use Rattle.nrrd.specs.Writing.{kind_text, order_text, sizes_text, head_text, samples_text, save_text};
 
 use arrayvec::ArrayString;
 use byteorder::{ByteOrder, LittleEndian};
@@ -269,4 +270,12 @@ pub fn put_samples<K: Sink>(sink: &mut K, kind: SampleKind, values: &[i64]) -> R
 {
     let mut room = [0u8; BLOCK];
     put_pieces(sink, kind, values, &mut room)
+}
+
+/// The number of bytes of a volume in print, its head and its samples.
+pub fn volume_bytes(sizes: &Sizes, kind: SampleKind) -> u64
+    ensures { (samples : List ℤ) → length samples ≡ point_count sizes.now → result ≡ length (save_text (record { grid = sizes.now; kind = kind; samples = samples })) }
+{
+    let head = made_head(sizes, kind).len() as u64;
+    head + u64::from(kind.width()) * u64::from(sizes.count())
 }

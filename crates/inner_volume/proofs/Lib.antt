@@ -1,0 +1,4 @@
+pub mod Insides
+pub mod InnerSamples
+pub mod RowsPut
+pub mod ReadAgain

@@ -1,0 +1,148 @@
+//! A volume without its pad, as a file of a shelf.
+
+ghost use Rattle.std.specs.Prelude.{◌≡◌, ◌⊎◌, ◌+◌, ◌-◌, ◌*◌, ◌<◌, ◌≤◌, length, take, drop, get_or, pos, All, Ok, IfOk, OnErr};
+ghost use Rattle.iso_base.specs.Points.{IsPoint, index_of};
+ghost use Rattle.iso_base.specs.Volume.{inner_grid, sample};
+ghost use Rattle.iso_base.specs.Samples.{IsOfKind};
+ghost use Rattle.iso_io.specs.Seen.{Puts};
+ghost use Rattle.iso_io.specs.Shelves.{Stores, file_tape};
+ghost use Rattle.nrrd.specs.Nrrd.{nrrd_of};
+ghost use Rattle.nrrd.specs.Writing.{samples_text};
+ghost use Rattle.inner_volume.specs.Unpadded.{inner_samples, inner_voxels, saved_text};
+
+use crate::places::{inner_sizes, layer_of};
+use brick_store::BrickStore;
+use iso_base::{Point, SampleKind, Sizes};
+use iso_io::{Failed, Shelf, ShelfFile, Sink};
+use nrrd::{put_nrrd_head, put_samples, volume_bytes};
+
+/// So many samples are gathered from rows before they are written.
+const BLOCK: usize = 4096;
+
+/// The stored point that is so many from the front along a row off the pad's layer, by the row's number among these.
+fn row_point(store: &BrickStore, sizes: &Sizes, row: u32, x: u32) -> Point
+    requires sizes { sizes.now ≡ inner_grid store.now }
+    requires row { row < sizes.now.ny * sizes.now.nz }
+    requires x { x < sizes.now.nx }
+    ensures value { sample store.now.samples (index_of store.now.grid result) ≡ get_or (inner_samples store.now) (row * sizes.now.nx + x) (pos 0) }
+    ensures in_grid { IsPoint store.now.grid result }
+{
+    let _ = store.sizes();
+    let layer = layer_of(store);
+    Point {
+        x: x + layer,
+        y: row % sizes.ny() + layer,
+        z: row / sizes.ny() + layer,
+    }
+}
+
+/// The samples of a row off the pad's layer.
+fn copy_row(store: &BrickStore, sizes: &Sizes, row: u32, samples: &mut [i64])
+    requires sizes { sizes.now ≡ inner_grid store.now }
+    requires row { row < sizes.now.ny * sizes.now.nz }
+    requires room { length samples.old ≡ sizes.now.nx }
+    ensures value { samples.new ≡ take sizes.now.nx (drop (row * sizes.now.nx) (inner_samples store.now)) }
+    ensures each { All (IsOfKind store.now.kind) samples.new }
+{
+    let _ = store.sizes();
+    for x in 0..sizes.nx() {
+        samples[x as usize] = store.get(row_point(store, sizes, row, x));
+    }
+}
+
+/// Writes what a block holds where so many more have no room in it, and says how many it then holds.
+fn make_room<K: Sink>(
+    sink: &mut K,
+    kind: SampleKind,
+    block: &[i64],
+    held: usize,
+    more: usize,
+) -> Result<usize, Failed>
+    requires held { held ≤ length block.now }
+    requires more { more ≤ length block.now }
+    requires each { All (IsOfKind kind) (take held block.now) }
+    ensures room { IfOk result (λ n. n + more ≤ length block.now) }
+    ensures held { IfOk result (λ n. (n ≡ 0) ⊎ (n ≡ held)) }
+    ensures put { IfOk result (λ n. Puts (K.seen sink.old) (K.seen sink.new) result (samples_text kind (take (held - n) block.now))) }
+    ensures failed { OnErr result (Puts (K.seen sink.old) (K.seen sink.new) result (samples_text kind (take held block.now))) }
+{
+    if more <= block.len() - held {
+        return Ok(held);
+    }
+    put_samples(sink, kind, &block[..held])?;
+    Ok(0)
+}
+
+/// Writes the samples off the pad's layer, row by row, in blocks.
+fn put_rows<K: Sink>(
+    sink: &mut K,
+    store: &BrickStore,
+    sizes: &Sizes,
+    block: &mut [i64],
+) -> Result<(), Failed>
+    requires sizes { sizes.now ≡ inner_grid store.now }
+    requires room { length block.old ≡ 4096 }
+    ensures { Puts (K.seen sink.old) (K.seen sink.new) result (samples_text store.now.kind (inner_samples store.now)) }
+{
+    let kind = store.kind();
+    let width = sizes.nx() as usize;
+    let mut held = 0;
+    for row in 0..sizes.ny() * sizes.nz() {
+        held = make_room(sink, kind, block, held, width)?;
+        copy_row(store, sizes, row, &mut block[held..held + width]);
+        held += width;
+    }
+    put_samples(sink, kind, &block[..held])
+}
+
+/// Writes the samples off the pad's layer.
+fn put_inner_samples<K: Sink>(sink: &mut K, store: &BrickStore, sizes: &Sizes) -> Result<(), Failed>
+    requires { sizes.now ≡ inner_grid store.now }
+    ensures { Puts (K.seen sink.old) (K.seen sink.new) result (samples_text store.now.kind (inner_samples store.now)) }
+{
+    let mut block = [0; BLOCK];
+    put_rows(sink, store, sizes, &mut block)
+}
+
+/// Writes the volume without its pad: a head, and the samples.
+fn put_volume<K: Sink>(sink: &mut K, store: &BrickStore, sizes: &Sizes) -> Result<(), Failed>
+    requires { sizes.now ≡ inner_grid store.now }
+    ensures { Puts (K.seen sink.old) (K.seen sink.new) result (saved_text store.now) }
+{
+    put_nrrd_head(sink, sizes, store.kind())?;
+    put_inner_samples(sink, store, sizes)
+}
+
+// Apart, so that its caller learns that it is the same shelf afterwards.
+fn fill_file<H: Shelf>(file: &mut ShelfFile<H>, store: &BrickStore) -> Result<u64, Failed>
+    ensures text { Puts (file_tape file.old.shelf.ghost_name (H.seen file.old.shelf.now) file.old.name.now) (file_tape file.new.shelf.ghost_name (H.seen file.new.shelf.now) file.new.name.now) result (saved_text store.now) }
+    ensures bytes { IfOk result (λ n. n ≡ length (saved_text store.now)) }
+    ensures same_reference { file.new.shelf.ghost_name ≡ file.old.shelf.ghost_name }
+{
+    let sizes = inner_sizes(store);
+    put_volume(file, store, &sizes)?;
+    Ok(saved_bytes(store, &sizes))
+}
+
+/// The number of bytes of the file.
+fn saved_bytes(store: &BrickStore, sizes: &Sizes) -> u64
+    requires { sizes.now ≡ inner_grid store.now }
+    ensures { result ≡ length (saved_text store.now) }
+{
+    let _ = store.sizes();
+    volume_bytes(sizes, store.kind())
+}
+
+/// Makes the name's file the volume without its pad, and says how many bytes it has. `Failed` comes only where the
+/// shelf's count rose; the file is then as before or a front of the text, and all other files are as before. No memory is
+/// taken.
+pub fn write_volume<H: Shelf>(shelf: &mut H, name: &str, store: &BrickStore) -> Result<u64, Failed>
+    ensures file { Stores (H.seen shelf.old) (H.seen shelf.new) result name.now (saved_text store.now) }
+    ensures bytes { IfOk result (λ n. n ≡ length (saved_text store.now)) }
+    ensures read_again { nrrd_of (saved_text store.now) ≡ Ok (inner_voxels store.now, 0) }
+{
+    let _ = store.sizes();
+    shelf.start(name)?;
+    let mut file = ShelfFile::new(shelf, name);
+    fill_file(&mut file, store)
+}

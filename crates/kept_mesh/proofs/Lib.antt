@@ -1,0 +1,4 @@
+pub mod EntryRuns
+pub mod RowCases
+pub mod Waits
+pub mod Scanning

@@ -1,0 +1,102 @@
+//! The mesh as a file of a shelf.
+
+ghost use Rattle.std.specs.Prelude.{◌≡◌, ◌+◌, ◌*◌, ◌≤◌, IfOk, is_some, length};
+ghost use Rattle.iso_base.specs.Shifted.{field};
+ghost use Rattle.iso_io.specs.Seen.{Puts};
+ghost use Rattle.iso_io.specs.Shelves.{Stores, file_tape};
+ghost use Rattle.flat_mesh.specs.Mesh.{mesh_of};
+ghost use Rattle.mesh_write.specs.Mesh.{written_of};
+ghost use Rattle.mesh_cache.specs.Economy.{IsRight, waiting};
+ghost use Rattle.span_tree.specs.Spans.{IsRightFor};
+ghost use Rattle.kept_mesh.specs.Texts.{scratch_text};
+
+use crate::rows::KeptRows;
+use brick_store::BrickStore;
+use edge_points::RowRanks;
+use iso_base::{Level, Steps, Written};
+use iso_io::{Failed, Shelf, ShelfFile, Sink};
+use mesh_cache::MeshCache;
+use mesh_text::MeshFormat;
+use span_tree::SpanTree;
+use std::sync::ledger::Ledger;
+use stitch::{write_obj, write_ply};
+
+/// Appends the text of the mesh in a format, and says how many vertices, faces and bytes were written.
+fn put_mesh<K: Sink, L: Ledger>(
+    sink: &mut K,
+    store: &BrickStore,
+    tree: &SpanTree,
+    cache: &MeshCache,
+    ranks: &mut RowRanks,
+    level: Level,
+    format: MeshFormat,
+    steps: &mut Steps<L>,
+) -> Result<Written, Failed>
+    requires tree { IsRightFor tree.now store.now }
+    requires items { IsRight store.now.grid store.now.samples cache.now.items }
+    requires ranks { ranks.old.grid ≡ store.now.grid }
+    ensures text { Puts (K.seen sink.old) (K.seen sink.new) result (scratch_text format store.now level) }
+    ensures written { IfOk result (λ w. w ≡ written_of format (is_some store.now.pad) (mesh_of store.now.grid (field store.now.samples level))) }
+    ensures ranks { ranks.new.grid ≡ ranks.old.grid }
+    ensures least { steps.old ≤ steps.new }
+    ensures most { steps.new ≤ steps.old + 1536 * length (waiting store.now.grid store.now.samples level cache.now.items) }
+{
+    let mut rows = KeptRows::new(store, cache, level);
+    match format {
+        MeshFormat::Ply => write_ply(store, tree, level, &mut rows, ranks, sink, steps),
+        MeshFormat::Obj => write_obj(store, tree, level, &mut rows, ranks, sink, steps),
+    }
+}
+
+// Apart, so that its caller learns that it is the same shelf afterwards.
+fn fill_file<H: Shelf, L: Ledger>(
+    file: &mut ShelfFile<H>,
+    store: &BrickStore,
+    tree: &SpanTree,
+    cache: &MeshCache,
+    ranks: &mut RowRanks,
+    level: Level,
+    format: MeshFormat,
+    steps: &mut Steps<L>,
+) -> Result<Written, Failed>
+    requires tree { IsRightFor tree.now store.now }
+    requires items { IsRight store.now.grid store.now.samples cache.now.items }
+    requires ranks { ranks.old.grid ≡ store.now.grid }
+    ensures text { Puts (file_tape file.old.shelf.ghost_name (H.seen file.old.shelf.now) file.old.name.now) (file_tape file.new.shelf.ghost_name (H.seen file.new.shelf.now) file.new.name.now) result (scratch_text format store.now level) }
+    ensures written { IfOk result (λ w. w ≡ written_of format (is_some store.now.pad) (mesh_of store.now.grid (field store.now.samples level))) }
+    ensures same_reference { file.new.shelf.ghost_name ≡ file.old.shelf.ghost_name }
+    ensures ranks { ranks.new.grid ≡ ranks.old.grid }
+    ensures least { steps.old ≤ steps.new }
+    ensures most { steps.new ≤ steps.old + 1536 * length (waiting store.now.grid store.now.samples level cache.now.items) }
+{
+    put_mesh(file, store, tree, cache, ranks, level, format, steps)
+}
+
+/// Makes the name's file the text of the mesh of a volume at a level, as it is from scratch. The text is written as it is made,
+/// and no memory is taken. A brick that is kept at the level gives its entries, and the counter rises by at most 1,536 for each
+/// other active brick. `Failed` comes only where the shelf's count rose; the file is then as before or a front of the text, and
+/// all other files are as before.
+pub fn write_mesh<H: Shelf, L: Ledger>(
+    shelf: &mut H,
+    name: &str,
+    store: &BrickStore,
+    tree: &SpanTree,
+    cache: &MeshCache,
+    ranks: &mut RowRanks,
+    level: Level,
+    format: MeshFormat,
+    steps: &mut Steps<L>,
+) -> Result<Written, Failed>
+    requires tree { IsRightFor tree.now store.now }
+    requires items { IsRight store.now.grid store.now.samples cache.now.items }
+    requires ranks { ranks.old.grid ≡ store.now.grid }
+    ensures file { Stores (H.seen shelf.old) (H.seen shelf.new) result name.now (scratch_text format store.now level) }
+    ensures written { IfOk result (λ w. w ≡ written_of format (is_some store.now.pad) (mesh_of store.now.grid (field store.now.samples level))) }
+    ensures ranks { ranks.new.grid ≡ ranks.old.grid }
+    ensures least { steps.old ≤ steps.new }
+    ensures most { steps.new ≤ steps.old + 1536 * length (waiting store.now.grid store.now.samples level cache.now.items) }
+{
+    shelf.start(name)?;
+    let mut file = ShelfFile::new(shelf, name);
+    fill_file(&mut file, store, tree, cache, ranks, level, format, steps)
+}

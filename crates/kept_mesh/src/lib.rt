@@ -1,0 +1,10 @@
+//! The mesh of a volume in bricks, by what is kept of it.
+#![tactic(auto)]
+
+mod files;
+mod rows;
+mod spanned;
+
+pub use files::write_mesh;
+pub use rows::KeptRows;
+pub use spanned::refresh_bricks;
