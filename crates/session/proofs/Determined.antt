@@ -7,12 +7,12 @@ use Rattle.iso_io.specs.Files.{Files}
 use Rattle.bench_core.specs.Machine.{State}
 use Rattle.bench_core.specs.Texts.{contour_of, report_of}
 use Rattle.script.specs.declared.command.Command.{Command}
-use Rattle.script.specs.declared.command.Command.TheVariants.{Set, Fill, Level, Undo, Work, Ply, Obj, Save, Contour, Report, Quit}
+use Rattle.script.specs.declared.command.Command.TheVariants.{Set, Fill, Level, Undo, Redo, Work, Ply, Obj, Save, Contour, Report, Quit}
 use Rattle.script.specs.Commands.{read_of}
 use Rattle.iso_defs.specs.Texts.{line}
 use Rattle.script.specs.Replies.{fault_text, written_text, saved_text}
 use Rattle.session.specs.Lines.{Saying}
-use Rattle.session.specs.Table.{step_of, writes_of, says_of, Turn, Shows, after_writing}
+use Rattle.session.specs.Table.{step_of, writes_of, says_of, Turn, after_writing}
 use Rattle.session.specs.Following.{LineTurn, Followed}
 use Rattle.session.proofs.Running.{contours_apart, report_apart}
 
@@ -31,6 +31,7 @@ says_no_want s (Set at value) = refl
 says_no_want s (Fill corners value) = refl
 says_no_want s (Level value) = refl
 says_no_want s Undo = refl
+says_no_want s Redo = refl
 says_no_want s (Work n) = refl
 says_no_want s (Ply name) = refl
 says_no_want s (Obj name) = refl
@@ -44,7 +45,7 @@ unfolding fault_text
 memory_wants = refl
 
 answers_by : (s : State) (f : Option Files) (c : Command) (r : List ℕ) (s' : State) (f' : Option Files) (step : Result State BenchFault)
-    → MatchResult step (λ next. (s' ≡ next) × (r ≡ says_of s c) × (f' ≡ after_writing (writes_of s c) f) × Shows s c) (λ fault. (s' ≡ s) × (r ≡ line (fault_text fault)) × (f' ≡ f)) → s' ≡ by_step s step (wants r)
+    → MatchResult step (λ next. (s' ≡ next) × (r ≡ says_of s c) × (f' ≡ after_writing (writes_of s c) f)) (λ fault. (s' ≡ s) × (r ≡ line (fault_text fault)) × (f' ≡ f)) → s' ≡ by_step s step (wants r)
 answers_by s f c r s' f' (Err fault) h = h.0
 answers_by s f c r s' f' (Ok next) h = h.0 ∙ ap (by_step s (Ok next)) (sym (says_no_want s c)) ∙ ap (λ (x : List ℕ). by_step s (Ok next) (wants x)) (sym h.1)
 
@@ -52,28 +53,12 @@ still : (s : State) (b : Bool) → by_step s (Ok s) b ≡ s
 still s true = refl
 still s false = refl
 
-some_apart : (file : List ℕ × List ℕ) → None ≡ Some file → ⊥
-some_apart file e = absurd cc
-
-writing_stays : (s : State) (c : Command) (file : List ℕ × List ℕ) → writes_of s c ≡ Some file → step_of s c ≡ Ok s
-writing_stays s (Set at value) file e = absurd (some_apart file e)
-writing_stays s (Fill corners value) file e = absurd (some_apart file e)
-writing_stays s (Level value) file e = absurd (some_apart file e)
-writing_stays s Undo file e = absurd (some_apart file e)
-writing_stays s (Work n) file e = absurd (some_apart file e)
-writing_stays s (Ply name) file e = refl
-writing_stays s (Obj name) file e = refl
-writing_stays s (Save name) file e = refl
-writing_stays s (Contour k) file e = absurd (some_apart file e)
-writing_stays s Report file e = absurd (some_apart file e)
-writing_stays s Quit file e = absurd (some_apart file e)
-
 turn_state : (s : State) (f : Option Files) (c : Command) (r : List ℕ) (s' : State) (f' : Option Files) → Turn s f c r s' f' → s' ≡ by_step s (step_of s c) (wants r)
 turn_state s f c r s' f' (inl h) = answers_by s f c r s' f' (step_of s c) h
 turn_state s f c r s' f' (inr (inl h)) =
     h.same_state ∙ ap (by_step s (Ok h.next)) (sym memory_wants) ∙ ap (λ (x : List ℕ). by_step s (Ok h.next) (wants x)) (sym h.reply_is) ∙ ap (λ (x : Result State BenchFault). by_step s x (wants r)) (sym h.step)
 turn_state s f c r s' f' (inr (inr h)) =
-    h.same_state ∙ sym (still s (wants r)) ∙ ap (λ (x : Result State BenchFault). by_step s x (wants r)) (sym (writing_stays s c (h.name, h.text) h.writes))
+    h.same_state ∙ sym (still s (wants r)) ∙ ap (λ (x : Result State BenchFault). by_step s x (wants r)) (sym h.step)
 
 first_of : (a b : List ℕ) (x y : List (List ℕ)) → a ∷ x ≡ b ∷ y → (a ≡ b) × (x ≡ y)
 first_of a b x y e = (cc, cc)

@@ -1,11 +1,9 @@
 -- Lines that are run one after another.
 use Rattle.std.proofs.Common.{◌≡◌, ℕ, ◌+◌, ◌≤◌, Bool, true, false, cond, List, [], ◌∷◌, ◌++◌, Ok, refl, sym, ap, subst, ◌∙◌, append_assoc, arith}
-use Rattle.std.specs.Prelude.{Option, None, not, ◌&&◌, bytes_eq, codes, decimal, if◌then◌else◌, length}
+use Rattle.std.specs.Prelude.{None, not, ◌&&◌, bytes_eq, codes, decimal, if◌then◌else◌, length}
 use Rattle.std.proofs.lemmas.List.{append-nil}
 use Rattle.std.proofs.lemmas.List.Concat.{flat_map-append}
 use Rattle.iso_io.proofs.Known.{Appends-nil, Appends-trans}
-use Rattle.iso_io.specs.Files.{Files}
-use Rattle.bench_core.specs.Machine.{State}
 use Rattle.script.specs.declared.command.LineFault.{LineFault}
 use Rattle.script.specs.declared.command.LineFault.TheVariants.{Syntax, LineTooLong}
 use Rattle.iso_base.specs.declared.fault.BenchFault.{BenchFault}
@@ -19,21 +17,23 @@ use Rattle.session.specs.Table.{contour_reply, report_reply}
 use Rattle.script.specs.Replies.{fault_text, line_fault_text, written_text, saved_text}
 use Rattle.script.specs.Commands.{read_of}
 use Rattle.session.specs.Lines.{Saying, is_quit, has_no_quit}
-use Rattle.session.specs.Following.{LineTurn, Followed, World, Runs, Breaks, QuitsLast, joined, shelf_errors, is_shelf_error, CountsBy}
-use Rattle.session.specs.Sessions.{Ran, Told}
-use Rattle.session.specs.declared.session.After.{After}
-use Rattle.session.specs.declared.session.After.TheVariants.{On, Quit, Fault}
+use Rattle.session.specs.Following.{Followed}
+use Rattle.session.specs.Kept.{Kept, KeptLine, Scene}
+use Rattle.session.specs.Worlds.{Breaks, CountsBy, QuitsLast, Runs, World, is_shelf_error, joined, scene_of, shelf_errors}
+use Rattle.session.specs.Loop.{Ran, Told}
+use Rattle.session.specs.declared.after.After.{After}
+use Rattle.session.specs.declared.after.After.TheVariants.{On, Quit, Fault}
 
-followed_from : (s s0 : State) (f f0 : Option Files) (ls rs : List (List ℕ)) (s' : State) (f' : Option Files) → s ≡ s0 → f ≡ f0 → Followed s f ls rs s' f' → Followed s0 f0 ls rs s' f'
-followed_from s s0 f f0 ls rs s' f' e d h = subst (λ (x : State). Followed x f0 ls rs s' f') e (subst (λ (x : Option Files). Followed s x ls rs s' f') d h)
+pub kept_both : (w : Scene) (ls rs : List (List ℕ)) (m : Scene) (ls' rs' : List (List ℕ)) (v : Scene) → Kept w ls rs m → Kept m ls' rs' v → Kept w (ls ++ ls') (rs ++ rs') v
+kept_both w [] rs m ls' rs' v h k = subst (λ (x : Scene). Kept x ls' (rs ++ rs') v) h.1 (subst (λ (r : List (List ℕ)). Kept m ls' (r ++ rs') v) (sym h.0) k)
+kept_both w (l ∷ ls) rs m ls' rs' v h k =
+    (h.0, h.1 ++ rs', h.2, ap (λ (r : List (List ℕ)). r ++ rs') h.3 ∙ append_assoc h.0 h.1 rs', h.4, kept_both h.2 ls h.1 m ls' rs' v h.5 k)
 
-pub followed_both : (s : State) (f : Option Files) (ls rs : List (List ℕ)) (m : State) (g : Option Files) (ls' rs' : List (List ℕ)) (s' : State) (f' : Option Files)
-    → Followed s f ls rs m g → Followed m g ls' rs' s' f' → Followed s f (ls ++ ls') (rs ++ rs') s' f'
-followed_both s f [] rs m g ls' rs' s' f' h k = followed_from m s g f ls' (rs ++ rs') s' f' h.1 h.2 (subst (λ (r : List (List ℕ)). Followed m g ls' (r ++ rs') s' f') (sym h.0) k)
-followed_both s f (l ∷ ls) rs m g ls' rs' s' f' h k =
-    (h.0, h.1 ++ rs', h.2, h.3, ap (λ (r : List (List ℕ)). r ++ rs') h.4 ∙ append_assoc h.0 h.1 rs', h.5, followed_both h.2 h.3 ls h.1 m g ls' rs' s' f' h.6 k)
+pub kept_followed : (ls rs : List (List ℕ)) (w v : Scene) → Kept w ls rs v → Followed w.bench.state w.files ls rs v.bench.state v.files
+kept_followed [] rs w v h = (h.0, ap (λ (x : Scene). x.bench.state) h.1, ap (λ (x : Scene). x.files) h.1)
+kept_followed (l ∷ ls) rs w v h = (h.0, h.1, h.2.bench.state, h.2.files, h.3, h.4.turn, kept_followed ls h.1 h.2 v h.5)
 
-joined-append : (xs ys : List (List ℕ)) → joined (xs ++ ys) ≡ joined xs ++ joined ys
+pub joined-append : (xs ys : List (List ℕ)) → joined (xs ++ ys) ≡ joined xs ++ joined ys
 joined-append xs ys = flat_map-append (λ (r : List ℕ). r) xs ys
 
 shelf_errors-append : (xs ys : List (List ℕ)) → shelf_errors (xs ++ ys) ≡ shelf_errors xs + shelf_errors ys
@@ -47,12 +47,12 @@ counts_both a b c xs ys p l q = λ lt.
     omega (arith, shelf_errors-append xs ys)
 
 pub runs_none : (w : World) → Runs w w []
-runs_none w = record { replies = []; followed = (refl, refl, refl); written = Appends-nil w.tape.taken; beside = refl; later = omega arith; shelf_later = omega arith; counted = λ _. omega arith }
+runs_none w = record { replies = []; kept = (refl, refl); written = Appends-nil w.tape.taken; beside = refl; later = omega arith; shelf_later = omega arith; counted = λ _. omega arith }
 
 pub runs_both : (w v x : World) (ls ls' : List (List ℕ)) → Runs w v ls → Runs v x ls' → Runs w x (ls ++ ls')
 runs_both w v x ls ls' a b = record {
   replies = a.replies ++ b.replies;
-  followed = followed_both w.state w.store.files ls a.replies v.state v.store.files ls' b.replies x.state x.store.files a.followed b.followed;
+  kept = kept_both (scene_of w) ls a.replies (scene_of v) ls' b.replies (scene_of x) a.kept b.kept;
   written = rw (joined-append a.replies b.replies) (Appends-trans w.tape.taken v.tape.taken x.tape.taken (joined a.replies) (joined b.replies) a.written b.written);
   beside = b.beside ∙ a.beside;
   later = omega (arith, a.later, b.later);
@@ -76,8 +76,9 @@ runs_breaks w v x ls ls' a q b = record {
   no_quit = no_quit_both ls b.before q b.no_quit;
   replies = a.replies ++ b.replies;
   reply = b.reply;
-  followed = subst (λ (r : List (List ℕ)). Followed w.state w.store.files (ls ++ ls') r x.state x.store.files) (sym (append_assoc a.replies b.replies (b.reply ∷ [])))
-      (followed_both w.state w.store.files ls a.replies v.state v.store.files ls' (b.replies ++ b.reply ∷ []) x.state x.store.files a.followed b.followed);
+  mid = b.mid;
+  kept = kept_both (scene_of w) ls a.replies (scene_of v) b.before b.replies b.mid a.kept b.kept;
+  turn = b.turn;
   front = b.front;
   back = b.back;
   cut = b.cut;
@@ -116,18 +117,21 @@ ran_stop w v ls ls' Fault s p = (p.0, p.1 ++ ls', ap (λ (m : List (List ℕ)). 
 
 -- ---- one line
 
-one_followed : (s : State) (f : Option Files) (line : List ℕ) (replies : List (List ℕ)) (says : Saying) (s' : State) (f' : Option Files) → says ≡ read_of line → LineTurn s f says replies s' f' → Followed s f (line ∷ []) replies s' f'
-one_followed s f line replies says s' f' e t = (replies, [], s', f', sym (append-nil replies), subst (λ (m : Saying). LineTurn s f m replies s' f') e t, (refl, refl, refl))
+of_line : (w v : Scene) (line : List ℕ) (replies : List (List ℕ)) (says : Saying) → says ≡ read_of line → KeptLine w says replies v → KeptLine w (read_of line) replies v
+of_line w v line replies says e t = subst (λ (m : Saying). KeptLine w m replies v) e t
+
+one_kept : (w v : Scene) (line : List ℕ) (replies : List (List ℕ)) (says : Saying) → says ≡ read_of line → KeptLine w says replies v → Kept w (line ∷ []) replies v
+one_kept w v line replies says e t = (replies, [], v, sym (append-nil replies), of_line w v line replies says e t, (refl, refl))
 
 no_quit_one : (line : List ℕ) (says : Saying) → says ≡ read_of line → is_quit says ≡ false → has_no_quit (line ∷ []) ≡ true
 no_quit_one line says e q = let t : is_quit (read_of line) ≡ false = ap is_quit (sym e) ∙ q in rw t refl
 
 pub ran_told : (w v : World) (line : List ℕ) (says : Saying) (text : List ℕ) (quits : Bool) (a : After) → says ≡ read_of line → is_quit says ≡ quits
-    → LineTurn w.state w.store.files says (text ∷ []) v.state v.store.files → w.store.faults ≤ v.store.faults → CountsBy w.store.faults v.store.faults (text ∷ []) → Told w.tape v.tape text quits a → Ran w v (line ∷ []) a
+    → KeptLine (scene_of w) says (text ∷ []) (scene_of v) → w.store.faults ≤ v.store.faults → CountsBy w.store.faults v.store.faults (text ∷ []) → Told w.tape v.tape text quits a → Ran w v (line ∷ []) a
 ran_told w v line says text quits On e q t l n d = (
   record {
     replies = text ∷ [];
-    followed = one_followed w.state w.store.files line (text ∷ []) says v.state v.store.files e t;
+    kept = one_kept (scene_of w) (scene_of v) line (text ∷ []) says e t;
     written = rw (append-nil text) d.1.gained;
     beside = d.1.beside;
     later = d.1.later;
@@ -143,7 +147,7 @@ ran_told w v line says text quits Quit e q t l n d = (
   record { before = []; line = line; parts = refl; no_quit = refl; quit = ap is_quit (sym e) ∙ q ∙ d.0 },
   record {
     replies = text ∷ [];
-    followed = one_followed w.state w.store.files line (text ∷ []) says v.state v.store.files e t;
+    kept = one_kept (scene_of w) (scene_of v) line (text ∷ []) says e t;
     written = rw (append-nil text) d.1.gained;
     beside = d.1.beside;
     later = d.1.later;
@@ -162,7 +166,9 @@ ran_told w v line says text quits Fault e q t l n d = (
     no_quit = refl;
     replies = [];
     reply = text;
-    followed = one_followed w.state w.store.files line (text ∷ []) says v.state v.store.files e t;
+    mid = scene_of w;
+    kept = (refl, refl);
+    turn = of_line (scene_of w) (scene_of v) line (text ∷ []) says e t;
     front = d.0;
     back = d.1;
     cut = d.2;
@@ -178,7 +184,7 @@ pub ran_blank : (w : World) (line : List ℕ) → Ok None ≡ read_of line → R
 ran_blank w line e = (
   record {
     replies = [];
-    followed = one_followed w.state w.store.files line [] (Ok None) w.state w.store.files e (refl, refl, refl);
+    kept = one_kept (scene_of w) (scene_of w) line [] (Ok None) e (record { turn = (refl, refl, refl); keeps = (refl, refl) });
     written = Appends-nil w.tape.taken;
     beside = refl;
     later = omega arith;
@@ -201,6 +207,7 @@ fault_no_error (faults.ValueOutside least greatest) ne = refl
 fault_no_error faults.LevelOutside ne = refl
 fault_no_error (faults.LevelNotAbovePad level pad) ne = refl
 fault_no_error faults.NothingToUndo ne = refl
+fault_no_error faults.NothingToRedo ne = refl
 fault_no_error (faults.FillTooLarge n) ne = refl
 fault_no_error faults.ShelfFailed ne = absurd (ne refl)
 fault_no_error (faults.NoSuchPlane k) ne = refl

@@ -4,14 +4,13 @@ use Rattle.iso_base.specs.declared.fault.BenchFault.{BenchFault}
 use Rattle.iso_base.specs.declared.fault.BenchFault.TheVariants as faults
 use Rattle.iso_io.specs.Files.{Files}
 use Rattle.iso_io.specs.Shelves.{with_file, FilesCut}
-use Rattle.bench_core.specs.Machine.{State, set_step, fill_step, level_step, undo_step, contour_step}
-use Rattle.bench_core.specs.Surface.{IsWatertight}
+use Rattle.bench_core.specs.Machine.{State, set_step, fill_step, level_step, undo_step, redo_step, contour_step}
 use Rattle.bench_core.specs.Texts.{ply_text, ply_written, obj_text, obj_written, save_text, contour_of, report_of}
 use Rattle.plane_contour.specs.Points.{DrawnLine}
 use Rattle.plane_contour.specs.Texts.{contours_text}
 use Rattle.mesh_report.specs.Report.{Summary}
 use Rattle.script.specs.declared.command.Command.{Command}
-use Rattle.script.specs.declared.command.Command.TheVariants.{Set, Fill, Level, Undo, Work, Ply, Obj, Save, Contour, Report, Quit}
+use Rattle.script.specs.declared.command.Command.TheVariants.{Set, Fill, Level, Undo, Redo, Ply, Obj, Save, Contour, Report}
 use Rattle.iso_base.specs.declared.fault.Written.{Written}
 use Rattle.script.specs.declared.reply.Reply.{Reply}
 use Rattle.script.specs.declared.reply.Reply.TheVariants.{Done, Meshed, Saved, Refused}
@@ -29,27 +28,16 @@ step_of s (Set at value) = set_step s (at_place at 0 1 2) value
 step_of s (Fill corners value) = fill_step s (at_place corners 0 1 2) (at_place corners 3 4 5) value
 step_of s (Level value) = level_step s value
 step_of s Undo = undo_step s
-step_of s (Work n) = Ok s
-step_of s (Ply name) = Ok s
-step_of s (Obj name) = Ok s
-step_of s (Save name) = Ok s
+step_of s Redo = redo_step s
 step_of s (Contour k) = contour_step s k
-step_of s Report = Ok s
-step_of s Quit = Ok s
+step_of s command = Ok s
 
 -- the file that a command writes, and its text
 abbrev pub writes_of : State → Command → Option (List ℕ × List ℕ)
-writes_of s (Set at value) = None
-writes_of s (Fill corners value) = None
-writes_of s (Level value) = None
-writes_of s Undo = None
-writes_of s (Work n) = None
 writes_of s (Ply name) = Some (name, ply_text s)
 writes_of s (Obj name) = Some (name, obj_text s)
 writes_of s (Save name) = Some (name, save_text s)
-writes_of s (Contour k) = None
-writes_of s Report = None
-writes_of s Quit = None
+writes_of s command = None
 
 -- contour lines, and then `ok`
 abbrev pub contour_reply : Bool → List DrawnLine → List ℕ
@@ -61,54 +49,29 @@ report_reply report = report_text report.total report.parts ++ line (codes "ok")
 
 -- the reply to a command that is not refused
 abbrev pub says_of : State → Command → List ℕ
-says_of s (Set at value) = line (codes "ok")
-says_of s (Fill corners value) = line (codes "ok")
-says_of s (Level value) = line (codes "ok")
-says_of s Undo = line (codes "ok")
-says_of s (Work n) = line (codes "ok")
 says_of s (Ply name) = line (written_text (ply_written s))
 says_of s (Obj name) = line (written_text (obj_written s))
 says_of s (Save name) = line (saved_text (length (save_text s)))
 says_of s (Contour k) = contour_reply (is_some s.volume.pad) (contour_of s k)
 says_of s Report = report_reply (report_of s)
-says_of s Quit = line (codes "ok")
+says_of s command = line (codes "ok")
 
--- the commands that may want memory
+-- the asking lines: those that may be answered that memory is wanting
 abbrev pub may_want_memory : Command → Bool
-may_want_memory (Set at value) = true
 may_want_memory (Fill corners value) = true
-may_want_memory (Level value) = true
-may_want_memory Undo = true
-may_want_memory (Work n) = false
-may_want_memory (Ply name) = true
-may_want_memory (Obj name) = true
-may_want_memory (Save name) = false
 may_want_memory (Contour k) = true
 may_want_memory Report = true
-may_want_memory Quit = false
+may_want_memory command = false
 
+-- the files after a command
 abbrev pub after_writing : Option (List ℕ × List ℕ) → Option Files → Option Files
 after_writing None files = files
 after_writing (Some file) files = with_file file.0 file.1 files
 
--- the mesh that a command writes is watertight
-abbrev pub Shows : State → Command → Type 0
-Shows s (Set at value) = Unit {0}
-Shows s (Fill corners value) = Unit {0}
-Shows s (Level value) = Unit {0}
-Shows s Undo = Unit {0}
-Shows s (Work n) = Unit {0}
-Shows s (Ply name) = IsWatertight s.volume s.level
-Shows s (Obj name) = IsWatertight s.volume s.level
-Shows s (Save name) = Unit {0}
-Shows s (Contour k) = Unit {0}
-Shows s Report = Unit {0}
-Shows s Quit = Unit {0}
-
--- the machine's step, and what a mesh that it writes is
-abbrev pub Answers : State → Option Files → Command → List ℕ → State → Option Files → Type 0
-Answers s files command reply s' files' = MatchResult (step_of s command)
-    (λ next. (s' ≡ next) × (reply ≡ says_of s command) × (files' ≡ after_writing (writes_of s command) files) × Shows s command)
+-- the machine's step
+abbrev pub TakesStep : State → Option Files → Command → List ℕ → State → Option Files → Type 0
+TakesStep s files command reply s' files' = MatchResult (step_of s command)
+    (λ next. (s' ≡ next) × (reply ≡ says_of s command) × (files' ≡ after_writing (writes_of s command) files))
     (λ fault. (s' ≡ s) × (reply ≡ line (fault_text fault)) × (files' ≡ files))
 
 -- the step is not refused, but memory is wanted
@@ -120,18 +83,19 @@ pub record WantsMemory (s : State) (files : Option Files) (command : Command) (r
   pub same_state : s' ≡ s
   pub same_files : files' ≡ files
 
--- the shelf fails while a file is written, which is then as before or a front of its text
-pub record FailsToWrite (s : State) (files : Option Files) (command : Command) (reply : List ℕ) (s' : State) (files' : Option Files) : Type 0 where
+-- the step is not refused, but the shelf fails while a file is written, which is then as before or a front of its text
+pub record FailsToStore (s : State) (files : Option Files) (command : Command) (reply : List ℕ) (s' : State) (files' : Option Files) : Type 0 where
   pub name : List ℕ
   pub text : List ℕ
   pub writes : writes_of s command ≡ Some (name, text)
+  pub step : step_of s command ≡ Ok s
   pub reply_is : reply ≡ line (fault_text faults.ShelfFailed)
   pub same_state : s' ≡ s
   pub cut : FilesCut name text files files'
 
 -- one command and its reply
 abbrev pub Turn : State → Option Files → Command → List ℕ → State → Option Files → Type 0
-Turn s files command reply s' files' = Answers s files command reply s' files' ⊎ WantsMemory s files command reply s' files' ⊎ FailsToWrite s files command reply s' files'
+Turn s files command reply s' files' = TakesStep s files command reply s' files' ⊎ WantsMemory s files command reply s' files' ⊎ FailsToStore s files command reply s' files'
 
 -- what is answered to a change, to a written mesh, and to a saved volume
 abbrev pub reply_to_change : Result (Unit {0}) BenchFault → Reply

@@ -1,0 +1,12 @@
+pub mod Told
+pub mod ReadVolumes
+pub mod Texts
+pub mod Generated
+pub mod Few
+pub mod FileEdges
+pub mod Openings
+pub mod Completing
+pub mod Headline
+pub mod Reasons
+pub mod SessionMeshes
+pub mod Economy

@@ -1,0 +1,70 @@
+-- Volumes that were read.
+use Rattle.std.proofs.Common.{◌≡◌, ℕ, ◌≤◌, List, length, Some, None, Ok, Err, IfOk, IfSome, IfErr, refl, sym, ap, ◌∙◌, ℤ}
+use Rattle.std.specs.Prelude.{Option, Result}
+use Rattle.std.specs.FinMap.{get}
+use Rattle.iso_base.specs.Volume.{Volume}
+use Rattle.iso_io.specs.Files.{Files}
+use Rattle.nrrd.specs.Nrrd.{nrrd_of, Fails}
+use Rattle.nrrd.specs.declared.fault.NrrdFault.{NrrdFault}
+use Rattle.nrrd.specs.declared.fault.NrrdFault.TheVariants as faults
+use Rattle.endings.specs.declared.answer.Answer.{Answer}
+use Rattle.endings.specs.declared.answer.Answer.TheVariants as answers
+use Rattle.commands.specs.Volumes.{IsNotRaised, IsNoVolume, IsRead, answer_of, of_read, volume_limit, volume_of, with_pad}
+use Rattle.endings.specs.declared.answer.VolumeFault.{VolumeFault}
+use Rattle.endings.specs.declared.answer.VolumeFault.TheVariants.{Nrrd}
+
+-- the volume of what was read
+pub read_volume : (pad : Option ℤ) (level : ℤ) (bytes : List ℕ) (v : Volume) (r : Result Volume VolumeFault) → IsRead bytes v → with_pad pad level v ≡ r → volume_of pad level bytes ≡ r
+unfolding volume_of
+read_volume pad level bytes v r h e = ap (of_read pad level) h.1 ∙ ap (with_pad pad level) (sym h.2) ∙ e
+
+pub not_read : (pad : Option ℤ) (level : ℤ) (bytes : List ℕ) (fault : NrrdFault) → nrrd_of bytes ≡ Err fault → volume_of pad level bytes ≡ Err (Nrrd fault)
+unfolding volume_of
+not_read pad level bytes fault e = ap (of_read pad level) e
+
+-- what is true of the bytes that were read is true of the file's
+pub of_file : (P : List ℕ → Type 0) (o : Option Files) (name bytes : List ℕ) → IfSome o (λ files. get files name ≡ Some bytes) → length bytes ≤ volume_limit → P bytes
+    → IfSome o (λ files. (given : List ℕ) × (get files name ≡ Some given) × (length given ≤ volume_limit) × P given)
+of_file P None name bytes h l p = tt
+of_file P (Some files) name bytes h l p = (bytes, h, l, p)
+
+pub ok_in_pad : (o : Option ℤ) (pad level : ℤ) (bytes : List ℕ) (v : Volume) (r : Result Volume Answer) → o ≡ Some pad → IsRead bytes v → IfOk r (λ w. with_pad (Some pad) level v ≡ Ok w) → IfOk r (λ w. volume_of o level bytes ≡ Ok w)
+ok_in_pad o pad level bytes v (Ok w) e h k = rw e (read_volume (Some pad) level bytes v (Ok w) h k)
+ok_in_pad o pad level bytes v (Err answer) e h k = tt
+
+no_pad : (pad level : ℤ) (bytes : List ℕ) (v : Volume) (answer : Answer) → IsRead bytes v → IsNotRaised pad level v answer → IsNoVolume (Some pad) level bytes answer
+no_pad pad level bytes v answers.Done h k = absurd k
+no_pad pad level bytes v answers.MeshRefused h k = absurd k
+no_pad pad level bytes v answers.BadWords h k = absurd k
+no_pad pad level bytes v (answers.BadVolume fault) h k = read_volume (Some pad) level bytes v (Err fault) h k
+no_pad pad level bytes v answers.InputFault h k = absurd k
+no_pad pad level bytes v answers.InputTooLong h k = absurd k
+no_pad pad level bytes v answers.OutputFault h k = absurd k
+no_pad pad level bytes v answers.Memory h k = tt
+no_pad pad level bytes v answers.ShelfFault h k = absurd k
+no_pad pad level bytes v (answers.BadMesh fault) h k = absurd k
+
+pub no_in_pad : (o : Option ℤ) (pad level : ℤ) (bytes : List ℕ) (v : Volume) (r : Result Volume Answer) → o ≡ Some pad → IsRead bytes v → IfErr r (IsNotRaised pad level v) → IfErr r (IsNoVolume o level bytes)
+no_in_pad o pad level bytes v (Ok w) e h k = tt
+no_in_pad o pad level bytes v (Err answer) e h k = rw e (no_pad pad level bytes v answer h k)
+
+pub ok_alone : (o : Option ℤ) (level : ℤ) (bytes : List ℕ) (v : Volume) → o ≡ None → IsRead bytes v → volume_of o level bytes ≡ Ok v
+ok_alone o level bytes v e h = rw e (read_volume None level bytes v (Ok v) h refl)
+
+-- a refusal of the reader, as an answer
+pub no_volume : (pad : Option ℤ) (level : ℤ) (bytes : List ℕ) (fault : NrrdFault) → Fails fault (nrrd_of bytes) → IsNoVolume pad level bytes (answer_of fault)
+no_volume pad level bytes faults.NotNrrd h = not_read pad level bytes faults.NotNrrd h
+no_volume pad level bytes (faults.HeaderTooLong n) h = not_read pad level bytes (faults.HeaderTooLong n) h
+no_volume pad level bytes (faults.BadLine line) h = not_read pad level bytes (faults.BadLine line) h
+no_volume pad level bytes (faults.RepeatedField field) h = not_read pad level bytes (faults.RepeatedField field) h
+no_volume pad level bytes (faults.MissingField field) h = not_read pad level bytes (faults.MissingField field) h
+no_volume pad level bytes (faults.BadValue field) h = not_read pad level bytes (faults.BadValue field) h
+no_volume pad level bytes faults.UnsupportedKind h = not_read pad level bytes faults.UnsupportedKind h
+no_volume pad level bytes (faults.UnsupportedEncoding word) h = not_read pad level bytes (faults.UnsupportedEncoding word) h
+no_volume pad level bytes (faults.Detached line) h = not_read pad level bytes (faults.Detached line) h
+no_volume pad level bytes (faults.SkipUnsupported field) h = not_read pad level bytes (faults.SkipUnsupported field) h
+no_volume pad level bytes (faults.NotThreeAxes n) h = not_read pad level bytes (faults.NotThreeAxes n) h
+no_volume pad level bytes (faults.Size fault) h = not_read pad level bytes (faults.Size fault) h
+no_volume pad level bytes faults.NoEndian h = not_read pad level bytes faults.NoEndian h
+no_volume pad level bytes (faults.ShortSamples needed present) h = not_read pad level bytes (faults.ShortSamples needed present) h
+no_volume pad level bytes faults.Memory h = tt

@@ -1,0 +1,257 @@
+-- The cause of each status, from the outcome.
+use Rattle.std.proofs.Common.{◌≡◌, ◌⊎◌, ℕ, ◌<◌, ◌≤◌, List, length, Some, None, Ok, Err, MatchOption, IfSome, refl, sym, ap, ◌∙◌, subst, inl, inr, ℤ}
+use Rattle.std.specs.Prelude.{Option, Result}
+use Rattle.iso_base.specs.Volume.{Volume}
+use Rattle.iso_io.specs.Files.{Files}
+use Rattle.iso_io.specs.Shelves.{content}
+use Rattle.bench_core.specs.Keeping.{Workbench}
+use Rattle.std.specs.FinMap.{get}
+use Rattle.session.specs.declared.ending.Ending.TheVariants as endings
+use Rattle.session.specs.declared.ending.Ending.{Ending}
+use Rattle.session.specs.Sessions.{EndsAfter, Session, script_limit}
+use Rattle.mesh_text.specs.declared.format.MeshFormat.{MeshFormat}
+use Rattle.command_words.specs.declared.request.Request.{Request}
+use Rattle.command_words.specs.declared.request.Request.TheVariants as requests
+use Rattle.endings.specs.Status.{mesh_status, nrrd_status, status_of, volume_status}
+use Rattle.endings.specs.declared.answer.VolumeFault.{VolumeFault}
+use Rattle.endings.specs.declared.answer.VolumeFault.TheVariants as volume_faults
+use Rattle.nrrd.specs.declared.fault.NrrdFault.{NrrdFault}
+use Rattle.nrrd.specs.declared.fault.NrrdFault.TheVariants as nrrd_faults
+use Rattle.mesh_read.specs.declared.fault.MeshFault.{MeshFault}
+use Rattle.mesh_read.specs.declared.fault.MeshFault.TheVariants as mesh_faults
+use Rattle.endings.specs.declared.answer.Answer.{Answer}
+use Rattle.endings.specs.declared.answer.Answer.TheVariants as answers
+use Rattle.endings.specs.declared.answer.Status.{Status}
+use Rattle.endings.specs.declared.answer.Status.TheVariants as statuses
+use Rattle.commands.specs.Causes.{Asks, HasBadMesh, HasBadVolume, HasBrokenMesh, HasNoFile, HasTooMany}
+use Rattle.commands.specs.Headline.{HoldsWatertight}
+use Rattle.commands.specs.Meaning.{text_by}
+use Rattle.commands.specs.Outcome.{Call, Rejects}
+use Rattle.commands.specs.Serving.{Serves}
+use Rattle.commands.specs.Sessions.{answer_of}
+use Rattle.commands.specs.Volumes.{volume_limit}
+use Rattle.commands.proofs.Told.{if_told}
+
+-- ---- which answers have a status
+
+mesh_two : (f : MeshFault) → (mesh_status f ≡ statuses.BadMesh) ⊎ (mesh_status f ≡ statuses.Memory)
+mesh_two mesh_faults.NotMesh = inl refl
+mesh_two mesh_faults.BinaryPly = inl refl
+mesh_two (mesh_faults.BadHeader line) = inl refl
+mesh_two (mesh_faults.BadNumber line) = inl refl
+mesh_two (mesh_faults.NotTriangle line) = inl refl
+mesh_two (mesh_faults.IndexOutside line) = inl refl
+mesh_two (mesh_faults.ShortMesh needed present) = inl refl
+mesh_two (mesh_faults.TooMany n) = inl refl
+mesh_two mesh_faults.Memory = inr refl
+
+nrrd_two : (f : NrrdFault) → (nrrd_status f ≡ statuses.BadVolume) ⊎ (nrrd_status f ≡ statuses.Memory)
+nrrd_two nrrd_faults.NotNrrd = inl refl
+nrrd_two (nrrd_faults.HeaderTooLong n) = inl refl
+nrrd_two (nrrd_faults.BadLine line) = inl refl
+nrrd_two (nrrd_faults.RepeatedField field) = inl refl
+nrrd_two (nrrd_faults.MissingField field) = inl refl
+nrrd_two (nrrd_faults.BadValue field) = inl refl
+nrrd_two nrrd_faults.UnsupportedKind = inl refl
+nrrd_two (nrrd_faults.UnsupportedEncoding word) = inl refl
+nrrd_two (nrrd_faults.Detached line) = inl refl
+nrrd_two (nrrd_faults.SkipUnsupported field) = inl refl
+nrrd_two (nrrd_faults.NotThreeAxes n) = inl refl
+nrrd_two (nrrd_faults.Size fault) = inl refl
+nrrd_two nrrd_faults.NoEndian = inl refl
+nrrd_two (nrrd_faults.ShortSamples needed present) = inl refl
+nrrd_two nrrd_faults.Memory = inr refl
+
+volume_two : (f : VolumeFault) → (volume_status f ≡ statuses.BadVolume) ⊎ (volume_status f ≡ statuses.Memory)
+volume_two (volume_faults.Nrrd fault) = nrrd_two fault
+volume_two (volume_faults.Pad fault) = inl refl
+volume_two (volume_faults.LevelNotAbovePad level pad) = inl refl
+
+neither : (s t u v : Status) → (s ≡ t) ⊎ (s ≡ u) → s ≡ v → (t ≡ v → ⊥) → (u ≡ v → ⊥) → ⊥
+neither s t u v (inl e) f not_t not_u = not_t (sym e ∙ f)
+neither s t u v (inr e) f not_t not_u = not_u (sym e ∙ f)
+
+pub is_done : (a : Answer) → status_of a ≡ statuses.Done → a ≡ answers.Done
+is_done answers.Done e = refl
+is_done answers.MeshRefused e = absurd cc
+is_done answers.BadWords e = absurd cc
+is_done (answers.BadVolume f) e = absurd (neither (volume_status f) statuses.BadVolume statuses.Memory statuses.Done (volume_two f) e (λ x. absurd cc) (λ x. absurd cc))
+is_done answers.InputFault e = absurd cc
+is_done answers.InputTooLong e = absurd cc
+is_done answers.OutputFault e = absurd cc
+is_done answers.Memory e = absurd cc
+is_done answers.ShelfFault e = absurd cc
+is_done (answers.BadMesh f) e = absurd (neither (mesh_status f) statuses.BadMesh statuses.Memory statuses.Done (mesh_two f) e (λ x. absurd cc) (λ x. absurd cc))
+
+is_mesh_refused : (a : Answer) → status_of a ≡ statuses.MeshRefused → a ≡ answers.MeshRefused
+is_mesh_refused answers.Done e = absurd cc
+is_mesh_refused answers.MeshRefused e = refl
+is_mesh_refused answers.BadWords e = absurd cc
+is_mesh_refused (answers.BadVolume f) e = absurd (neither (volume_status f) statuses.BadVolume statuses.Memory statuses.MeshRefused (volume_two f) e (λ x. absurd cc) (λ x. absurd cc))
+is_mesh_refused answers.InputFault e = absurd cc
+is_mesh_refused answers.InputTooLong e = absurd cc
+is_mesh_refused answers.OutputFault e = absurd cc
+is_mesh_refused answers.Memory e = absurd cc
+is_mesh_refused answers.ShelfFault e = absurd cc
+is_mesh_refused (answers.BadMesh f) e = absurd (neither (mesh_status f) statuses.BadMesh statuses.Memory statuses.MeshRefused (mesh_two f) e (λ x. absurd cc) (λ x. absurd cc))
+
+is_too_long : (a : Answer) → status_of a ≡ statuses.InputTooLong → a ≡ answers.InputTooLong
+is_too_long answers.Done e = absurd cc
+is_too_long answers.MeshRefused e = absurd cc
+is_too_long answers.BadWords e = absurd cc
+is_too_long (answers.BadVolume f) e = absurd (neither (volume_status f) statuses.BadVolume statuses.Memory statuses.InputTooLong (volume_two f) e (λ x. absurd cc) (λ x. absurd cc))
+is_too_long answers.InputFault e = absurd cc
+is_too_long answers.InputTooLong e = refl
+is_too_long answers.OutputFault e = absurd cc
+is_too_long answers.Memory e = absurd cc
+is_too_long answers.ShelfFault e = absurd cc
+is_too_long (answers.BadMesh f) e = absurd (neither (mesh_status f) statuses.BadMesh statuses.Memory statuses.InputTooLong (mesh_two f) e (λ x. absurd cc) (λ x. absurd cc))
+
+is_shelf_fault : (a : Answer) → status_of a ≡ statuses.ShelfFault → a ≡ answers.ShelfFault
+is_shelf_fault answers.Done e = absurd cc
+is_shelf_fault answers.MeshRefused e = absurd cc
+is_shelf_fault answers.BadWords e = absurd cc
+is_shelf_fault (answers.BadVolume f) e = absurd (neither (volume_status f) statuses.BadVolume statuses.Memory statuses.ShelfFault (volume_two f) e (λ x. absurd cc) (λ x. absurd cc))
+is_shelf_fault answers.InputFault e = absurd cc
+is_shelf_fault answers.InputTooLong e = absurd cc
+is_shelf_fault answers.OutputFault e = absurd cc
+is_shelf_fault answers.Memory e = absurd cc
+is_shelf_fault answers.ShelfFault e = refl
+is_shelf_fault (answers.BadMesh f) e = absurd (neither (mesh_status f) statuses.BadMesh statuses.Memory statuses.ShelfFault (mesh_two f) e (λ x. absurd cc) (λ x. absurd cc))
+
+is_bad_volume : (a : Answer) → status_of a ≡ statuses.BadVolume → (f : VolumeFault) × (a ≡ answers.BadVolume f)
+is_bad_volume answers.Done e = absurd cc
+is_bad_volume answers.MeshRefused e = absurd cc
+is_bad_volume answers.BadWords e = absurd cc
+is_bad_volume (answers.BadVolume f) e = (f, refl)
+is_bad_volume answers.InputFault e = absurd cc
+is_bad_volume answers.InputTooLong e = absurd cc
+is_bad_volume answers.OutputFault e = absurd cc
+is_bad_volume answers.Memory e = absurd cc
+is_bad_volume answers.ShelfFault e = absurd cc
+is_bad_volume (answers.BadMesh f) e = absurd (neither (mesh_status f) statuses.BadMesh statuses.Memory statuses.BadVolume (mesh_two f) e (λ x. absurd cc) (λ x. absurd cc))
+
+is_bad_mesh : (a : Answer) → status_of a ≡ statuses.BadMesh → (f : MeshFault) × (a ≡ answers.BadMesh f)
+is_bad_mesh answers.Done e = absurd cc
+is_bad_mesh answers.MeshRefused e = absurd cc
+is_bad_mesh answers.BadWords e = absurd cc
+is_bad_mesh (answers.BadVolume f) e = absurd (neither (volume_status f) statuses.BadVolume statuses.Memory statuses.BadMesh (volume_two f) e (λ x. absurd cc) (λ x. absurd cc))
+is_bad_mesh answers.InputFault e = absurd cc
+is_bad_mesh answers.InputTooLong e = absurd cc
+is_bad_mesh answers.OutputFault e = absurd cc
+is_bad_mesh answers.Memory e = absurd cc
+is_bad_mesh answers.ShelfFault e = absurd cc
+is_bad_mesh (answers.BadMesh f) e = (f, refl)
+
+-- what is asked for, and how it was served
+pub asked_and_served : (o : Option Request) (call : Call) (a : Answer) (P : Request → Call → Type 0) → MatchOption o (Rejects call a) (λ r. Serves r call a)
+    → (Rejects call a → ⊥) → ((r : Request) → Serves r call a → P r call) → Asks o P call
+asked_and_served None call a P h refuse f = absurd (refuse h)
+asked_and_served (Some r) call a P h refuse f = (r, refl, f r h)
+
+-- where the text is refused, so is the volume
+refused_volume : (text : Volume → List ℕ) (r : Result Volume VolumeFault) (fault : VolumeFault) → text_by text r ≡ Err fault → r ≡ Err fault
+refused_volume text (Ok v) fault e = absurd cc
+refused_volume text (Err other) fault e = cc
+
+if_refused : (text : Volume → List ℕ) (r : List ℕ → Result Volume VolumeFault) (fault : VolumeFault) (left : Option (List ℕ)) → IfSome left (λ bytes. text_by text (r bytes) ≡ Err fault) → IfSome left (λ bytes. (f : VolumeFault) × (r bytes ≡ Err f))
+if_refused text r fault left h = if_told _ _ left (λ bytes e. (fault, refused_volume text (r bytes) fault e)) h
+
+as_answer : (r : Request) (call : Call) (a b : Answer) → Serves r call a → a ≡ b → Serves r call b
+as_answer r call a b h e = subst (λ (x : Answer). Serves r call x) e h
+
+-- ---- each status
+
+in_file : (P Q : List ℕ → Type 0) (o : Option Files) (name : List ℕ) → ((bytes : List ℕ) → P bytes → Q bytes) → IfSome o (λ files. (bytes : List ℕ) × (get files name ≡ Some bytes) × (length bytes ≤ volume_limit) × P bytes)
+    → IfSome o (λ files. (bytes : List ℕ) × (get files name ≡ Some bytes) × (length bytes ≤ volume_limit) × Q bytes)
+in_file P Q None name f h = tt
+in_file P Q (Some files) name f h = (h.0, h.1, h.2, f h.0 h.3)
+
+ends_not : (a : Answer) (ending : Ending) → a ≡ answer_of ending → (answers.Done ≡ a → ⊥) → (answers.InputFault ≡ a → ⊥) → (answers.InputTooLong ≡ a → ⊥) → (answers.OutputFault ≡ a → ⊥) → ⊥
+ends_not a endings.Done e p q r s = p (sym e)
+ends_not a endings.InputFault e p q r s = q (sym e)
+ends_not a endings.InputTooLong e p q r s = r (sym e)
+ends_not a endings.OutputFault e p q r s = s (sym e)
+
+served_bad_volume : (r : Request) (call : Call) (f : VolumeFault) → Serves r call (answers.BadVolume f) → HasBadVolume r call
+served_bad_volume (requests.Points level) call f h = if_refused _ _ f call.streams.input.left h.0.1
+served_bad_volume (requests.Extract level pad format) call f h = if_refused _ _ f call.streams.input.left h.0.1
+served_bad_volume (requests.Session level pad name bricks pages) call f (inl h) = in_file _ _ call.store.files name (λ bytes e. (f, e)) h.cause
+served_bad_volume (requests.Session level pad name bricks pages) call f (inr h) = absurd (ends_not (answers.BadVolume f) h.ending h.answer_is (λ e. absurd cc) (λ e. absurd cc) (λ e. absurd cc) (λ e. absurd cc))
+served_bad_volume (requests.Check format) call f h = absurd h.0
+served_bad_volume (requests.Gen seed sizes) call f h = absurd h.0.0
+
+pub why_bad_volume : (r : Request) (call : Call) (a : Answer) → status_of a ≡ statuses.BadVolume → Serves r call a → HasBadVolume r call
+why_bad_volume r call a e h = let w = is_bad_volume a e in served_bad_volume r call w.0 (as_answer r call a (answers.BadVolume w.0) h w.1)
+
+served_bad_mesh : (r : Request) (call : Call) (f : MeshFault) → Serves r call (answers.BadMesh f) → HasBadMesh r call
+served_bad_mesh (requests.Points level) call f h = absurd h.0
+served_bad_mesh (requests.Extract level pad format) call f h = absurd h.0
+served_bad_mesh (requests.Session level pad name bricks pages) call f (inl h) = absurd h.cause
+served_bad_mesh (requests.Session level pad name bricks pages) call f (inr h) = absurd (ends_not (answers.BadMesh f) h.ending h.answer_is (λ e. absurd cc) (λ e. absurd cc) (λ e. absurd cc) (λ e. absurd cc))
+served_bad_mesh (requests.Check format) call f h = if_told _ _ call.streams.input.left (λ bytes e. (f, e)) h.0.1
+served_bad_mesh (requests.Gen seed sizes) call f h = absurd h.0.0
+
+pub why_bad_mesh : (r : Request) (call : Call) (a : Answer) → status_of a ≡ statuses.BadMesh → Serves r call a → HasBadMesh r call
+why_bad_mesh r call a e h = let w = is_bad_mesh a e in served_bad_mesh r call w.0 (as_answer r call a (answers.BadMesh w.0) h w.1)
+
+served_mesh_refused : (r : Request) (call : Call) → Serves r call answers.MeshRefused → HasBrokenMesh r call
+served_mesh_refused (requests.Points level) call h = absurd h.0
+served_mesh_refused (requests.Extract level pad format) call h = absurd h.0
+served_mesh_refused (requests.Session level pad name bricks pages) call (inl h) = absurd h.cause
+served_mesh_refused (requests.Session level pad name bricks pages) call (inr h) = absurd (ends_not answers.MeshRefused h.ending h.answer_is (λ e. absurd cc) (λ e. absurd cc) (λ e. absurd cc) (λ e. absurd cc))
+served_mesh_refused (requests.Check format) call h = if_told _ _ call.streams.input.left (λ bytes v. (h.0.0, h.0.1, v)) h.0.3
+served_mesh_refused (requests.Gen seed sizes) call h = absurd h.0.0
+
+pub why_mesh_refused : (r : Request) (call : Call) (a : Answer) → status_of a ≡ statuses.MeshRefused → Serves r call a → HasBrokenMesh r call
+why_mesh_refused r call a e h = served_mesh_refused r call (as_answer r call a answers.MeshRefused h (is_mesh_refused a e))
+
+long_script : (s : Session) (ending : Ending) (lines : List (List ℕ)) → answers.InputTooLong ≡ answer_of ending → EndsAfter s ending lines → IfSome s.input.left (λ script. script_limit < length script)
+long_script s endings.Done lines e h = absurd cc
+long_script s endings.InputFault lines e h = absurd cc
+long_script s endings.InputTooLong lines e h = if_told _ _ s.input.left (λ script p. p.long) h.2
+long_script s endings.OutputFault lines e h = absurd cc
+
+-- what has too many bytes, by whether a bench is left
+abbrev too_many : Call → List ℕ → Option Workbench → Type 0
+too_many call name left = MatchOption left
+    (IfSome call.store.files (λ files. volume_limit < length (content files name)))
+    (λ _. IfSome call.streams.input.left (λ script. script_limit < length script))
+
+served_too_long : (r : Request) (call : Call) → Serves r call answers.InputTooLong → HasTooMany r call
+served_too_long (requests.Points level) call h = h.0.0
+served_too_long (requests.Extract level pad format) call h = h.0.0
+served_too_long (requests.Session level pad name bricks pages) call (inl h) = subst (too_many call name) (sym h.nothing_left) h.cause
+served_too_long (requests.Session level pad name bricks pages) call (inr h) = subst (too_many call name) (sym h.left_is) (long_script _ h.ending h.lines h.answer_is h.ends)
+served_too_long (requests.Check format) call h = h.0.0
+served_too_long (requests.Gen seed sizes) call h = absurd h.0.0
+
+pub why_too_long : (r : Request) (call : Call) (a : Answer) → status_of a ≡ statuses.InputTooLong → Serves r call a → HasTooMany r call
+why_too_long r call a e h = served_too_long r call (as_answer r call a answers.InputTooLong h (is_too_long a e))
+
+served_shelf_fault : (r : Request) (call : Call) → Serves r call answers.ShelfFault → HasNoFile r call
+served_shelf_fault (requests.Points level) call h = absurd h.0
+served_shelf_fault (requests.Extract level pad format) call h = absurd h.0
+served_shelf_fault (requests.Session level pad name bricks pages) call (inl h) = h.cause
+served_shelf_fault (requests.Session level pad name bricks pages) call (inr h) = absurd (ends_not answers.ShelfFault h.ending h.answer_is (λ e. absurd cc) (λ e. absurd cc) (λ e. absurd cc) (λ e. absurd cc))
+served_shelf_fault (requests.Check format) call h = absurd h.0
+served_shelf_fault (requests.Gen seed sizes) call h = absurd h.0.0
+
+pub why_shelf_fault : (r : Request) (call : Call) (a : Answer) → status_of a ≡ statuses.ShelfFault → Serves r call a → HasNoFile r call
+why_shelf_fault r call a e h = served_shelf_fault r call (as_answer r call a answers.ShelfFault h (is_shelf_fault a e))
+
+-- what is refused as bad words has another status
+pub not_rejected : (call : Call) (a : Answer) (s : Status) → status_of a ≡ s → (statuses.BadWords ≡ s → ⊥) → Rejects call a → ⊥
+not_rejected call a s e other h = other (sym (ap status_of h.answer_is) ∙ e)
+
+-- the headline, for an extraction
+shown : (r : Request) (call : Call) (a : Answer) (level : ℤ) (pad : Option ℤ) (format : MeshFormat) → r ≡ requests.Extract level pad format → a ≡ answers.Done → Serves r call a → HoldsWatertight level pad call.streams.input
+shown r call a level pad format e d h = (subst (λ (q : Request). Serves q call a) e h).2 d
+
+pub same_request : (a b : Request) → Some a ≡ Some b → a ≡ b
+same_request a b e = cc
+
+pub headline : (o : Option Request) (call : Call) (a : Answer) (level : ℤ) (pad : Option ℤ) (format : MeshFormat) → MatchOption o (Rejects call a) (λ r. Serves r call a)
+    → o ≡ Some (requests.Extract level pad format) → status_of a ≡ statuses.Done → HoldsWatertight level pad call.streams.input
+headline None call a level pad format h asked done = absurd cc
+headline (Some r) call a level pad format h asked done = shown r call a level pad format (same_request r (requests.Extract level pad format) asked) (is_done a done) h

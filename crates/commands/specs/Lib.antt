@@ -1,0 +1,11 @@
+pub mod Volumes
+pub mod Meaning
+pub mod Outcome
+pub mod Sessions
+pub mod Checks
+pub mod Generating
+pub mod Headline
+pub mod Causes
+pub mod Serving
+pub mod SessionMeshes
+pub mod Economy

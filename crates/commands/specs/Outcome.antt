@@ -1,0 +1,81 @@
+-- What a call of the program does to the outside, and by which answer it ends.
+use Rattle.std.specs.Prelude.{◌≡◌, ℕ, ◌<◌, ◌≤◌, List, length, Option, None, Result, Ok, Err, IfSome}
+use Rattle.std.specs.Io.KnownBytes.{Appends, IsAtEnd}
+use Rattle.iso_io.specs.Causes.{Rose}
+use Rattle.iso_io.specs.Seen.{Feed, Tape, AppendsFront}
+use Rattle.iso_io.specs.Shelves.{Store}
+use Rattle.bench_core.specs.Keeping.{Workbench}
+use Rattle.commands.specs.Volumes.{volume_limit}
+use Rattle.endings.specs.declared.answer.VolumeFault.{VolumeFault}
+use Rattle.endings.specs.declared.answer.Answer.{Answer}
+use Rattle.endings.specs.declared.answer.Answer.TheVariants as answers
+
+-- what the input and the output are seen as before a call and after it
+pub record Streams : Type 0 where
+  pub input : Feed
+  pub input_after : Feed
+  pub output : Tape
+  pub output_after : Tape
+
+-- and the shelf, the bench that is left, and the counter of classified cells
+pub record Call : Type 0 where
+  pub streams : Streams
+  pub store : Store
+  pub store_after : Store
+  pub left : Option Workbench
+  pub steps : ℕ
+  pub steps_after : ℕ
+
+-- a call, by what it was given and what it leaves
+abbrev pub call_between : Feed → Feed → Tape → Tape → Store → Store → Option Workbench → ℕ → ℕ → Call
+call_between input input_after output output_after store store_after left steps steps_after = record {
+  streams = record { input = input; input_after = input_after; output = output; output_after = output_after };
+  store = store;
+  store_after = store_after;
+  left = left;
+  steps = steps;
+  steps_after = steps_after;
+}
+
+-- the input was read to its end, and has no more than this many bytes
+pub record ReadWhole (limit : ℕ) (call : Streams) : Type 0 where
+  pub ended : IsAtEnd call.input_after.left
+  pub within : IfSome call.input.left (λ bytes. length bytes ≤ limit)
+
+-- the output was not touched
+abbrev pub NothingWritten : Streams → Type 0
+NothingWritten call = call.output_after ≡ call.output
+
+-- a text was appended to the output, and what lies beside it stays
+pub record Writes (call : Streams) (text : List ℕ) : Type 0 where
+  pub gained : Appends call.output.taken call.output_after.taken text
+  pub beside : call.output_after.beside ≡ call.output.beside
+
+-- the output failed, a front of a text was appended to it, and what lies beside it stays
+pub record WritesFront (call : Streams) (text : List ℕ) : Type 0 where
+  pub cause : Rose call.output.faults call.output_after.faults
+  pub gained : AppendsFront call.output.taken call.output_after.taken text
+  pub beside : call.output_after.beside ≡ call.output.beside
+
+-- the shelf was not touched, no bench is left, and no cell was classified
+pub record LeavesShelf (call : Call) : Type 0 where
+  pub same : call.store_after ≡ call.store
+  pub none : call.left ≡ None
+  pub steps : call.steps_after ≡ call.steps
+
+-- A command that reads a volume from its input and then writes. `given` is the text that an input gives, or why it gives none.
+abbrev pub Converts : (List ℕ → Result (List ℕ) VolumeFault) → Streams → Answer → Type 0
+Converts given call answers.Done = (text : List ℕ) × ReadWhole volume_limit call × IfSome call.input.left (λ bytes. given bytes ≡ Ok text) × Writes call text
+Converts given call answers.OutputFault = (text : List ℕ) × ReadWhole volume_limit call × IfSome call.input.left (λ bytes. given bytes ≡ Ok text) × WritesFront call text
+Converts given call answers.InputFault = Rose call.input.faults call.input_after.faults × NothingWritten call
+Converts given call answers.InputTooLong = IfSome call.input.left (λ bytes. volume_limit < length bytes) × NothingWritten call
+Converts given call (answers.BadVolume fault) = ReadWhole volume_limit call × IfSome call.input.left (λ bytes. given bytes ≡ Err fault) × NothingWritten call
+Converts given call answers.Memory = NothingWritten call
+Converts given call answer = ⊥
+
+-- what is no command line is refused, and nothing is read, written or left
+pub record Rejects (call : Call) (answer : Answer) : Type 0 where
+  pub answer_is : answer ≡ answers.BadWords
+  pub nothing_read : call.streams.input_after ≡ call.streams.input
+  pub nothing_written : call.streams.output_after ≡ call.streams.output
+  pub shelf : LeavesShelf call

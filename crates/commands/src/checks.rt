@@ -1,0 +1,112 @@
+//! The verdict on a mesh text.
+ghost use Rattle.std.specs.Prelude.{◌≡◌, ◌^◌, ◌≤◌, length, Ok, IfOk, IfErr};
+ghost use Rattle.iso_io.specs.Seen.{Puts};
+ghost use Rattle.mesh_read.specs.Answers.{Answers};
+ghost use Rattle.commands.specs.Checks.{answer_to, Checks, HasMesh, HasNoMesh, HasVerdict, IsNoMesh, is_broken, mesh_in};
+ghost use Rattle.endings.specs.Verdicts.{verdict_text};
+
+use endings::{Answer, verdict_line};
+use iso_base::{Memory, TriangleList, Verdict};
+use iso_io::{Failed, ReadFault, Sink, Source, read_all_of, write_all_of};
+use mesh_check::verdict;
+use mesh_read::{MeshFault, read_obj, read_ply};
+use mesh_text::MeshFormat;
+use std::alloc::Global;
+
+/// The most bytes of a mesh text.
+const LIMIT: u64 = 1 << 30;
+
+/// The mesh of a text.
+fn read_mesh(alloc: Global, format: MeshFormat, bytes: &[u8]) -> Result<TriangleList, MeshFault>
+    requires { length bytes.now ≤ 2 ^ 30 }
+    ensures { Answers result (mesh_in format bytes.now) }
+{
+    match format {
+        MeshFormat::Ply => read_ply(alloc, bytes),
+        MeshFormat::Obj => read_obj(alloc, bytes),
+    }
+}
+
+/// The mesh of a text, which is let go; or why there is none.
+fn mesh_of_text(alloc: Global, format: MeshFormat, bytes: Vec<u8>) -> Result<TriangleList, Answer>
+    requires { length bytes.items ≤ 2 ^ 30 }
+    ensures mesh { IfOk result (λ m. (mesh_in format bytes.items ≡ Ok m) × (length m.triangles ≤ 2 ^ 30)) }
+    ensures fault { IfErr result (IsNoMesh format bytes.items) }
+{
+    match read_mesh(alloc, format, &bytes) {
+        Ok(mesh) => Ok(mesh),
+        Err(MeshFault::Memory) => Err(Answer::Memory),
+        Err(fault) => Err(Answer::BadMesh(fault)),
+    }
+}
+
+/// The verdict on a mesh text, or why there is none.
+fn verdict_of_text(alloc: Global, format: MeshFormat, bytes: Vec<u8>) -> Result<Verdict, Answer>
+    requires { length bytes.items ≤ 2 ^ 30 }
+    ensures verdict { IfOk result (λ v. HasVerdict format v bytes.items) }
+    ensures fault { IfErr result (IsNoMesh format bytes.items) }
+{
+    let mesh = match mesh_of_text(alloc, format, bytes) {
+        Ok(mesh) => mesh,
+        Err(answer) => return Err(answer),
+    };
+    match verdict(alloc, &mesh) {
+        Ok(verdict) => Ok(verdict),
+        Err(Memory) => Err(Answer::Memory),
+    }
+}
+
+/// The verdict on the mesh text of the whole input.
+fn verdict_of_input<S: Source>(
+    alloc: Global,
+    format: MeshFormat,
+    input: &mut S,
+) -> Result<Verdict, Answer>
+    ensures verdict { IfOk result (λ v. HasMesh format (S.seen input.old) (S.seen input.new) v) }
+    ensures fault { IfErr result (λ answer. HasNoMesh format (S.seen input.old) (S.seen input.new) answer) }
+{
+    let bytes = match read_all_of(alloc, input, LIMIT) {
+        Ok(bytes) => bytes,
+        Err(ReadFault::Failed) => return Err(Answer::InputFault),
+        Err(ReadFault::TooLong) => return Err(Answer::InputTooLong),
+        Err(ReadFault::Memory) => return Err(Answer::Memory),
+    };
+    verdict_of_text(alloc, format, bytes)
+}
+
+/// What a verdict is answered.
+fn answer(verdict: Verdict) -> Answer
+    ensures { result ≡ answer_to (is_broken verdict) }
+{
+    match verdict {
+        Verdict::Closed | Verdict::Border { .. } => Answer::Done,
+        Verdict::RepeatedCorner { .. } | Verdict::EdgeTwice { .. } | Verdict::SplitVertex { .. } =>
+            Answer::MeshRefused,
+    }
+}
+
+/// Appends the line of a verdict.
+fn put_verdict<K: Sink>(output: &mut K, verdict: Verdict) -> Result<(), Failed>
+    ensures { Puts (K.seen output.old) (K.seen output.new) result (verdict_text verdict) }
+{
+    write_all_of(output, verdict_line(verdict).as_bytes())
+}
+
+/// Says whether the mesh of a text is a surface, closed or with a border, or where it is broken.
+pub fn check<S: Source, K: Sink>(
+    alloc: Global,
+    format: MeshFormat,
+    input: &mut S,
+    output: &mut K,
+) -> Answer
+    ensures { Checks format (record { input = S.seen input.old; input_after = S.seen input.new; output = K.seen output.old; output_after = K.seen output.new }) result }
+{
+    let verdict = match verdict_of_input(alloc, format, input) {
+        Ok(verdict) => verdict,
+        Err(answer) => return answer,
+    };
+    match put_verdict(output, verdict) {
+        Ok(()) => answer(verdict),
+        Err(Failed) => Answer::OutputFault,
+    }
+}

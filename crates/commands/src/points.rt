@@ -1,0 +1,79 @@
+//! The points at which a surface crosses the lattice edges of a volume.
+
+ghost use Rattle.std.specs.Prelude.{◌≡◌, ◌++◌, [], ℤ, None, IfOk, IfErr, length};
+ghost use Rattle.iso_base.specs.Volume.{Voxels};
+ghost use Rattle.iso_io.specs.Seen.{Puts};
+ghost use Rattle.mesh_text.specs.Lines.{points_head};
+ghost use Rattle.mesh_write.specs.Edges.{placed_lines};
+ghost use Rattle.file_points.specs.Edges.{AreEdgesOf, AreEdgesOfFile};
+ghost use Rattle.commands.specs.Meaning.{points_given};
+ghost use Rattle.commands.specs.Outcome.{Converts};
+ghost use Rattle.commands.specs.Volumes.{HoldsEdges, HoldsNone, IsNoVolume};
+
+use crate::volumes::{bytes_of_input, refusal};
+use endings::Answer;
+use file_points::{FileEdges, edges_of_file};
+use iso_base::Level;
+use iso_io::{Failed, Sink, Source};
+use mesh_write::{STAGE, put_points};
+use std::alloc::Global;
+
+/// The crossing edges of the volume of the bytes of a file, which are let go.
+fn edges_in(alloc: Global, bytes: Vec<u8>, level: Level) -> Result<FileEdges, Answer>
+    ensures edges { IfOk result (λ e. AreEdgesOfFile bytes.items level e.sizes e.edges.names.items e.edges.places.items) }
+    ensures fault { IfErr result (IsNoVolume None level bytes.items) }
+{
+    match edges_of_file(alloc, &bytes, level) {
+        Ok(edges) => Ok(edges),
+        Err(fault) => Err(refusal(fault)),
+    }
+}
+
+/// The crossing edges of the volume of the whole input.
+fn edges_of_input<S: Source>(
+    alloc: Global,
+    input: &mut S,
+    level: Level,
+) -> Result<FileEdges, Answer>
+    ensures known { IfOk result (λ e. (v : Voxels) × AreEdgesOf v level e.sizes e.edges.names.items e.edges.places.items) }
+    ensures edges { IfOk result (λ e. HoldsEdges level (S.seen input.old) (S.seen input.new) e.sizes e.edges.names.items e.edges.places.items) }
+    ensures fault { IfErr result (λ answer. HoldsNone None level (S.seen input.old) (S.seen input.new) answer) }
+{
+    match bytes_of_input(alloc, input) {
+        Ok(bytes) => edges_in(alloc, bytes, level),
+        Err(answer) => Err(answer),
+    }
+}
+
+/// Appends the text of the points of a volume.
+fn put_text<K: Sink>(sink: &mut K, waiting: &mut Vec<u8>, points: &FileEdges) -> Result<(), Failed>
+    requires none { waiting.old.items ≡ [] }
+    requires known { (level : ℤ) × (v : Voxels) × AreEdgesOf v level points.now.sizes points.now.edges.names.items points.now.edges.places.items }
+    ensures { Puts (K.seen sink.old) (K.seen sink.new) result
+        (points_head (length points.now.edges.names.items) ++ placed_lines points.now.sizes points.now.edges.names.items points.now.edges.places.items) }
+{
+    put_points(sink, waiting, &points.sizes, &points.edges)
+}
+
+/// Writes the points at which the surface of a volume crosses lattice edges. The samples are not copied out of the bytes
+/// of the file, which are let go before the points are written.
+pub fn points<S: Source, K: Sink>(
+    alloc: Global,
+    level: Level,
+    input: &mut S,
+    output: &mut K,
+) -> Answer
+    ensures { Converts (points_given level) (record { input = S.seen input.old; input_after = S.seen input.new; output = K.seen output.old; output_after = K.seen output.new }) result }
+{
+    let edges = match edges_of_input(alloc, input, level) {
+        Ok(edges) => edges,
+        Err(answer) => return answer,
+    };
+    let Ok(mut waiting) = Vec::with_capacity(alloc, STAGE) else {
+        return Answer::Memory;
+    };
+    match put_text(output, &mut waiting, &edges) {
+        Ok(()) => Answer::Done,
+        Err(Failed) => Answer::OutputFault,
+    }
+}

@@ -1,0 +1,62 @@
+-- What becomes of the kept mesh at each line, and how many cells are classified.
+use Rattle.std.specs.Prelude.{◌≡◌, ℕ, Bool, if◌then◌else◌, List, [], ◌∷◌, ◌++◌, take, bytes_eq, codes, Option, Some, None, Ok, Err}
+use Rattle.iso_defs.specs.Texts.{line}
+use Rattle.iso_io.specs.Files.{Files}
+use Rattle.voxel_list.specs.Areas.{Area}
+use Rattle.mesh_cache.specs.Cache.{Cache}
+use Rattle.bench_core.specs.Keeping.{Refreshes, Workbench, fill_area, first_area, set_area, turn_steps, waiting_bricks, without_points, write_steps}
+use Rattle.bench_core.specs.Machine.{State}
+use Rattle.script.specs.Commands.{read_of}
+use Rattle.script.specs.declared.command.Command.{Command}
+use Rattle.script.specs.declared.command.Command.TheVariants.{Set, Fill, Undo, Redo, Work, Ply, Obj}
+use Rattle.session.specs.Following.{LineTurn}
+use Rattle.session.specs.Lines.{Saying}
+use Rattle.session.specs.Table.{at_place}
+
+-- what lines act on: a bench, the files of a shelf, and the counter of classified cells
+pub record Scene : Type 0 where
+  pub bench : Workbench
+  pub files : Option Files
+  pub steps : ℕ
+
+-- the points that a command changes, where it is done
+abbrev pub area_of : State → Command → Option Area
+area_of s (Set at value) = set_area s (at_place at 0 1 2)
+area_of s (Fill corners value) = fill_area s (at_place corners 0 1 2) (at_place corners 3 4 5)
+area_of s Undo = first_area s.past
+area_of s Redo = first_area s.future
+area_of s _ = None
+
+-- whether a change was done, by its reply
+abbrev pub is_done : List ℕ → Bool
+is_done reply = bytes_eq reply (line (codes "ok"))
+
+-- the cache after a command that offers no brick
+abbrev pub cache_after : Workbench → Command → List ℕ → Cache
+cache_after b command reply = if is_done reply then without_points b.state.volume.grid (area_of b.state command) b.cache else b.cache
+
+-- A command and its reply. A refresh turn and the writing of a mesh offer bricks, whatever the reply, and they alone
+-- classify cells.
+abbrev pub CommandKeeps : Scene → Command → List ℕ → Scene → Type 0
+CommandKeeps w (Work n) reply v = Refreshes w.bench v.bench (take n (waiting_bricks w.bench)) turn_steps w.steps v.steps
+CommandKeeps w (Ply name) reply v = Refreshes w.bench v.bench (waiting_bricks w.bench) write_steps w.steps v.steps
+CommandKeeps w (Obj name) reply v = Refreshes w.bench v.bench (waiting_bricks w.bench) write_steps w.steps v.steps
+CommandKeeps w command reply v = (v.bench.cache ≡ cache_after w.bench command reply) × (v.steps ≡ w.steps)
+
+-- What a line says and its replies. Cache and counter stay where it is no command.
+abbrev pub LineKeeps : Scene → Saying → List (List ℕ) → Scene → Type 0
+LineKeeps w (Ok None) replies v = (v.bench.cache ≡ w.bench.cache) × (v.steps ≡ w.steps)
+LineKeeps w (Ok (Some command)) replies v = (reply : List ℕ) × (replies ≡ reply ∷ []) × CommandKeeps w command reply v
+LineKeeps w (Err fault) replies v = (v.bench.cache ≡ w.bench.cache) × (v.steps ≡ w.steps)
+
+-- one line: the machine's turn, and what it does to the cache and the counter
+pub record KeptLine (w : Scene) (says : Saying) (replies : List (List ℕ)) (v : Scene) : Type 0 where
+  pub turn : LineTurn w.bench.state w.files says replies v.bench.state v.files
+  pub keeps : LineKeeps w says replies v
+
+-- From a scene these lines with these replies lead to that one. So they are followed on the states and files.
+abbrev pub Kept : Scene → List (List ℕ) → List (List ℕ) → Scene → Type 0
+Kept w [] replies v = (replies ≡ []) × (v ≡ w)
+Kept w (line ∷ lines) replies v =
+    (first : List (List ℕ)) × (more : List (List ℕ)) × (mid : Scene)
+    × (replies ≡ first ++ more) × KeptLine w (read_of line) first mid × Kept mid lines more v
