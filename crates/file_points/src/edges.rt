@@ -32,11 +32,6 @@ pub fn edges_of_file(alloc: Global, bytes: &[u8], level: Level) -> Result<FileEd
     ensures edges { IfOk result (λ e. AreEdgesOfFile bytes.now level e.sizes e.edges.names.items e.edges.places.items) }
     ensures fault { IfErr result (λ fault. Fails fault (nrrd_of bytes.now)) }
 {
-    match read_raw_volume(bytes) {
-        Ok((volume, _)) => match edges_of(alloc, &volume, level) {
-            Ok(edges) => Ok(edges),
-            Err(Memory) => Err(NrrdFault::Memory),
-        },
-        Err(fault) => Err(fault),
-    }
+    let (volume, _) = read_raw_volume(bytes)?;
+    Ok(edges_of(alloc, &volume, level)?)
 }

@@ -6,4 +6,3 @@ mod edges;
 mod samples;
 
 pub use edges::{FileEdges, edges_of_file};
-pub use samples::FileSamples;

@@ -1,16 +1,27 @@
 -- What is known of a shelf, and what a call does to it.
-use Rattle.std.specs.Prelude.{◌≡◌, ◌⊎◌, ℕ, List, [], ◌∷◌, ◌++◌, Option, Some, None, Result, MatchResult, unwrap_or}
+use Rattle.std.specs.Prelude.{◌≡◌, ◌⊎◌, ℕ, List, [], ◌∷◌, ◌++◌, Bool, true, false, Option, Some, None, Result, Err, MatchResult, unwrap_or}
 use Rattle.std.specs.Option.{option_map, option_and_then}
 use Rattle.std.specs.FinMap.{get, insert, remove}
 use Rattle.std.specs.Borrow.{GName}
 use Rattle.iso_io.specs.Causes.{HasCause}
 use Rattle.iso_io.specs.Files.{Files}
 use Rattle.iso_io.specs.Seen.{Tape}
+use Rattle.iso_io.specs.declared.shelf.ShelfError.{ShelfError}
+use Rattle.iso_io.specs.declared.shelf.ShelfError.TheVariants.{Failed}
 
 -- a shelf: its files, where they are told, and how often it failed
 pub record Store : Type 0 where
   pub files : Option Files
   pub faults : ℕ
+
+-- a shelf that tells nothing of its files
+abbrev pub untold_store : ℕ → Store
+untold_store faults = record { files = None; faults = faults }
+
+-- whether a file was not read for a fault, and not for its length or want of memory
+abbrev pub is_failed : {T : Type 0} → Result T ShelfError → Bool
+is_failed (Err Failed) = true
+is_failed _ = false
 
 -- the bytes of a file; a name without a file counts as an empty one
 abbrev pub content : Files → List ℕ → List ℕ

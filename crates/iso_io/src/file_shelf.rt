@@ -1,4 +1,6 @@
-ghost use Rattle.std.specs.Prelude.{◌≡◌, None};
+ghost use Rattle.std.specs.Prelude.{◌≡◌, ◌≤◌, length, IfOk};
+ghost use Rattle.iso_io.specs.Causes.{Rose};
+ghost use Rattle.iso_io.specs.Memory.{one_more};
 
 use crate::Failed;
 use crate::shelf::{Shelf, ShelfError};
@@ -7,36 +9,78 @@ use crate::source::{ReadFault, read_all_of};
 use crate::standard::{StdSink, StdSource};
 use std::alloc::Global;
 use std::fs::{File, OpenOptions};
+use std::marker::Model;
 
-/// The files of the system, whose names it resolves from the working directory. It tells nothing of their bytes, and
-/// counts a fault at each error.
+/// The files of the system, whose names it resolves from the working directory. It tells nothing of their bytes, and is
+/// seen as a count, which rises at each call that fails and at no other.
 #[derive(Drop)]
 pub struct FileShelf<'a> {
     rt: &'a HostRuntime,
     faults: u64,
 }
 
+impl<'a> Model for FileShelf<'a> {
+    ghost use Rattle.std.specs.Prelude.{ℕ};
+
+    ghost Value = { ℕ };
+
+    ghost view = { λ s. s.faults };
+}
+
 impl<'a> FileShelf<'a> {
     /// The files that this runtime reaches.
     pub fn new(rt: &'a HostRuntime) -> FileShelf<'a>
-        ensures { result.faults ≡ 0 }
+        ensures { result ≡ 0 }
     {
         FileShelf { rt, faults: 0 }
+    }
+
+    /// A call failed.
+    fn fault(&mut self) -> Failed
+        ensures counted { self.new ≡ one_more self.old }
+        ensures rose { Rose self.old self.new }
+        ensures later { self.old ≤ self.new }
+    {
+        self.faults = self.faults.saturating_add(1);
+        Failed
+    }
+}
+
+/// The bytes of a file of the system.
+fn read_file(rt: &HostRuntime, alloc: Global, name: &str, limit: u64) -> Result<Vec<u8>, ReadFault>
+    ensures { IfOk result (λ v. length v.items ≤ limit) }
+{
+    match File::open(rt, name) {
+        Ok(file) => read_all_of(alloc, &mut StdSource::new(file), limit),
+        Err(_) => Err(ReadFault::Failed),
+    }
+}
+
+/// Puts bytes behind those of a file of the system, which is made where there is none.
+fn append_to(rt: &HostRuntime, name: &str, bytes: &[u8]) -> Result<(), Failed> {
+    match OpenOptions::new().append(true).create(true).open(rt, name) {
+        Ok(file) => write_all_of(&mut StdSink::new(file), bytes),
+        Err(_) => Err(Failed),
     }
 }
 
 impl<'a> Shelf for FileShelf<'a> {
-    ghost seen = { λ s. record { files = None; faults = s.faults } };
+    ghost use Rattle.std.specs.Prelude.{◌≡◌, ◌⊎◌, ◌≤◌, length, IfOk, IfErr, is_err, if◌then◌else◌};
+    ghost use Rattle.iso_io.specs.Memory.{one_more};
+    ghost use Rattle.iso_io.specs.Shelves.{Starts, Grows, is_failed, untold_store};
 
-    fn read(&mut self, alloc: Global, name: &str, limit: u64) -> Result<Vec<u8>, ShelfError> {
-        let read = match File::open(self.rt, name) {
-            Ok(file) => read_all_of(alloc, &mut StdSource::new(file), limit),
-            Err(_) => Err(ReadFault::Failed),
-        };
-        match read {
+    ghost seen = { untold_store };
+
+    fn read(&mut self, alloc: Global, name: &str, limit: u64) -> Result<Vec<u8>, ShelfError>
+        ensures later { self.old ≤ self.new }
+        ensures within { IfOk result (λ v. length v.items ≤ limit) }
+        ensures limit { IfErr result (λ e. e ≡ ShelfError.Failed ⊎ e ≡ ShelfError.TooLong limit ⊎ e ≡ ShelfError.Memory) }
+        ensures faults { self.new ≡ (if is_failed result then one_more self.old else self.old) }
+    {
+        match read_file(self.rt, alloc, name, limit) {
             Ok(bytes) => Ok(bytes),
             Err(ReadFault::Failed) => {
-                self.faults = self.faults.saturating_add(1);
+                self.fault();
                 Err(ShelfError::Failed)
             }
             Err(ReadFault::TooLong) => Err(ShelfError::TooLong { limit }),
@@ -44,28 +88,23 @@ impl<'a> Shelf for FileShelf<'a> {
         }
     }
 
-    fn start(&mut self, name: &str) -> Result<(), Failed> {
-        match File::create(self.rt, name) {
-            Ok(_) => Ok(()),
-            Err(_) => {
-                self.faults = self.faults.saturating_add(1);
-                Err(Failed)
-            }
+    fn start(&mut self, name: &str) -> Result<(), Failed>
+        ensures starts { Starts (untold_store self.old) (untold_store self.new) result name.now }
+        ensures faults { self.new ≡ (if is_err result then one_more self.old else self.old) }
+    {
+        if File::create(self.rt, name).is_err() {
+            return Err(self.fault());
         }
+        Ok(())
     }
 
-    fn append(&mut self, name: &str, bytes: &[u8]) -> Result<(), Failed> {
-        let written = match OpenOptions::new()
-            .append(true)
-            .create(true)
-            .open(self.rt, name)
-        {
-            Ok(file) => write_all_of(&mut StdSink::new(file), bytes),
-            Err(_) => Err(Failed),
-        };
-        if written.is_err() {
-            self.faults = self.faults.saturating_add(1);
+    fn append(&mut self, name: &str, bytes: &[u8]) -> Result<(), Failed>
+        ensures grows { Grows (untold_store self.old) (untold_store self.new) result name.now bytes.now }
+        ensures faults { self.new ≡ (if is_err result then one_more self.old else self.old) }
+    {
+        if append_to(self.rt, name, bytes).is_err() {
+            return Err(self.fault());
         }
-        written
+        Ok(())
     }
 }

@@ -1,5 +1,6 @@
 //! Where bytes come from and go to: sources, sinks and shelves of files, in memory and of the system. Each has a
-//! count of faults that never falls, and a call fails only where that count rises.
+//! count of faults that never falls, and a call fails only where that count rises, or where a shelf that tells its files
+//! is asked to read one that is missing.
 #![tactic(auto)]
 
 mod file_shelf;
@@ -25,10 +26,9 @@ pub use sink::{Sink, write_all_of};
 pub use source::{ReadFault, Source, read_all_of};
 pub use staged::{LINES, gather, stage};
 pub use standard::{StdSink, StdSource};
+use thiserror::Error;
 
 /// A call of the outside failed, and its count of faults rose.
-#[derive(Clone, Copy, Debug, PartialEq, Eq)]
+#[derive(Clone, Copy, Debug, PartialEq, Eq, Error)]
+#[error("failed")]
 pub struct Failed;
-
-#[cfg(test)]
-mod tests;

@@ -54,6 +54,7 @@ impl MemShelf {
         requires room { length bytes.now ≤ self.old.places.room }
         ensures { self.new ≡ stored self.old name.now bytes.now }
     {
+        // There is a place and room, so it is not refused.
         let _ = self.places.put(name, bytes);
     }
 

@@ -5,6 +5,7 @@ ghost use Rattle.iso_io.specs.Seen.{Feed, Reads, ReadsAll, TakesPiece};
 
 use crate::Failed;
 use std::alloc::{AllocError, Global};
+use thiserror::Error;
 
 /// Where bytes come from. It is seen as the bytes still to come, where they are told, and a count of faults.
 pub trait Source {
@@ -19,13 +20,16 @@ pub trait Source {
 }
 
 /// Why not all was read.
-#[derive(Clone, Copy, Debug, PartialEq, Eq)]
+#[derive(Clone, Copy, Debug, PartialEq, Eq, Error)]
 pub enum ReadFault {
     /// A read failed, and the source's count of faults rose.
+    #[error("not read")]
     Failed,
     /// There were more bytes than the limit.
+    #[error("too long")]
     TooLong,
     /// Memory could not be had.
+    #[error("no memory")]
     Memory,
 }
 

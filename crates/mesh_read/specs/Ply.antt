@@ -8,7 +8,7 @@ use Rattle.mesh_read.specs.declared.fault.MeshFault.TheVariants.{NotMesh, Binary
 use Rattle.text_lines.specs.Lines.{texts_of}
 use Rattle.text_lines.specs.Words.{words_of}
 use Rattle.text_lines.specs.Numbers.{digits_value}
-use Rattle.mesh_read.specs.Answers.{◌>>=◌, all_or_first}
+use Rattle.mesh_read.specs.Answers.{◌>>=◌, all_or_first, unless_fault}
 
 -- what a line of the header says
 pub data Heading : Type 0 where
@@ -248,11 +248,6 @@ body_of n before count all lines = do
 -- the mesh of these elements and of the numbered lines behind the header
 abbrev pub mesh_of : List (List ℕ × ℕ) → List (ℕ × List (List ℕ)) → Result Mesh MeshFault
 mesh_of es lines = body_of (count_of is_vertex es) (before_faces es) (count_of is_face es) (total es) lines
-
--- the fault, or else this
-abbrev pub unless_fault : {A : Type 0} → Option MeshFault → Result A MeshFault → Result A MeshFault
-unless_fault None r = r
-unless_fault (Some fault) r = Err fault
 
 -- the mesh of the lines behind the first, by their words and by what these say
 abbrev pub lines_mesh : List (List (List ℕ)) → List Heading → Result Mesh MeshFault

@@ -13,6 +13,3 @@ mod ply;
 pub use fault::MeshFault;
 pub use obj::read_obj;
 pub use ply::read_ply;
-
-#[cfg(test)]
-mod tests;

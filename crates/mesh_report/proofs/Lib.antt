@@ -6,3 +6,4 @@ pub mod WalkLaws
 pub mod GraphLaws
 pub mod NumberLaws
 pub mod SurveyLaws
+pub mod PartLaws

@@ -1,5 +1,8 @@
-ghost use Rattle.std.specs.Prelude.{◌≡◌};
+ghost use Rattle.std.specs.Prelude.{◌≡◌, ◌<◌, ◌≤◌, ◌++◌, ◌∷◌, [], All, OnOk};
+ghost use Rattle.indexmap.specs.IndexMap.{keys, values};
 
+use indexmap::IndexMap;
+use iso_base::Memory;
 use std::marker::Model;
 
 /// The numbers of one component of a mesh, or of the whole of it.
@@ -19,25 +22,37 @@ pub struct Part {
     pub euler: i64,
 }
 
-/// The numbers of a mesh and of each of its components, by their least vertices. Contracts see the whole and the list of the parts.
+/// The numbers of a mesh and of each of its components. Contracts see the whole and the list of the parts.
 #[derive(Debug, Drop)]
 pub struct Report {
     total: Part,
-    parts: Vec<Part>,
+    // By least vertex, in order of first sight: a walk meets a component first at its least vertex.
+    parts: IndexMap<u32, Part>,
 }
 
 impl Model for Report {
+    ghost use Rattle.indexmap.specs.IndexMap.{values};
     ghost use Rattle.mesh_report.specs.Report.{Summary};
 
     ghost Value = { Summary };
 
-    ghost view = { λ r. record { total = r.total; parts = r.parts.items } };
+    ghost view = { λ r. record { total = r.total; parts = values r.parts } };
+}
+
+/// Puts a component behind those that were met before it, whose least vertices are less than its own.
+pub(crate) fn add_part(parts: &mut IndexMap<u32, Part>, part: Part) -> Result<(), Memory>
+    requires { All (λ v. v < part.least) (keys parts.old) }
+    ensures parts { OnOk result (values parts.new ≡ values parts.old ++ part ∷ []) }
+    ensures below { OnOk result (All (λ v. v ≤ part.least) (keys parts.new)) }
+{
+    parts.insert(part.least, part)?;
+    Ok(())
 }
 
 impl Report {
     /// A report of these numbers.
-    pub(crate) fn new(total: Part, parts: Vec<Part>) -> Report
-        ensures { result ≡ record { total = total; parts = parts.items } }
+    pub(crate) fn new(total: Part, parts: IndexMap<u32, Part>) -> Report
+        ensures { result ≡ record { total = total; parts = values parts } }
     {
         Report { total, parts }
     }
@@ -53,6 +68,6 @@ impl Report {
     pub fn parts(&self) -> &[Part]
         ensures { result.now ≡ self.now.parts }
     {
-        &self.parts
+        self.parts.values().as_slice()
     }
 }

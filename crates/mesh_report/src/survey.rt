@@ -8,9 +8,10 @@ ghost use Rattle.mesh_report.specs.Report.{summary_of};
 ghost use Rattle.mesh_report.specs.Survey.{Rises, between};
 
 use crate::meet::Mark;
-use crate::part::{Part, Report};
+use crate::part::{Part, Report, add_part};
 use crate::walk::{Tally, see, walk_on};
 use arc_rings::Rings;
+use indexmap::IndexMap;
 use iso_base::{Memory, TriangleList};
 use std::alloc::Global;
 
@@ -44,14 +45,14 @@ fn survey(alloc: Global, mesh: &TriangleList, rings: &Rings) -> Result<Report, M
     let marks = all_marks.as_mut_slice();
     let mut queue = Vec::with_capacity(alloc, vertices as usize)?;
     let mut arcs = Vec::new(alloc);
-    let mut parts = Vec::new(alloc);
+    let mut parts = IndexMap::new(alloc);
     let mut tally = Tally::new();
     for start in 0..vertices {
         let before = tally;
         see(seen, &mut queue, start)?;
         tally = walk_on(rings, seen, marks, &mut queue, &mut arcs, before)?;
         if before.vertices < tally.vertices {
-            parts.push(part_between(start, before, tally))?;
+            add_part(&mut parts, part_between(start, before, tally))?;
         }
     }
     Ok(Report::new(part_between(0, Tally::new(), tally), parts))
@@ -72,142 +73,5 @@ fn part_between(least: u32, before: Tally, after: Tally) -> Part
         faces,
         border: edges - (after.shared - before.shared),
         euler: i64::from(vertices) - edges as i64 + i64::from(faces),
-    }
-}
-
-#[cfg(test)]
-mod tests {
-    use super::*;
-    use std::process::Abort;
-    use std::test::Fail;
-
-    const TETRAHEDRON: Part = Part {
-        least: 0,
-        vertices: 4,
-        edges: 6,
-        faces: 4,
-        border: 0,
-        euler: 2,
-    };
-
-    #[test]
-    fn one_closed_component(rt: HostRuntime) -> Result<(), Fail> {
-        let list = list(
-            &rt,
-            rt.alloc(),
-            &[[0, 1, 2], [0, 2, 3], [0, 3, 1], [1, 3, 2]],
-        )?;
-        let report = report(rt.alloc(), &list)?;
-        assert_eq!(rt; *report.total(), TETRAHEDRON);
-        assert_eq!(rt; report.parts(), [TETRAHEDRON].as_slice());
-        Ok(())
-    }
-
-    #[test]
-    fn two_triangles_apart(rt: HostRuntime) -> Result<(), Fail> {
-        let report = report(rt.alloc(), &list(&rt, rt.alloc(), &[[8, 5, 2], [7, 1, 4]])?)?;
-        let triangle = Part {
-            least: 1,
-            vertices: 3,
-            edges: 3,
-            faces: 1,
-            border: 3,
-            euler: 1,
-        };
-        assert_eq!(rt;
-            report.parts(),
-            [
-                triangle,
-                Part {
-                    least: 2,
-                    ..triangle
-                }
-            ]
-            .as_slice()
-        );
-        let total = Part {
-            least: 0,
-            vertices: 6,
-            edges: 6,
-            faces: 2,
-            border: 6,
-            euler: 2,
-        };
-        assert_eq!(rt; *report.total(), total);
-        Ok(())
-    }
-
-    #[test]
-    fn a_shared_vertex(rt: HostRuntime) -> Result<(), Fail> {
-        let both = [
-            [0, 1, 2],
-            [0, 2, 3],
-            [0, 3, 1],
-            [1, 3, 2],
-            [3, 4, 5],
-            [3, 5, 6],
-            [3, 6, 4],
-            [4, 6, 5],
-        ];
-        let pair = Part {
-            least: 0,
-            vertices: 7,
-            edges: 12,
-            faces: 8,
-            border: 0,
-            euler: 3,
-        };
-        let report = report(rt.alloc(), &list(&rt, rt.alloc(), &both)?)?;
-        assert_eq!(rt; report.parts(), [pair].as_slice());
-        Ok(())
-    }
-
-    #[test]
-    fn an_edge_of_three_triangles(rt: HostRuntime) -> Result<(), Fail> {
-        let fins = Part {
-            least: 0,
-            vertices: 5,
-            edges: 7,
-            faces: 3,
-            border: 6,
-            euler: 1,
-        };
-        let report = report(
-            rt.alloc(),
-            &list(&rt, rt.alloc(), &[[0, 1, 2], [0, 1, 3], [0, 1, 4]])?,
-        )?;
-        assert_eq!(rt; report.parts(), [fins].as_slice());
-        Ok(())
-    }
-
-    #[test]
-    fn no_triangles(rt: HostRuntime) -> Result<(), Fail> {
-        let report = report(rt.alloc(), &list(&rt, rt.alloc(), &[])?)?;
-        assert!(rt; report.parts().is_empty());
-        let nothing = Part {
-            least: 0,
-            vertices: 0,
-            edges: 0,
-            faces: 0,
-            border: 0,
-            euler: 0,
-        };
-        assert_eq!(rt; *report.total(), nothing);
-        Ok(())
-    }
-
-    /// A list over nine vertices.
-    fn list(rt: &impl Abort, alloc: Global, triangles: &[[u32; 3]]) -> Result<TriangleList, Fail>
-        requires { length triangles.now ≤ 9 }
-        ensures few { IfOk result (λ m. length m.triangles ≤ 9) }
-        ensures different { IfOk result (λ m. All (λ t. HasThreeCorners (triangle_of t)) m.triangles) }
-    {
-        assert!(rt; triangles.iter().all(|t| t[0] < 9 && t[1] < 9 && t[2] < 9));
-        assert!(rt;
-            triangles
-                .iter()
-                .all(|t| t[0] != t[1] && t[1] != t[2] && t[2] != t[0])
-        );
-        Ok(TriangleList::new(9, triangles.to_vec(alloc)?))
     }
 }

@@ -4,7 +4,7 @@
 mod mesh;
 mod points;
 
-pub use mesh::{put_mesh, put_mesh_as, put_obj_mesh};
+pub use mesh::put_mesh_as;
 pub use points::put_points;
 
 /// What waits to be written is no longer than a block and a line.

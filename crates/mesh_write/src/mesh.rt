@@ -4,7 +4,7 @@ ghost use Rattle.std.specs.Prelude.{◌≡◌, ◌*◌, ◌<◌, ◌≤◌, ◌^
 ghost use Rattle.iso_defs.specs.Texts.{printed};
 ghost use Rattle.iso_io.specs.Seen.{Puts, Stages};
 ghost use Rattle.mesh_text.specs.Lines.{along, ply_head};
-ghost use Rattle.mesh_write.specs.Mesh.{vertex_line, face_line, vertex_lines, face_lines, head_of, text_of, ply_of, obj_of, written_of, ply_written, obj_written};
+ghost use Rattle.mesh_write.specs.Mesh.{vertex_line, face_line, vertex_lines, face_lines, head_of, text_of, written_of};
 
 use flat_mesh::Mesh;
 use iso_base::{Thousandth, Written};
@@ -226,32 +226,4 @@ pub fn put_mesh_as<K: Sink>(
         faces: mesh.triangle_count(),
         bytes,
     })
-}
-
-/// Appends the PLY text of a mesh, as `put_mesh_as` does.
-pub fn put_mesh<K: Sink>(
-    sink: &mut K,
-    waiting: &mut Vec<u8>,
-    mesh: &Mesh,
-    padded: bool,
-) -> Result<Written, Failed>
-    requires none { waiting.old.items ≡ [] }
-    ensures text { Puts (K.seen sink.old) (K.seen sink.new) result (ply_of padded mesh.now) }
-    ensures written { IfOk result (λ w. w ≡ ply_written padded mesh.now) }
-{
-    put_mesh_as(sink, waiting, mesh, MeshFormat::Ply, padded)
-}
-
-/// Appends the OBJ text of a mesh, as `put_mesh_as` does. Its faces count vertices from 1.
-pub fn put_obj_mesh<K: Sink>(
-    sink: &mut K,
-    waiting: &mut Vec<u8>,
-    mesh: &Mesh,
-    padded: bool,
-) -> Result<Written, Failed>
-    requires none { waiting.old.items ≡ [] }
-    ensures text { Puts (K.seen sink.old) (K.seen sink.new) result (obj_of padded mesh.now) }
-    ensures written { IfOk result (λ w. w ≡ obj_written padded mesh.now) }
-{
-    put_mesh_as(sink, waiting, mesh, MeshFormat::Obj, padded)
 }

@@ -1,17 +1,21 @@
-use Rattle.std.proofs.Common.{rules, ◌≡◌, ℕ, ◌<◌, false, List, length, ◌∷◌, ◌++◌, [], map, replicate, nat_lt, arith, sym, subst, ap, ◌∙◌}
-use Rattle.std.specs.List.{AllByRecursion}
+use Rattle.std.proofs.Common.{rules, ◌≡◌, ℕ, ◌+◌, ◌<◌, false, List, length, map, replicate, nat_lt, arith, sym, subst, ap, ◌∙◌}
+use Rattle.std.specs.List.{All, AllByRecursion}
+use Rattle.std.specs.Map.{keys_of, values_of}
 use Rattle.std.proofs.lemmas.Bool.{le-ltb}
 use Rattle.std.proofs.lemmas.List.{length-replicate}
+use Rattle.std.proofs.lemmas.List.Elements.{All-nil}
+use Rattle.indexmap.specs.IndexMap.{keys, values}
 use Rattle.iso_defs.specs.Cell.{Triangle}
 use Rattle.iso_defs.specs.Manifold.{HasThreeCorners}
 use Rattle.iso_base.specs.Triangles.{IsBelow, triangles_of}
 use Rattle.arc_rings.proofs.ArcLaws.{all_of, length_is}
+use Rattle.mesh_report.specs.declared.part.Part.{Part}
 use Rattle.mesh_report.specs.Report.{component, components, part_of, total_of}
 use Rattle.mesh_report.specs.Walks.{Grows, is_seen}
 use Rattle.mesh_report.proofs.WalkLaws.{grows_see, walked_grows}
 use Rattle.mesh_report.proofs.SurveyLaws.{Counts, Stepped, survey_step, rings_size, are_rings, rises, total_rises, tally_counts, total_is, components_all, components_below, parts_with, parts_without, nothing_seen, nothing_marked, walk_start}
 use Rattle.mesh_report.proofs.survey.survey.Goals as goal
-use Rattle.mesh_report.proofs.survey.survey.Goals.{then-before-tally+in_ok-push, else-before-tally}
+use Rattle.mesh_report.proofs.survey.survey.Goals.{then-before-tally+in_ok-add_part, else-before-tally}
 
 pub loop-start-init : goal.loop-start-init
 loop-start-init c =
@@ -28,7 +32,8 @@ loop-start-init c =
       walked = walk_start c.args.rings.now c.as_mut_slice-seen.result.now c.in_ok-queue.queue.items c.new-tally.result k none c.in_ok-queue.ensures.items c.new-tally.ensures;
       all = search rules;
       seen = λ v l. none v ∙ sym (le-ltb (component c.args.mesh.now.vertex_count (triangles_of c.args.mesh.now.triangles) v) 0 (omega arith));
-      parts = c.new-parts.ensures.items;
+      named = subst (λ (es : List (ℕ × Part)). All (λ v. v < 0) (keys_of es)) (sym c.new-parts.ensures.empty) (All-nil (λ v. v < 0));
+      parts = ap values_of c.new-parts.ensures.empty;
     }
 
 pub walk_on-requires-clause-rings : goal.walk_on-requires-clause-rings
@@ -85,18 +90,29 @@ loop-start-preserved c =
       walked = c.in_ok-tally.ensures.walked;
       all = c.in_ok-tally.ensures.all;
       seen = h.at;
-      parts = elim c.if-before-tally.branch [
-        | then-before-tally+in_ok-push w ↦ (
-            let e : w.push.new.self.items ≡ c.loop-start.parts.items ++ w.part_between.result ∷ [] = search rules in
-            ap (λ v. v.items) w.parts-is
-            ∙ parts_with n ts d b c.args.rings.now c.requires.rings c.loop-start.start inside c.loop-start.tally c.in_ok-tally.tally c.walk_on.new.seen h w.if-before-tally.true
-            c.loop-start.parts.items w.push.new.self.items w.part_between.result c.loop-start.invariant.parts e w.part_between.ensures)
+      named = elim c.if-before-tally.branch [
+        | then-before-tally+in_ok-add_part w ↦
+            let least : w.part_between.result.least ≡ c.loop-start.start = ap (λ (p : Part). p.least) w.part_between.ensures in
+            subst (λ m. All (λ v. v < c.loop-start.start + 1) (keys m)) (sym w.parts-is) (λ i d l. omega (arith, least, w.in_ok-add_part.ensures.below i d l))
         | else-before-tally w ↦
-            ap (λ v. v.items) w.parts-is
+            subst (λ m. All (λ v. v < c.loop-start.start + 1) (keys m)) (sym w.parts-is) (λ i d l. omega (arith, c.loop-start.invariant.named i d l))
+      ];
+      parts = elim c.if-before-tally.branch [
+        | then-before-tally+in_ok-add_part w ↦
+            ap values w.parts-is
+            ∙ parts_with n ts d b c.args.rings.now c.requires.rings c.loop-start.start inside c.loop-start.tally c.in_ok-tally.tally c.walk_on.new.seen h w.if-before-tally.true
+            (values c.loop-start.parts) (values w.add_part.new.parts) w.part_between.result c.loop-start.invariant.parts w.in_ok-add_part.ensures.parts w.part_between.ensures
+        | else-before-tally w ↦
+            ap values w.parts-is
             ∙ parts_without n ts d b c.args.rings.now c.requires.rings c.loop-start.start inside c.loop-start.tally c.in_ok-tally.tally c.walk_on.new.seen h w.if-before-tally.false
-            c.loop-start.parts.items c.loop-start.invariant.parts
+            (values c.loop-start.parts) c.loop-start.invariant.parts
       ];
     }
+
+pub add_part-requires : goal.add_part-requires
+add_part-requires c =
+    let least : c.part_between.result.least ≡ c.loop-start.start = ap (λ (p : Part). p.least) c.part_between.ensures in
+    λ i d l. omega (arith, least, c.loop-start.invariant.named i d l)
 
 pub part_between-requires-2 : goal.part_between-requires-2
 part_between-requires-2 c =
@@ -122,7 +138,7 @@ returns c =
     = tally_counts n ts d b c.args.rings.now c.requires.rings n c.loop-start.seen c.loop-start.queue.items c.loop-start.tally
     c.loop-start.invariant.walked c.loop-start.invariant.all (λ v l. c.loop-start.invariant.seen v l ∙ ap (λ s. nat_lt (component n ts v) s) last) in
     let t : c.part_between-2.result ≡ total_of n ts = c.part_between-2.ensures ∙ total_is n ts d b c.args.rings.now c.requires.rings c.new.result c.loop-start.tally c.new.ensures x in
-    let p : c.loop-start.parts.items ≡ map (part_of n ts) (components n ts)
+    let p : values c.loop-start.parts ≡ map (part_of n ts) (components n ts)
     = c.loop-start.invariant.parts ∙ ap (map (part_of n ts)) (ap (components_below n ts) last ∙ components_all n ts) in
     c.new-2.ensures
-    ∙ (ap (λ x. record { total = x; parts = c.loop-start.parts.items }) t ∙ ap (λ x. record { total = total_of n ts; parts = x }) p)
+    ∙ (ap (λ x. record { total = x; parts = values c.loop-start.parts }) t ∙ ap (λ x. record { total = total_of n ts; parts = x }) p)

@@ -1,4 +1,5 @@
-use Rattle.std.proofs.Common.{◌≡◌, ℕ, ◌+◌, ◌<◌, List, length, map, nat_lt}
+use Rattle.std.proofs.Common.{◌≡◌, ℕ, ◌+◌, ◌<◌, List, length, map, nat_lt, All}
+use Rattle.indexmap.specs.IndexMap.{keys, values}
 use Rattle.iso_defs.specs.Cell.{Triangle}
 use Rattle.iso_base.specs.Triangles.{triangles_of}
 use Rattle.mesh_report.specs.Meetings.{IsUnmarked}
@@ -16,5 +17,6 @@ invariant-loop-start l =
       walked : IsWalked l.rings l.seen l.queue.items l.tally;
       all : l.tally.walked ≡ length l.queue.items;
       seen : (v : ℕ) → v < n → is_seen l.seen v ≡ nat_lt (component n ts v) l.start;
-      parts : l.parts.items ≡ map (part_of n ts) (components_below n ts l.start);
+      named : All (λ v. v < l.start) (keys l.parts);
+      parts : values l.parts ≡ map (part_of n ts) (components_below n ts l.start);
     }
