@@ -99,35 +99,3 @@ fn summed(split: Option<u32>, loose: u64) -> Verdict
         },
     }
 }
-
-#[cfg(test)]
-mod tests {
-    use super::*;
-    use std::process::Abort;
-    use std::test::Fail;
-
-    #[test]
-    fn each_answer(rt: HostRuntime) -> Result<(), Fail> {
-        let tetrahedron = [[0, 1, 2], [0, 2, 3], [0, 3, 1], [1, 3, 2]];
-        let closed = verdict(rt.alloc(), &list(&rt, rt.alloc(), &tetrahedron)?)?;
-        assert_eq!(rt; closed, Verdict::Closed);
-        let border = verdict(rt.alloc(), &list(&rt, rt.alloc(), &[[0, 1, 2], [2, 1, 3]])?)?;
-        assert_eq!(rt; border, Verdict::Border { edges: 4 });
-        let repeated = verdict(rt.alloc(), &list(&rt, rt.alloc(), &[[0, 1, 2], [1, 2, 2]])?)?;
-        assert_eq!(rt; repeated, Verdict::RepeatedCorner { t: 1 });
-        let twice = verdict(rt.alloc(), &list(&rt, rt.alloc(), &[[4, 1, 2], [1, 2, 3]])?)?;
-        assert_eq!(rt; twice, Verdict::EdgeTwice { a: 1, b: 2 });
-        let split = verdict(rt.alloc(), &list(&rt, rt.alloc(), &[[5, 1, 2], [3, 5, 4]])?)?;
-        assert_eq!(rt; split, Verdict::SplitVertex { v: 5 });
-        Ok(())
-    }
-
-    /// A list over six vertices.
-    fn list(rt: &impl Abort, alloc: Global, triangles: &[[u32; 3]]) -> Result<TriangleList, Fail>
-        requires few { length triangles.now ≤ 9 }
-        ensures { IfOk result (λ m. length m.triangles ≤ 9) }
-    {
-        assert!(rt; triangles.iter().all(|t| t[0] < 6 && t[1] < 6 && t[2] < 6));
-        Ok(TriangleList::new(6, triangles.to_vec(alloc)?))
-    }
-}

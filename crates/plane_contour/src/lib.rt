@@ -4,8 +4,6 @@
 mod line;
 mod lines;
 mod plane;
-#[cfg(test)]
-mod tests;
 mod text;
 mod walk;
 

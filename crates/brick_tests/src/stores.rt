@@ -1,0 +1,23 @@
+//! Stores that several tests start from.
+ghost use Rattle.std.specs.Prelude.{◌≡◌, IfOk, None};
+ghost use Rattle.iso_base.specs.declared.kind.SampleKind.TheVariants.{U8};
+
+use brick_store::BrickStore;
+use iso_base::{Memory, SampleKind, Sizes, VoxelData};
+use std::alloc::Global;
+use voxel_list::VoxelList;
+
+/// Seventeen points along each axis, all 0: two bricks along each.
+pub fn zeros(alloc: Global) -> Result<BrickStore, Memory>
+    ensures grid { IfOk result (λ b. b.grid ≡ record { nx = 17; ny = 17; nz = 17 }) }
+    ensures kind { IfOk result (λ b. b.kind ≡ U8) }
+    ensures pad { IfOk result (λ b. b.pad ≡ None) }
+{
+    let Ok(sizes) = Sizes::new(17, 17, 17) else {
+        return Err(Memory);
+    };
+    let samples = vec![in alloc; 0; 4913]?;
+    let data = VoxelData::new(sizes, SampleKind::U8, samples);
+    let store = BrickStore::of(alloc, VoxelList::of(data))?;
+    Ok(store)
+}

@@ -1,4 +1,0 @@
-use Rattle.case_table.proofs.case.tests.a_tie_on_the_lowest_face.Given as goal
-
-abbrev pub ghosts-classified : goal.ghosts-classified
-ghosts-classified g a = record { name = a.blank.name; parts = a.blank.parts }

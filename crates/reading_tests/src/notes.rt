@@ -1,0 +1,79 @@
+use endings::{Answer, VolumeFault, put_note, verdict_line};
+use iso_base::{SizeFault, Verdict};
+use iso_io::MemSink;
+use mesh_read::MeshFault;
+use nrrd::{EncodingWord, NrrdFault};
+use std::test::Fail;
+
+#[test]
+fn notes_are_written(rt: HostRuntime) -> Result<(), Fail> {
+    let mut notes = MemSink::new(rt.alloc(), 1000, Vec::new(rt.alloc()))
+        .ok()
+        .ok_or("memory")?;
+    for fault in [
+        VolumeFault::LevelNotAbovePad { level: 0, pad: 0 },
+        VolumeFault::LevelNotAbovePad {
+            level: -1_001,
+            pad: -1,
+        },
+        VolumeFault::Pad(SizeFault::AxisTooLong { axis: 0, n: 1027 }),
+        VolumeFault::Nrrd(NrrdFault::UnsupportedEncoding {
+            word: EncodingWord::Gzip,
+        }),
+        VolumeFault::Nrrd(NrrdFault::ShortSamples {
+            needed: 54,
+            present: 53,
+        }),
+        VolumeFault::Nrrd(NrrdFault::Size(SizeFault::TooThin { axis: 0, n: 1 })),
+        VolumeFault::Nrrd(NrrdFault::Detached { line: 5 }),
+        VolumeFault::Nrrd(NrrdFault::NotNrrd),
+        VolumeFault::Nrrd(NrrdFault::Memory),
+    ] {
+        put_note(&mut notes, &Answer::BadVolume(fault));
+    }
+    for answer in [
+        Answer::Done,
+        Answer::MeshRefused,
+        Answer::BadMesh(MeshFault::NotTriangle { line: 14 }),
+        Answer::BadWords,
+    ] {
+        put_note(&mut notes, &answer);
+    }
+    let want =
+        "isobench: volume 17 level not above pad 0 0\nisobench: volume 17 level not above pad -1.001 -1\nisobench: volume 16 pad size axis 0 1027\nisobench: volume 8 unsupported encoding gzip\nisobench: volume 14 short samples 54 53\nisobench: volume 12 size thin 0 1\nisobench: volume 9 detached 5\nisobench: volume 1 not nrrd\nisobench: memory\nisobench: mesh 5 not triangle 14\nisobench: bad words\n";
+    assert_eq!(rt; notes.bytes(), want.as_bytes());
+    Ok(())
+}
+
+#[test]
+fn statuses_have_numbers(rt: HostRuntime) {
+    for (answer, number) in [
+        (Answer::Done, 0),
+        (Answer::MeshRefused, 1),
+        (Answer::BadWords, 2),
+        (Answer::BadVolume(VolumeFault::Nrrd(NrrdFault::NoEndian)), 3),
+        (Answer::BadVolume(VolumeFault::Nrrd(NrrdFault::Memory)), 7),
+        (Answer::ShelfFault, 8),
+        (Answer::BadMesh(MeshFault::NotMesh), 9),
+        (Answer::BadMesh(MeshFault::Memory), 7),
+    ] {
+        assert_eq!(rt; answer.status().number(), number);
+    }
+}
+
+#[test]
+fn verdicts_are_told(rt: HostRuntime) {
+    assert_eq!(rt; verdict_line(Verdict::Closed).as_str(), "closed\n");
+    assert_eq!(rt;
+        verdict_line(Verdict::Border { edges: 3 }).as_str(),
+        "border 3\n"
+    );
+    let repeated = Verdict::RepeatedCorner { t: 0 };
+    assert_eq!(rt; verdict_line(repeated).as_str(), "repeated corner 0\n");
+    let twice = Verdict::EdgeTwice { a: 0, b: 1 };
+    assert_eq!(rt; verdict_line(twice).as_str(), "edge twice 0 1\n");
+    assert_eq!(rt;
+        verdict_line(Verdict::SplitVertex { v: 0 }).as_str(),
+        "split vertex 0\n"
+    );
+}

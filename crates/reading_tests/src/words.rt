@@ -1,0 +1,160 @@
+use command_words::{Request, read_words};
+use mesh_text::MeshFormat;
+use std::alloc::{AllocError, Global};
+use std::test::Fail;
+
+/// The words of a line, one space between two of them.
+fn words_of(alloc: Global, line: &str) -> Result<Vec<String>, AllocError> {
+    let mut words = Vec::new(alloc);
+    for word in line.split(' ') {
+        words.push(String::from_str(alloc, word)?)?;
+    }
+    Ok(words)
+}
+
+fn format_name(format: MeshFormat) -> &'static str {
+    match format {
+        MeshFormat::Ply => "ply",
+        MeshFormat::Obj => "obj",
+    }
+}
+
+/// A request in words of this test, with the level in thousandths.
+fn told(alloc: Global, request: Request) -> Result<String, AllocError> {
+    match request {
+        Request::Points { level } => format!(in alloc; "points {}", level.value()),
+        Request::Extract { level, pad, format } => {
+            format!(in alloc; "extract {} {pad:?} {}", level.value(), format_name(format))
+        }
+        Request::Session {
+            level,
+            pad,
+            name,
+            bricks,
+            pages,
+        } => {
+            format!(in alloc;
+                "session {} {pad:?} {} {bricks} {pages}",
+                level.value(),
+                name.as_str()
+            )
+        }
+        Request::Check { format } => format!(in alloc; "check {}", format_name(format)),
+        Request::Gen { seed, sizes } => {
+            format!(in alloc; "gen {seed} {} {} {}", sizes.nx(), sizes.ny(), sizes.nz())
+        }
+    }
+}
+
+/// What a line asks for.
+fn read(alloc: Global, line: &str) -> Result<String, AllocError> {
+    let words = words_of(alloc, line)?;
+    match read_words(&words) {
+        None => String::from_str(alloc, "none"),
+        Some(request) => told(alloc, request),
+    }
+}
+
+#[test]
+fn command_lines_are_read(rt: HostRuntime) -> Result<(), Fail> {
+    for (line, want) in [
+        ("points --level=-0", "points 0"),
+        ("points --level=000000000000000005", "points 5000"),
+        ("points --level=0.5", "points 500"),
+        ("points --level=-0.05", "points -50"),
+        ("points --level=10.001", "points 10001"),
+        ("points --level=8589934591.999", "points 8589934591999"),
+        ("extract --level=5", "extract 5000 None ply"),
+        (
+            "extract --pad=-2147483648 --format=obj --level=-8589934591.999",
+            "extract -8589934591999 Some(-2147483648) obj",
+        ),
+        (
+            "extract --level=0 --pad=4294967295 --format=ply",
+            "extract 0 Some(4294967295) ply",
+        ),
+        ("session --level=5 a", "session 5000 None a 4096 65536"),
+        (
+            "session --pad=0 a/b-1._Z --level=005.5",
+            "session 5500 Some(0) a/b-1._Z 4096 65536",
+        ),
+        (
+            "session --pages=16 --level=5 --bricks=1 a",
+            "session 5000 None a 1 16",
+        ),
+        (
+            "session a --bricks=000065536 --pages=1048576 --level=5",
+            "session 5000 None a 65536 1048576",
+        ),
+        ("gen 0 2 2 2", "gen 0 2 2 2"),
+        (
+            "gen 999999999999999999 1026 0003 4",
+            "gen 999999999999999999 1026 3 4",
+        ),
+        ("check ply", "check ply"),
+        ("check obj", "check obj"),
+    ] {
+        assert_eq!(rt; read(rt.alloc(), line)?.as_str(), want);
+    }
+    Ok(())
+}
+
+#[test]
+fn other_words_are_refused(rt: HostRuntime) -> Result<(), Fail> {
+    for line in [
+        "",
+        "extract",
+        "points --level 5",
+        "extract --level=5 --level=5",
+        "points --level=5 --pad=0",
+        "session --level=5",
+        "check ply x",
+        "--level=5 points",
+        "points --level=",
+        "points --level=8589934592",
+        "points --level=8589934592.001",
+        "points --level=-8589934592",
+        "points --level=0000000000000000005",
+        "points --level=0000000000000000005.5",
+        "extract --level=0.0005",
+        "points --level=.5",
+        "points --level=5.",
+        "points --level=+1",
+        "points --level=1e3",
+        "points --level=1.5.5",
+        "extract --level=5 --pad=0.5",
+        "points -- --level=5",
+        "points --level=5 -",
+        "points --levels=5",
+        "extract --level=0 --pad=4294967296",
+        "extract --level=0 --pad=-2147483649",
+        "extract --format=PLY --level=5",
+        "session --level=5 -a",
+        "session --level=5 a b",
+        "session --level=5 --bricks=0 a",
+        "session --level=5 --bricks=65537 a",
+        "session --level=5 --bricks=0000000001 a",
+        "session --level=5 --bricks=-1 a",
+        "session --level=5 --bricks=1 --bricks=1 a",
+        "session --level=5 --pages=15 a",
+        "session --level=5 --pages=1048577 a",
+        "session --level=5 --pages= a",
+        "extract --level=5 --bricks=1",
+        "check stl",
+        "check --format=ply",
+        "gen 0 1 2 2",
+        "gen 0 2 2",
+        "gen 0 2 2 2 2",
+        "gen -0 2 2 2",
+        "gen 0 2 1027 2",
+        "gen 0 1026 1026 1026",
+        "gen 0 2 2 -2",
+        "gen 1000000000000000000 2 2 2",
+        "gen --seed=0 2 2 2",
+        "soak 7",
+    ] {
+        assert_eq!(rt; read(rt.alloc(), line)?.as_str(), "none", "{line}");
+    }
+    assert!(rt; read_words(&[]).is_none());
+    Ok(())
+}

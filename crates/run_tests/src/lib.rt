@@ -1,0 +1,13 @@
+//! Tests of sessions and of the program's run, over memory: worked examples, and each call once with ample memory.
+#![tactic(auto)]
+
+#[cfg(test)]
+mod calls;
+#[cfg(test)]
+mod conversions;
+#[cfg(test)]
+mod scripts;
+#[cfg(test)]
+mod sessions;
+#[cfg(test)]
+mod texts;

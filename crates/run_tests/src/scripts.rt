@@ -1,0 +1,286 @@
+//! Sessions of the program.
+
+ghost use Rattle.std.specs.Prelude.{◌≡◌, ◌+◌, ◌≤◌, length, IfOk};
+
+use crate::calls::{Call, End, NO_FILES, check, check_session, outcome_of};
+use crate::texts::*;
+use endings::Status;
+use std::alloc::{AllocError, Global};
+use std::marker::Brand;
+use std::process::Abort;
+use std::sync::ledger::Blank;
+use std::test::Fail;
+
+/// A volume of as many points along each axis, all 0.
+fn zeros(alloc: Global, head: &[u8], count: usize) -> Result<Vec<u8>, AllocError>
+    requires { length head.now + count ≤ 2200000 }
+    ensures { IfOk result (λ v. length v.items ≡ length head.now + count) }
+{
+    let mut volume = Vec::from_slice(alloc, head)?;
+    volume.resize(head.len() + count, 0)?;
+    Ok(volume)
+}
+
+/// A text so many times.
+fn repeated(alloc: Global, text: &[u8], times: usize) -> Result<Vec<u8>, AllocError> {
+    let mut all = Vec::new(alloc);
+    for _ in 0..times {
+        all.extend_from_slice(text)?;
+    }
+    Ok(all)
+}
+
+const SEVENTEEN: &[u8] = b"NRRD0004\ntype: uint8\ndimension: 3\nsizes: 17 17 17\nencoding: raw\n\n";
+
+#[test]
+fn an_edit_and_its_undo(rt: HostRuntime) -> Result<(), Fail> {
+    let alloc = rt.alloc();
+    let volume = zeros(alloc, SEVENTEEN, 4913)?;
+    check_session(
+        &rt,
+        alloc,
+        &volume,
+        b"ply a\nset 8 8 8 10\nply b\nundo\nply c\n",
+        b"ok vertices 0 faces 0 bytes 154\nok\nok vertices 6 faces 8 bytes 326\nok\nok vertices 0 faces 0 bytes 154\n",
+        [Some(NO_MESH), Some(MOVED_MESH), Some(NO_MESH)],
+    )
+}
+
+/// The mesh that a script writes as the file `a`, in a session at level 5.
+fn same_meshes<'a>(
+    rt: &impl Abort,
+    alloc: Global,
+    volume: &'a [u8],
+    script: &'a [u8],
+    other: &'a [u8],
+) -> Result<(), Fail>
+    requires { length volume.now ≤ 2200000 }
+{
+    let mut call = Call {
+        words: &["session", "--level=5", "v"],
+        input: script,
+        piece: 100,
+        volume,
+        reads_failing: &[],
+        writes_failing: &[],
+        shelf_failing: &[],
+    };
+    let one = outcome_of::<Brand>(alloc, Blank::new(1), &call)?;
+    call.input = other;
+    let two = outcome_of::<Brand>(alloc, Blank::new(1), &call)?;
+    assert!(rt; one.shelf.file("a").unwrap_or(b"").len() > 154);
+    assert_eq!(rt; one.shelf.file("a"), two.shelf.file("a"));
+    Ok(())
+}
+
+#[test]
+fn refresh_turns_change_nothing(rt: HostRuntime) -> Result<(), Fail> {
+    let alloc = rt.alloc();
+    let volume = zeros(alloc, SEVENTEEN, 4913)?;
+    same_meshes(
+        &rt,
+        alloc,
+        &volume,
+        b"set 8 8 8 10\nfill 0 0 0 3 3 3 20\nlevel 7\nwork 1\nundo\nply a\n",
+        b"set 8 8 8 10\nfill 0 0 0 3 3 3 20\nlevel 7\nundo\nply a\n",
+    )
+}
+
+const LARGE: &[u8] = b"NRRD0004\ntype: uint8\ndimension: 3\nsizes: 128 128 128\nencoding: raw\n\n";
+
+#[test]
+fn a_box_may_be_too_large(rt: HostRuntime) -> Result<(), Fail> {
+    let alloc = rt.alloc();
+    let volume = zeros(alloc, LARGE, 2_097_152)?;
+    check_session(
+        &rt,
+        alloc,
+        &volume,
+        b"fill 0 0 0 127 127 127 1\nfill 127 127 63 0 0 0 1\nundo\n",
+        b"error 8 fill 2097152\nok\nok\n",
+        NO_FILES,
+    )
+}
+
+#[test]
+fn a_change_is_made_again(rt: HostRuntime) -> Result<(), Fail> {
+    let alloc = rt.alloc();
+    let volume = zeros(alloc, SEVENTEEN, 4913)?;
+    check_session(
+        &rt,
+        alloc,
+        &volume,
+        b"set 8 8 8 10\nundo\nredo\nply a\nundo\nlevel 7\nredo\nset 99 0 0 1\n",
+        b"ok\nok\nok\nok vertices 6 faces 8 bytes 326\nok\nok\nerror 12 nothing to redo\nerror 3 outside\n",
+        [Some(MOVED_MESH), None, None],
+    )
+}
+
+#[test]
+fn at_most_128_changes_are_undone_and_made_again(rt: HostRuntime) -> Result<(), Fail> {
+    let alloc = rt.alloc();
+    let mut script = repeated(alloc, b"set 0 0 0 1\n", 129)?;
+    script.extend_from_slice(&repeated(alloc, b"undo\n", 129)?)?;
+    script.extend_from_slice(&repeated(alloc, b"redo\n", 129)?)?;
+    let mut replies = repeated(alloc, b"ok\n", 257)?;
+    replies.extend_from_slice(b"error 7 nothing to undo\n")?;
+    replies.extend_from_slice(&repeated(alloc, b"ok\n", 128)?)?;
+    replies.extend_from_slice(b"error 12 nothing to redo\n")?;
+    check_session(&rt, alloc, CORNER, &script, &replies, NO_FILES)
+}
+
+/// A session on MIDDLE in which this call of the shelf fails; the first opens the volume, the second makes the file and the
+/// third writes to it.
+fn check_failing<'a>(
+    rt: &impl Abort,
+    alloc: Global,
+    script: &'a [u8],
+    failing: &'a [u64],
+    end: &End<'a>,
+) -> Result<(), Fail> {
+    let call = Call {
+        words: &["session", "--level=5", "v"],
+        input: script,
+        piece: 3,
+        volume: MIDDLE,
+        reads_failing: &[],
+        writes_failing: &[],
+        shelf_failing: failing,
+    };
+    check(rt, alloc, &call, end)
+}
+
+#[test]
+fn the_shelf_fails(rt: HostRuntime) -> Result<(), Fail> {
+    let alloc = rt.alloc();
+    let mut end = End {
+        status: Status::Done,
+        output: b"error 9 shelf\n",
+        notes: b"",
+        files: [Some(b""), None, None],
+    };
+    check_failing(&rt, alloc, b"ply a\n", &[3], &end)?;
+    end.output = b"error 9 shelf\nok vertices 6 faces 8 bytes 326\n";
+    end.files = [Some(MIDDLE_MESH), None, None];
+    check_failing(&rt, alloc, b"ply a\nply a\n", &[3], &end)?;
+    let shut = End {
+        status: Status::ShelfFault,
+        output: b"",
+        notes: b"isobench: shelf fault\n",
+        files: NO_FILES,
+    };
+    check_failing(&rt, alloc, b"ply a\n", &[1], &shut)
+}
+
+#[test]
+fn another_level(rt: HostRuntime) -> Result<(), Fail> {
+    let alloc = rt.alloc();
+    let call = Call {
+        words: &["session", "--level=5", "v"],
+        input: b"level 9\nply a",
+        piece: 100,
+        volume: MIDDLE,
+        reads_failing: &[],
+        writes_failing: &[],
+        shelf_failing: &[],
+    };
+    let outcome = outcome_of::<Brand>(alloc, Blank::new(1), &call)?;
+    let mesh = outcome.shelf.file("a").ok_or("no file")?;
+    let head =
+        b"ply\nformat ascii 1.0\nelement vertex 6\nproperty float x\nproperty float y\nproperty float z\nelement face 8\nproperty list uchar int vertex_indices\nend_header\n";
+    let vertices = b"1.000 1.000 0.900\n1.000 0.900 1.000\n0.900 1.000 1.000\n1.100 1.000 1.000\n";
+    assert_eq!(rt;
+        outcome.output.bytes(),
+        b"ok\nok vertices 6 faces 8 bytes 326\n".as_slice()
+    );
+    let rest = mesh.strip_prefix(head.as_slice()).ok_or("no head")?;
+    assert!(rt; rest.starts_with(vertices.as_slice()));
+    Ok(())
+}
+
+#[test]
+fn lines_and_their_ends(rt: HostRuntime) -> Result<(), Fail> {
+    check_session(
+        &rt,
+        rt.alloc(),
+        MIDDLE,
+        b"# c\r\n\n  undo \nquit\nply a\n",
+        b"error 7 nothing to undo\nok\n",
+        NO_FILES,
+    )
+}
+
+#[test]
+fn reports_and_contours(rt: HostRuntime) -> Result<(), Fail> {
+    let alloc = rt.alloc();
+    check_session(
+        &rt,
+        alloc,
+        MIDDLE,
+        b"report\ncontour 1\nsave c\nobj b\nlevel 9\ncontour 3\n",
+        b"mesh vertices 6 edges 12 faces 8 border 0 euler 2 parts 1\npart 0 vertices 6 edges 12 faces 8 border 0 euler 2\nok\ncycle 4\n1.000 0.500\n0.500 1.000\n1.000 1.500\n1.500 1.000\nok\nok bytes 89\nok vertices 6 faces 8 bytes 184\nok\nerror 11 plane 3\n",
+        [
+            None,
+            Some(
+                b"v 1.000 1.000 0.500\nv 1.000 0.500 1.000\nv 0.500 1.000 1.000\nv 1.500 1.000 1.000\nv 1.000 1.500 1.000\nv 1.000 1.000 1.500\nf 3 1 2\nf 4 2 1\nf 3 5 1\nf 4 1 5\nf 3 2 6\nf 4 6 2\nf 3 6 5\nf 4 5 6\n",
+            ),
+            Some(MIDDLE),
+        ],
+    )?;
+    check_session(
+        &rt,
+        alloc,
+        CORNER,
+        b"contour 0\n",
+        b"path 2\n0.000 0.500\n0.500 0.000\nok\n",
+        NO_FILES,
+    )
+}
+
+#[test]
+fn a_report_in_a_pad(rt: HostRuntime) -> Result<(), Fail> {
+    let alloc = rt.alloc();
+    let call = Call {
+        words: &["session", "v", "--level=5", "--pad=0"],
+        input: b"report\n",
+        piece: 4,
+        volume: SOLID,
+        reads_failing: &[],
+        writes_failing: &[],
+        shelf_failing: &[],
+    };
+    let end = End {
+        status: Status::Done,
+        output: b"mesh vertices 42 edges 120 faces 80 border 0 euler 2 parts 1\npart 0 vertices 42 edges 120 faces 80 border 0 euler 2\nok\n",
+        notes: b"",
+        files: NO_FILES,
+    };
+    check(&rt, alloc, &call, &end)
+}
+
+#[test]
+fn refusals_in_a_pad(rt: HostRuntime) -> Result<(), Fail> {
+    let alloc = rt.alloc();
+    let mut script = Vec::from_slice(
+        alloc,
+        b"set 2 0 0 1\nset 0 0 0 256\nlevel 8589934592\nlevel 0\nundo\ncontour 2\nsett 0 0 0 1\n",
+    )?;
+    script.extend_from_slice(&repeated(alloc, b"x", 4097)?)?;
+    script.extend_from_slice(b"\ncontour 0\nlevel 0.5\nlevel -0.5\n")?;
+    let call = Call {
+        words: &["session", "v", "--pad=0", "--level=5"],
+        input: &script,
+        piece: 1000,
+        volume: CORNER,
+        reads_failing: &[],
+        writes_failing: &[],
+        shelf_failing: &[],
+    };
+    let end = End {
+        status: Status::Done,
+        output: b"error 3 outside\nerror 4 value 0 255\nerror 5 level\nerror 6 pad 0 0\nerror 7 nothing to undo\nerror 11 plane 2\nerror 2 syntax\nerror 10 line 4097\ncycle 4\n0.000 -0.500\n-0.500 0.000\n0.000 0.500\n0.500 0.000\nok\nok\nerror 6 pad -0.500 0\n",
+        notes: b"",
+        files: NO_FILES,
+    };
+    check(&rt, alloc, &call, &end)
+}

@@ -1,0 +1,37 @@
+//! Tests of `crossing_edges`.
+
+use crate::grids::three_a_side;
+use crate::volumes::one_above;
+use crossing_edges::{Numbers, crossing_points, flag_row, position_on, signs_of};
+use iso_base::Level;
+use std::test::Fail;
+
+#[test]
+fn edges_round_one_sample(rt: HostRuntime) -> Result<(), Fail> {
+    let sizes = three_a_side().ok_or("3, 3 and 3 are sizes")?;
+    let level = Level::new(9_000).ok_or("9 is a level")?;
+    let volume = one_above(rt.alloc(), sizes)?;
+    let numbers = Numbers {
+        numbers: volume.samples(),
+    };
+    let edges = crossing_points(rt.alloc(), &volume.sizes(), &numbers, level)?;
+    assert_eq!(rt; edges.names.as_slice(), [14, 31, 36, 39, 40, 41].as_slice());
+    assert_eq!(rt;
+        edges.places.as_slice(),
+        [900, 900, 900, 100, 100, 100].as_slice()
+    );
+    assert_eq!(rt; position_on(&sizes, 14, 900), [1000, 1000, 900]);
+    assert_eq!(rt; position_on(&sizes, 39, 100), [1100, 1000, 1000]);
+    Ok(())
+}
+
+#[test]
+fn signs_and_flags_of_a_row(rt: HostRuntime) -> Result<(), Fail> {
+    let level = Level::new(5_000).ok_or("5 is a level")?;
+    let signs = signs_of(rt.alloc(), &[4, 5, 6], level)?;
+    assert_eq!(rt; signs.as_slice(), [0, 1, 1].as_slice());
+    let mut flags = [0; 2];
+    flag_row(&[0, 1], &[0, 0], &[1, 1], &mut flags);
+    assert_eq!(rt; flags, [5, 2]);
+    Ok(())
+}

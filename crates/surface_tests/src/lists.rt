@@ -1,0 +1,41 @@
+//! Triangles of the examples.
+
+ghost use Rattle.std.specs.Prelude.{◌≤◌, length, All, IfOk};
+ghost use Rattle.iso_defs.specs.Manifold.{HasThreeCorners};
+ghost use Rattle.iso_base.specs.Triangles.{triangle_of};
+
+use iso_base::TriangleList;
+use std::alloc::Global;
+use std::process::Abort;
+use std::test::Fail;
+
+/// The faces of a tetrahedron.
+pub const TETRAHEDRON: [[u32; 3]; 4] = [[0, 1, 2], [0, 2, 3], [0, 3, 1], [1, 3, 2]];
+
+/// At most nine triangles over nine vertices.
+pub fn list_of(rt: &impl Abort, alloc: Global, triangles: &[[u32; 3]]) -> Result<TriangleList, Fail>
+    ensures { IfOk result (λ m. length m.triangles ≤ 9) }
+{
+    assert!(rt; triangles.len() <= 9);
+    assert!(rt; triangles.iter().all(|t| t[0] < 9 && t[1] < 9 && t[2] < 9));
+    Ok(TriangleList::new(9, triangles.to_vec(alloc)?))
+}
+
+/// At most nine triangles over nine vertices, none of which repeats a corner.
+pub fn surface_of(
+    rt: &impl Abort,
+    alloc: Global,
+    triangles: &[[u32; 3]],
+) -> Result<TriangleList, Fail>
+    ensures few { IfOk result (λ m. length m.triangles ≤ 9) }
+    ensures different { IfOk result (λ m. All (λ t. HasThreeCorners (triangle_of t)) m.triangles) }
+{
+    assert!(rt; triangles.len() <= 9);
+    assert!(rt; triangles.iter().all(|t| t[0] < 9 && t[1] < 9 && t[2] < 9));
+    assert!(rt;
+        triangles
+            .iter()
+            .all(|t| t[0] != t[1] && t[1] != t[2] && t[2] != t[0])
+    );
+    Ok(TriangleList::new(9, triangles.to_vec(alloc)?))
+}

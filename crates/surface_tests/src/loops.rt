@@ -1,0 +1,67 @@
+//! Tests of `cell_loops`.
+
+use case_table::{CaseRow, row_of};
+use cell_loops::{CellLoops, centre_count, loop_count, loops_of, triangle_count};
+use std::test::Fail;
+
+fn counts(row: CaseRow) -> [u8; 3] {
+    [
+        loops_of(row).count(),
+        triangle_count(row),
+        centre_count(row),
+    ]
+}
+
+fn listed(loops: &CellLoops, i: u8) -> &[u8] {
+    if i < loops.count() {
+        loops.edges(i)
+    } else {
+        &[]
+    }
+}
+
+#[test]
+fn loops_of_some_cases(rt: HostRuntime) -> Result<(), Fail> {
+    assert_eq!(rt; listed(&loops_of(row_of(1, 0)), 0), [0, 4, 8].as_slice());
+    assert_eq!(rt; listed(&loops_of(row_of(9, 0)), 1), [1, 5, 11].as_slice());
+    assert_eq!(rt;
+        listed(&loops_of(row_of(9, 16)), 0),
+        [0, 5, 11, 1, 4, 8].as_slice()
+    );
+    assert_eq!(rt;
+        listed(&loops_of(row_of(15, 0)), 0),
+        [8, 9, 11, 10].as_slice()
+    );
+    let full = loops_of(row_of(105, 63));
+    assert_eq!(rt; listed(&full, 0), [0, 5, 9].as_slice());
+    assert_eq!(rt; listed(&full, 1), [1, 4, 10].as_slice());
+    assert_eq!(rt; listed(&full, 2), [2, 6, 8].as_slice());
+    assert_eq!(rt; listed(&full, 3), [3, 7, 11].as_slice());
+    Ok(())
+}
+
+#[test]
+fn counts_of_some_cases(rt: HostRuntime) -> Result<(), Fail> {
+    assert_eq!(rt; counts(row_of(1, 0)), [1, 1, 0]);
+    assert_eq!(rt; counts(row_of(9, 0)), [2, 2, 0]);
+    assert_eq!(rt; counts(row_of(9, 16)), [1, 6, 1]);
+    assert_eq!(rt; counts(row_of(15, 0)), [1, 4, 1]);
+    assert_eq!(rt; counts(row_of(105, 63)), [4, 4, 0]);
+    assert_eq!(rt; counts(row_of(255, 0)), [0, 0, 0]);
+    Ok(())
+}
+
+#[test]
+fn totals(rt: HostRuntime) -> Result<(), Fail> {
+    let mut loops = 0u32;
+    let mut triangles = 0u32;
+    let mut centres = 0u32;
+    for number in 0..656u16 {
+        let row = CaseRow::of(number);
+        loops += u32::from(loop_count(row));
+        triangles += u32::from(triangle_count(row));
+        centres += u32::from(centre_count(row));
+    }
+    assert_eq!(rt; (loops, triangles, centres), (1026, 4424, 610));
+    Ok(())
+}
