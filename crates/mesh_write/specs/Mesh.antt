@@ -51,6 +51,12 @@ text_of Obj padded m = obj_of padded m
 abbrev pub written_with : FlatMesh → List ℕ → Written
 written_with m text = record { vertices = length m.vertex_list; faces = length m.triangle_list; bytes = length text }
 
+abbrev pub ply_written : Bool → FlatMesh → Written
+ply_written padded m = written_with m (ply_of padded m)
+
+abbrev pub obj_written : Bool → FlatMesh → Written
+obj_written padded m = written_with m (obj_of padded m)
+
 abbrev pub written_of : MeshFormat → Bool → FlatMesh → Written
 written_of format padded m = written_with m (text_of format padded m)
 
