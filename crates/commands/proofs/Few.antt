@@ -12,7 +12,7 @@ use Rattle.text_lines.specs.Words.{words_of}
 use Rattle.mesh_text.specs.declared.format.MeshFormat.{MeshFormat}
 use Rattle.mesh_text.specs.declared.format.MeshFormat.TheVariants.{Ply, Obj}
 use Rattle.commands.specs.Checks.{mesh_in}
-use Rattle.mesh_read.specs.Answers.{◌>>=◌, all_or_first}
+use Rattle.mesh_read.specs.Answers.{◌>>=◌, all_or_first, unless_fault}
 use Rattle.mesh_read.specs.Obj as objs
 use Rattle.mesh_read.specs.Ply as plys
 use Rattle.mesh_read.specs.declared.fault.MeshFault.{MeshFault}
@@ -99,7 +99,7 @@ few_in_body n before count all lines m e =
     let g : length (map (plys.face_of n) taken) ≡ length taken = length-map taken (plys.face_of n) in
     body_mesh n all lines (all_or_first (map (plys.face_of n) taken)) m (length lines) (λ ts same. let a = all_few (map (plys.face_of n) taken) ts same in omega (arith, d, t, g, a)) e
 
-few_unless : (fault : Option MeshFault) (r : Result Mesh MeshFault) (m : Mesh) → plys.unless_fault fault r ≡ Ok m → r ≡ Ok m
+few_unless : (fault : Option MeshFault) (r : Result Mesh MeshFault) (m : Mesh) → unless_fault fault r ≡ Ok m → r ≡ Ok m
 few_unless None r m e = e
 few_unless (Some fault) r m e = absurd cc
 
