@@ -24,7 +24,7 @@ use iso_io::{Failed, Shelf};
 use kept_mesh::{refresh_bricks, write_mesh};
 use mesh_cache::{Capacity, MeshCache};
 use mesh_report::Report;
-use mesh_text::MeshFormat;
+use mesh_text::TwoWayFormat;
 use plane_contour::Contours;
 use span_tree::SpanTree;
 use std::alloc::Global;
@@ -288,7 +288,7 @@ impl Bench {
         ensures surface { OnOk result (IsWatertight self.old.state.volume self.old.state.level) }
         ensures no_memory { IsErrOf result BenchFault.Memory → ⊥ }
     {
-        self.write_as(shelf, name, MeshFormat::Ply, steps)
+        self.write_as(shelf, name, TwoWayFormat::Ply, steps)
     }
 
     /// Makes the name's file the OBJ text of the mesh; all else is as for `write_ply`.
@@ -303,14 +303,14 @@ impl Bench {
         ensures surface { OnOk result (IsWatertight self.old.state.volume self.old.state.level) }
         ensures no_memory { IsErrOf result BenchFault.Memory → ⊥ }
     {
-        self.write_as(shelf, name, MeshFormat::Obj, steps)
+        self.write_as(shelf, name, TwoWayFormat::Obj, steps)
     }
 
     fn write_as<H: Shelf, L: Ledger>(
         &mut self,
         shelf: &mut H,
         name: &str,
-        format: MeshFormat,
+        format: TwoWayFormat,
         steps: &mut Steps<L>,
     ) -> Result<Written, BenchFault>
         ensures refreshed { Refreshes self.old self.new (waiting_bricks self.old) write_steps steps.old steps.new }
@@ -327,7 +327,7 @@ impl Bench {
         &mut self,
         shelf: &mut H,
         name: &str,
-        format: MeshFormat,
+        format: TwoWayFormat,
         steps: &mut Steps<L>,
     ) -> Result<Written, BenchFault>
         ensures same { self.new ≡ self.old }

@@ -4,7 +4,7 @@ use bench_core::{Bench, BenchFault, Capacity, Part};
 use flat_mesh::extract_flat;
 use iso_base::{Level, Memory, SampleKind, Sizes, Steps, VoxelData, Written};
 use iso_io::{MemShelf, MemSink};
-use mesh_text::MeshFormat;
+use mesh_text::TwoWayFormat;
 use mesh_write::put_mesh_as;
 use nrrd::read_volume;
 use std::alloc::Global;
@@ -212,7 +212,7 @@ fn is_from_scratch(alloc: Global, shelf: &MemShelf, level: Level) -> Option<bool
     let mesh = extract_flat(alloc, &VoxelList::of(volume), level).ok()?;
     let mut sink = MemSink::new(alloc, 65_536, Vec::new(alloc)).ok()?;
     let mut waiting = Vec::with_capacity(alloc, 65_536).ok()?;
-    put_mesh_as(&mut sink, &mut waiting, &mesh, MeshFormat::Ply, false).ok()?;
+    put_mesh_as(&mut sink, &mut waiting, &mesh, TwoWayFormat::Ply, false).ok()?;
     Some(shelf.file("mesh")? == sink.bytes())
 }
 

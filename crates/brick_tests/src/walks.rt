@@ -10,7 +10,7 @@ use edge_points::RowRanks;
 use flat_mesh::extract_flat;
 use iso_base::{Level, Memory, Point, SampleKind, Sizes, Steps, VoxelData, Written};
 use iso_io::{Failed, MemSink};
-use mesh_text::MeshFormat;
+use mesh_text::TwoWayFormat;
 use mesh_write::{STAGE, put_mesh_as};
 use span_tree::SpanTree;
 use std::alloc::Global;
@@ -62,7 +62,7 @@ fn scratch_text(
     alloc: Global,
     volume: &VoxelList,
     level: Level,
-    format: MeshFormat,
+    format: TwoWayFormat,
 ) -> Result<Told, Memory> {
     let mesh = extract_flat(alloc, volume, level)?;
     let mut sink = MemSink::new(alloc, ROOM, Vec::new(alloc))?;
@@ -77,7 +77,7 @@ fn counted_text<L: Ledger>(
     alloc: Global,
     store: &BrickStore,
     level: Level,
-    format: MeshFormat,
+    format: TwoWayFormat,
     blank: Blank,
 ) -> Result<Told, Memory>
     requires named { blank.name ≡ L.name }
@@ -91,10 +91,10 @@ fn counted_text<L: Ledger>(
     let mut sink = MemSink::new(alloc, ROOM, Vec::new(alloc))?;
     let mut rows = FreshRows { store, level };
     let written = match format {
-        MeshFormat::Ply => write_ply(
+        TwoWayFormat::Ply => write_ply(
             store, &tree, level, &mut rows, &mut ranks, &mut sink, &mut steps,
         ),
-        MeshFormat::Obj => write_obj(
+        TwoWayFormat::Obj => write_obj(
             store, &tree, level, &mut rows, &mut ranks, &mut sink, &mut steps,
         ),
     };
@@ -106,7 +106,7 @@ fn walked_text(
     alloc: Global,
     store: &BrickStore,
     level: Level,
-    format: MeshFormat,
+    format: TwoWayFormat,
 ) -> Result<Told, Memory> {
     counted_text::<Brand>(alloc, store, level, format, Blank::new(1))
 }
@@ -121,11 +121,11 @@ fn are_same(a: &Told, b: &Told) -> bool {
 
 /// How many vertices both ways write, where their texts are the same in both formats.
 fn vertices_of(alloc: Global, volume: VoxelList, level: Level) -> Result<Option<u32>, Memory> {
-    let ply = scratch_text(alloc, &volume, level, MeshFormat::Ply)?;
-    let obj = scratch_text(alloc, &volume, level, MeshFormat::Obj)?;
+    let ply = scratch_text(alloc, &volume, level, TwoWayFormat::Ply)?;
+    let obj = scratch_text(alloc, &volume, level, TwoWayFormat::Obj)?;
     let store = BrickStore::of(alloc, volume)?;
-    let walked_ply = walked_text(alloc, &store, level, MeshFormat::Ply)?;
-    let walked_obj = walked_text(alloc, &store, level, MeshFormat::Obj)?;
+    let walked_ply = walked_text(alloc, &store, level, TwoWayFormat::Ply)?;
+    let walked_obj = walked_text(alloc, &store, level, TwoWayFormat::Obj)?;
     if !are_same(&ply, &walked_ply) || !are_same(&obj, &walked_obj) {
         return Ok(None);
     }

@@ -12,8 +12,8 @@ use Rattle.iso_base.specs.Shifted.{level_limit}
 use Rattle.iso_base.specs.Sizing.{sized}
 use Rattle.iso_base.specs.declared.sizes.SizeFault.{SizeFault}
 use Rattle.command_words.specs.Options.{only_options, plain_words, values}
-use Rattle.mesh_text.specs.declared.format.MeshFormat.{MeshFormat}
-use Rattle.mesh_text.specs.declared.format.MeshFormat.TheVariants.{Ply, Obj}
+use Rattle.mesh_text.specs.declared.format.TwoWayFormat.{TwoWayFormat}
+use Rattle.mesh_text.specs.declared.format.TwoWayFormat.TheVariants.{Ply, Obj}
 use Rattle.command_words.specs.declared.request.Request.{Request}
 use Rattle.command_words.specs.declared.request.Request.TheVariants.{Points, Extract, Session, Check, Gen}
 
@@ -34,7 +34,7 @@ abbrev pub pad_value : List ℕ → Option ℤ
 pad_value text = option_and_then as_pad (number_of text)
 
 -- `ply` or `obj`
-abbrev pub format_value : List ℕ → Option MeshFormat
+abbrev pub format_value : List ℕ → Option TwoWayFormat
 format_value text = if bytes_eq text (codes "ply") then Some Ply else if bytes_eq text (codes "obj") then Some Obj else None
 
 -- a count from one number to another
@@ -93,7 +93,7 @@ abbrev pub pad_in : List (List ℕ) → Option (Option ℤ)
 pad_in words = at_most_one None (λ text. option_map Some (pad_value text)) (values pad_option words)
 
 -- without its option the form is PLY
-abbrev pub format_in : List (List ℕ) → Option MeshFormat
+abbrev pub format_in : List (List ℕ) → Option TwoWayFormat
 format_in words = at_most_one Ply format_value (values format_option words)
 
 -- without its option 4,096 bricks keep their mesh

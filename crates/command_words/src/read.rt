@@ -9,7 +9,7 @@ ghost use Rattle.command_words.specs.Words.{points_of, extract_of, session_of, c
 use crate::options::{Found, only_options, plain_word, value_of};
 use crate::request::Request;
 use iso_base::{Level, Sizes};
-use mesh_text::MeshFormat;
+use mesh_text::TwoWayFormat;
 use script::{FileName, count};
 use text_lines::{level_number, number, whole};
 
@@ -44,13 +44,13 @@ fn pad(text: &[u8]) -> Option<i64>
 }
 
 /// The form of meshes that a text names.
-fn format(text: &[u8]) -> Option<MeshFormat>
+fn format(text: &[u8]) -> Option<TwoWayFormat>
     ensures { result ≡ format_value text.now }
 {
     if text == b"ply".as_slice() {
-        Some(MeshFormat::Ply)
+        Some(TwoWayFormat::Ply)
     } else if text == b"obj".as_slice() {
-        Some(MeshFormat::Obj)
+        Some(TwoWayFormat::Obj)
     } else {
         None
     }
@@ -113,11 +113,11 @@ fn pad_in(words: &[String]) -> Option<Option<i64>>
 }
 
 /// The form of the mesh, which may be left out: then it is PLY.
-fn format_in(words: &[String]) -> Option<MeshFormat>
+fn format_in(words: &[String]) -> Option<TwoWayFormat>
     ensures { result ≡ format_in (map string_bytes words.now) }
 {
     match value_of(words, FORMAT) {
-        Found::Nothing => Some(MeshFormat::Ply),
+        Found::Nothing => Some(TwoWayFormat::Ply),
         Found::Once(text) => format(text),
         Found::Again => None,
     }

@@ -1,5 +1,5 @@
 use iso_base::{Level, Sizes};
-use mesh_text::MeshFormat;
+use mesh_text::TwoWayFormat;
 use script::FileName;
 
 /// What the program is asked to do. A level is in thousandths; a pad is a sample that is put round the volume.
@@ -13,7 +13,7 @@ pub enum Request {
     Extract {
         level: Level,
         pad: Option<i64>,
-        format: MeshFormat,
+        format: TwoWayFormat,
     },
     /// The lines of a script, over the volume in the shelf's file of this name. At most so many bricks keep their mesh,
     /// in so many pages.
@@ -26,7 +26,7 @@ pub enum Request {
     },
     /// The verdict on a mesh in this form.
     Check {
-        format: MeshFormat,
+        format: TwoWayFormat,
     },
     /// The volume that a seed generates.
     Gen {

@@ -21,7 +21,7 @@ use Rattle.commands.specs.Sessions.{Asked, RunsSession, StaysShut, answer_of}
 use Rattle.commands.specs.Volumes.{volume_limit, volume_of}
 use Rattle.command_words.specs.declared.request.Request.{Request}
 use Rattle.command_words.specs.declared.request.Request.TheVariants as requests
-use Rattle.mesh_text.specs.declared.format.MeshFormat.{MeshFormat}
+use Rattle.mesh_text.specs.declared.format.TwoWayFormat.{TwoWayFormat}
 use Rattle.endings.specs.declared.answer.VolumeFault.{VolumeFault}
 use Rattle.endings.specs.declared.answer.Answer.{Answer}
 use Rattle.endings.specs.declared.answer.Answer.TheVariants as answers
@@ -53,7 +53,7 @@ converted given s (answers.BadMesh fault) bytes text h told within gives reads w
 abbrev IsCheckedOrMemory : Answer → Type 0
 IsCheckedOrMemory a = (status_of a ≡ statuses.Done) ⊎ (status_of a ≡ statuses.MeshRefused) ⊎ (status_of a ≡ statuses.Memory)
 
-checked : (format : MeshFormat) (s : Streams) (a : Answer) (bytes : List ℕ) (m : Mesh) → Checks format s a → s.input.left ≡ Some bytes → length bytes ≤ mesh_limit → mesh_in format bytes ≡ Ok m
+checked : (format : TwoWayFormat) (s : Streams) (a : Answer) (bytes : List ℕ) (m : Mesh) → Checks format s a → s.input.left ≡ Some bytes → length bytes ≤ mesh_limit → mesh_in format bytes ≡ Ok m
     → (Rose s.input.faults s.input_after.faults → ⊥) → (Rose s.output.faults s.output_after.faults → ⊥) → IsCheckedOrMemory a
 checked format s answers.Done bytes m h told within gives reads writes = inl refl
 checked format s answers.MeshRefused bytes m h told within gives reads writes = inr (inl refl)

@@ -9,8 +9,8 @@ use Rattle.std.proofs.lemmas.Slice.Zip.{length-zip}
 use Rattle.iso_base.specs.Triangles.{Mesh}
 use Rattle.text_lines.specs.Lines.{Line, lines_of, texts_of, joined, begins_feed}
 use Rattle.text_lines.specs.Words.{words_of}
-use Rattle.mesh_text.specs.declared.format.MeshFormat.{MeshFormat}
-use Rattle.mesh_text.specs.declared.format.MeshFormat.TheVariants.{Ply, Obj}
+use Rattle.mesh_text.specs.declared.format.TwoWayFormat.{TwoWayFormat}
+use Rattle.mesh_text.specs.declared.format.TwoWayFormat.TheVariants.{Ply, Obj}
 use Rattle.commands.specs.Checks.{mesh_in}
 use Rattle.mesh_read.specs.Answers.{◌>>=◌, all_or_first, unless_fault}
 use Rattle.mesh_read.specs.Obj as objs
@@ -126,6 +126,6 @@ few_by_texts (first ∷ texts) m e = let h = few_by (plys.is_ply first) texts m 
 pub few_in_ply : (bytes : List ℕ) (m : Mesh) → plys.ply_of bytes ≡ Ok m → length m.triangles ≤ length bytes
 few_in_ply bytes m e = let h = few_by_texts (texts_of bytes) m e in let t = few_texts bytes in omega (arith, h, t)
 
-pub few_in_mesh : (format : MeshFormat) (bytes : List ℕ) (m : Mesh) → mesh_in format bytes ≡ Ok m → length bytes ≤ 1073741824 → length m.triangles ≤ 1073741824
+pub few_in_mesh : (format : TwoWayFormat) (bytes : List ℕ) (m : Mesh) → mesh_in format bytes ≡ Ok m → length bytes ≤ 1073741824 → length m.triangles ≤ 1073741824
 few_in_mesh Ply bytes m e l = let f = few_in_ply bytes m e in omega (arith, f, l)
 few_in_mesh Obj bytes m e l = let f = few_in_obj bytes m e in omega (arith, f, l)

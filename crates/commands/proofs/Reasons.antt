@@ -9,7 +9,7 @@ use Rattle.std.specs.FinMap.{get}
 use Rattle.session.specs.declared.ending.Ending.TheVariants as endings
 use Rattle.session.specs.declared.ending.Ending.{Ending}
 use Rattle.session.specs.Sessions.{EndsAfter, Session, script_limit}
-use Rattle.mesh_text.specs.declared.format.MeshFormat.{MeshFormat}
+use Rattle.mesh_text.specs.declared.format.TwoWayFormat.{TwoWayFormat}
 use Rattle.command_words.specs.declared.request.Request.{Request}
 use Rattle.command_words.specs.declared.request.Request.TheVariants as requests
 use Rattle.endings.specs.Status.{mesh_status, nrrd_status, status_of, volume_status}
@@ -245,13 +245,13 @@ pub not_rejected : (call : Call) (a : Answer) (s : Status) → status_of a ≡ s
 not_rejected call a s e other h = other (sym (ap status_of h.answer_is) ∙ e)
 
 -- the headline, for an extraction
-shown : (r : Request) (call : Call) (a : Answer) (level : ℤ) (pad : Option ℤ) (format : MeshFormat) → r ≡ requests.Extract level pad format → a ≡ answers.Done → Serves r call a → HoldsWatertight level pad call.streams.input
+shown : (r : Request) (call : Call) (a : Answer) (level : ℤ) (pad : Option ℤ) (format : TwoWayFormat) → r ≡ requests.Extract level pad format → a ≡ answers.Done → Serves r call a → HoldsWatertight level pad call.streams.input
 shown r call a level pad format e d h = (subst (λ (q : Request). Serves q call a) e h).2 d
 
 pub same_request : (a b : Request) → Some a ≡ Some b → a ≡ b
 same_request a b e = cc
 
-pub headline : (o : Option Request) (call : Call) (a : Answer) (level : ℤ) (pad : Option ℤ) (format : MeshFormat) → MatchOption o (Rejects call a) (λ r. Serves r call a)
+pub headline : (o : Option Request) (call : Call) (a : Answer) (level : ℤ) (pad : Option ℤ) (format : TwoWayFormat) → MatchOption o (Rejects call a) (λ r. Serves r call a)
     → o ≡ Some (requests.Extract level pad format) → status_of a ≡ statuses.Done → HoldsWatertight level pad call.streams.input
 headline None call a level pad format h asked done = absurd cc
 headline (Some r) call a level pad format h asked done = shown r call a level pad format (same_request r (requests.Extract level pad format) asked) (is_done a done) h

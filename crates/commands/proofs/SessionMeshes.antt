@@ -7,8 +7,8 @@ use Rattle.bench_core.specs.Machine.{IsState, State}
 use Rattle.session.proofs.Running.{kept_followed}
 use Rattle.session.proofs.Surfaces.{followed_mesh}
 use Rattle.bench_core.specs.Surface.{IsWatertight}
-use Rattle.mesh_text.specs.declared.format.MeshFormat.{MeshFormat}
-use Rattle.mesh_text.specs.declared.format.MeshFormat.TheVariants as formats
+use Rattle.mesh_text.specs.declared.format.TwoWayFormat.{TwoWayFormat}
+use Rattle.mesh_text.specs.declared.format.TwoWayFormat.TheVariants as formats
 use Rattle.script.specs.Commands.{read_of}
 use Rattle.session.specs.Following.{Followed, LineTurn}
 use Rattle.session.specs.Worlds.{World, is_shelf_error, scene_of}
@@ -83,7 +83,7 @@ unfolding fault_text
 shelf_told = refl
 
 -- the turn of a line that asks for a mesh
-mesh_turn : (s s' : State) (f f' : Option Files) (format : MeshFormat) (name reply : List ℕ) → IsWatertight s.volume s.level → Turn s f (writes_mesh format name) reply s' f'
+mesh_turn : (s s' : State) (f f' : Option Files) (format : TwoWayFormat) (name reply : List ℕ) → IsWatertight s.volume s.level → Turn s f (writes_mesh format name) reply s' f'
     → (s' ≡ s) × (WroteMesh s f format name reply f' ⊎ (is_shelf_error reply ≡ true))
 mesh_turn s s' f f' formats.Ply name reply mesh (inl h) = (h.0, inl (record { told = h.1; file = h.2; watertight = mesh }))
 mesh_turn s s' f f' formats.Obj name reply mesh (inl h) = (h.0, inl (record { told = h.1; file = h.2; watertight = mesh }))
@@ -91,7 +91,7 @@ mesh_turn s s' f f' formats.Ply name reply mesh (inr (inl h)) = absurd (no_want 
 mesh_turn s s' f f' formats.Obj name reply mesh (inr (inl h)) = absurd (no_want h.may)
 mesh_turn s s' f f' format name reply mesh (inr (inr h)) = (h.same_state, inr (ap is_shelf_error h.reply_is ∙ shelf_told))
 
-one_mesh : (w v : World) (before : List (List ℕ)) (asked : List ℕ) (later replies : List (List ℕ)) (format : MeshFormat) (name : List ℕ)
+one_mesh : (w v : World) (before : List (List ℕ)) (asked : List ℕ) (later replies : List (List ℕ)) (format : TwoWayFormat) (name : List ℕ)
     → IsState w.bench.state → read_of asked ≡ Ok (Some (writes_mesh format name)) → Between w.bench.state v.bench.state w.store.files v.store.files before asked later replies → MeshTurn w v before later replies format name
 one_mesh w v before asked later replies format name sound e b =
     let t = subst (λ (says : Saying). LineTurn b.state b.files says b.answered b.next b.after) e b.turn in

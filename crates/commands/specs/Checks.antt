@@ -13,8 +13,8 @@ use Rattle.mesh_read.specs.declared.fault.MeshFault.{MeshFault}
 use Rattle.mesh_check.specs.Said.{said}
 use Rattle.endings.specs.Verdicts.{verdict_text}
 use Rattle.commands.specs.Outcome.{NothingWritten, ReadWhole, Streams, Writes, WritesFront}
-use Rattle.mesh_text.specs.declared.format.MeshFormat.{MeshFormat}
-use Rattle.mesh_text.specs.declared.format.MeshFormat.TheVariants.{Ply, Obj}
+use Rattle.mesh_text.specs.declared.format.TwoWayFormat.{TwoWayFormat}
+use Rattle.mesh_text.specs.declared.format.TwoWayFormat.TheVariants.{Ply, Obj}
 use Rattle.endings.specs.declared.answer.Answer.{Answer}
 use Rattle.endings.specs.declared.answer.Answer.TheVariants as answers
 
@@ -23,12 +23,12 @@ abbrev pub mesh_limit : ℕ
 mesh_limit = 1073741824
 
 -- the mesh of a text, or the first reason why there is none
-abbrev pub mesh_in : MeshFormat → List ℕ → Result Mesh MeshFault
+abbrev pub mesh_in : TwoWayFormat → List ℕ → Result Mesh MeshFault
 mesh_in Ply bytes = ply_of bytes
 mesh_in Obj bytes = obj_of bytes
 
 -- the text holds a mesh, and this is the verdict on it
-abbrev pub HasVerdict : MeshFormat → Verdict → List ℕ → Type 0
+abbrev pub HasVerdict : TwoWayFormat → Verdict → List ℕ → Type 0
 HasVerdict format v bytes = (m : Mesh) × (mesh_in format bytes ≡ Ok m) × IsVerdict (triangles_of m.triangles) (said v)
 
 -- whether a verdict refuses a mesh
@@ -40,12 +40,12 @@ is_broken (verdicts.EdgeTwice a b) = true
 is_broken (verdicts.SplitVertex v) = true
 
 -- the whole input was read, it has this verdict, and the verdict's line was written
-abbrev pub TellsVerdict : MeshFormat → Bool → Streams → Type 0
+abbrev pub TellsVerdict : TwoWayFormat → Bool → Streams → Type 0
 TellsVerdict format broken call =
     (v : Verdict) × (is_broken v ≡ broken) × ReadWhole mesh_limit call × IfSome call.input.left (HasVerdict format v) × Writes call (verdict_text v)
 
 -- A command that reads a mesh text from its input and says its verdict.
-abbrev pub Checks : MeshFormat → Streams → Answer → Type 0
+abbrev pub Checks : TwoWayFormat → Streams → Answer → Type 0
 Checks format call answers.Done = TellsVerdict format false call
 Checks format call answers.MeshRefused = TellsVerdict format true call
 Checks format call answers.OutputFault =
@@ -62,19 +62,19 @@ answer_to false = answers.Done
 answer_to true = answers.MeshRefused
 
 -- why the text is no mesh; want of memory says nothing
-abbrev pub IsNoMesh : MeshFormat → List ℕ → Answer → Type 0
+abbrev pub IsNoMesh : TwoWayFormat → List ℕ → Answer → Type 0
 IsNoMesh format bytes (answers.BadMesh fault) = mesh_in format bytes ≡ Err fault
 IsNoMesh format bytes answers.Memory = Unit {0}
 IsNoMesh format bytes answer = ⊥
 
 -- the whole input was read, and it has this verdict
-pub record HasMesh (format : MeshFormat) (old new : Feed) (v : Verdict) : Type 0 where
+pub record HasMesh (format : TwoWayFormat) (old new : Feed) (v : Verdict) : Type 0 where
   pub ended : IsAtEnd new.left
   pub within : IfSome old.left (λ bytes. length bytes ≤ mesh_limit)
   pub whole : IfSome old.left (HasVerdict format v)
 
 -- why there is no verdict
-abbrev pub HasNoMesh : MeshFormat → Feed → Feed → Answer → Type 0
+abbrev pub HasNoMesh : TwoWayFormat → Feed → Feed → Answer → Type 0
 HasNoMesh format old new answers.InputFault = Rose old.faults new.faults
 HasNoMesh format old new answers.InputTooLong = IfSome old.left (λ bytes. mesh_limit < length bytes)
 HasNoMesh format old new (answers.BadMesh fault) =

@@ -9,8 +9,8 @@ use Rattle.bench_core.specs.Keeping.{Workbench}
 use Rattle.bench_core.specs.Machine.{State}
 use Rattle.bench_core.specs.Surface.{IsWatertight}
 use Rattle.bench_core.specs.Texts.{mesh_text}
-use Rattle.mesh_text.specs.declared.format.MeshFormat.{MeshFormat}
-use Rattle.mesh_text.specs.declared.format.MeshFormat.TheVariants as formats
+use Rattle.mesh_text.specs.declared.format.TwoWayFormat.{TwoWayFormat}
+use Rattle.mesh_text.specs.declared.format.TwoWayFormat.TheVariants as formats
 use Rattle.script.specs.Commands.{read_of}
 use Rattle.script.specs.declared.command.Command.{Command}
 use Rattle.script.specs.declared.command.Command.TheVariants as commands
@@ -26,20 +26,20 @@ use Rattle.endings.specs.Status.{status_of}
 use Rattle.endings.specs.declared.answer.Status.{Status}
 
 -- the command that writes the mesh in a format to the file of a name
-abbrev pub writes_mesh : MeshFormat → List ℕ → Command
+abbrev pub writes_mesh : TwoWayFormat → List ℕ → Command
 writes_mesh formats.Ply name = commands.Ply name
 writes_mesh formats.Obj name = commands.Obj name
 
 -- The mesh of a state was written: the reply tells its numbers, the file of the name holds its text, which is the
 -- extraction from scratch of the volume and level as they then are, and it is watertight.
-pub record WroteMesh (s : State) (files : Option Files) (format : MeshFormat) (name reply : List ℕ) (after : Option Files) : Type 0 where
+pub record WroteMesh (s : State) (files : Option Files) (format : TwoWayFormat) (name reply : List ℕ) (after : Option Files) : Type 0 where
   pub told : reply ≡ says_of s (writes_mesh format name)
   pub file : after ≡ with_file name (mesh_text format s) files
   pub watertight : IsWatertight s.volume s.level
 
 -- A line among those that were run asked for a mesh. The lines before it, with their replies, led to a state; it wrote the
 -- mesh of that state, or was answered that the shelf failed; and the session went on from there.
-pub record MeshTurn (w v : World) (before later replies : List (List ℕ)) (format : MeshFormat) (name : List ℕ) : Type 0 where
+pub record MeshTurn (w v : World) (before later replies : List (List ℕ)) (format : TwoWayFormat) (name : List ℕ) : Type 0 where
   pub told : List (List ℕ)
   pub reply : List ℕ
   pub rest : List (List ℕ)
@@ -60,7 +60,7 @@ WritesReplies ending old new replies = Appends old.taken new.taken (joined repli
 pub record ShowsMeshes (w v : World) (ending : Ending) (lines : List (List ℕ)) : Type 0 where
   pub replies : List (List ℕ)
   pub written : WritesReplies ending w.tape v.tape replies
-  pub meshes : (before : List (List ℕ)) (asked : List ℕ) (later : List (List ℕ)) (format : MeshFormat) (name : List ℕ)
+  pub meshes : (before : List (List ℕ)) (asked : List ℕ) (later : List (List ℕ)) (format : TwoWayFormat) (name : List ℕ)
       → lines ≡ before ++ asked ∷ later → read_of asked ≡ Ok (Some (writes_mesh format name)) → MeshTurn w v before later replies format name
 
 -- So it is with the lines of the script that were run, however the session ended, on the volume of the file.

@@ -10,25 +10,25 @@ use iso_base::{Memory, TriangleList, Verdict};
 use iso_io::{Failed, ReadFault, Sink, Source, read_all_of, write_all_of};
 use mesh_check::verdict;
 use mesh_read::{MeshFault, read_obj, read_ply};
-use mesh_text::MeshFormat;
+use mesh_text::TwoWayFormat;
 use std::alloc::Global;
 
 /// The most bytes of a mesh text.
 const LIMIT: u64 = 1 << 30;
 
 /// The mesh of a text.
-fn read_mesh(alloc: Global, format: MeshFormat, bytes: &[u8]) -> Result<TriangleList, MeshFault>
+fn read_mesh(alloc: Global, format: TwoWayFormat, bytes: &[u8]) -> Result<TriangleList, MeshFault>
     requires { length bytes.now ≤ 2 ^ 30 }
     ensures { Answers result (mesh_in format bytes.now) }
 {
     match format {
-        MeshFormat::Ply => read_ply(alloc, bytes),
-        MeshFormat::Obj => read_obj(alloc, bytes),
+        TwoWayFormat::Ply => read_ply(alloc, bytes),
+        TwoWayFormat::Obj => read_obj(alloc, bytes),
     }
 }
 
 /// The mesh of a text, which is let go; or why there is none.
-fn mesh_of_text(alloc: Global, format: MeshFormat, bytes: Vec<u8>) -> Result<TriangleList, Answer>
+fn mesh_of_text(alloc: Global, format: TwoWayFormat, bytes: Vec<u8>) -> Result<TriangleList, Answer>
     requires { length bytes.items ≤ 2 ^ 30 }
     ensures mesh { IfOk result (λ m. (mesh_in format bytes.items ≡ Ok m) × (length m.triangles ≤ 2 ^ 30)) }
     ensures fault { IfErr result (IsNoMesh format bytes.items) }
@@ -41,7 +41,7 @@ fn mesh_of_text(alloc: Global, format: MeshFormat, bytes: Vec<u8>) -> Result<Tri
 }
 
 /// The verdict on a mesh text, or why there is none.
-fn verdict_of_text(alloc: Global, format: MeshFormat, bytes: Vec<u8>) -> Result<Verdict, Answer>
+fn verdict_of_text(alloc: Global, format: TwoWayFormat, bytes: Vec<u8>) -> Result<Verdict, Answer>
     requires { length bytes.items ≤ 2 ^ 30 }
     ensures verdict { IfOk result (λ v. HasVerdict format v bytes.items) }
     ensures fault { IfErr result (IsNoMesh format bytes.items) }
@@ -59,7 +59,7 @@ fn verdict_of_text(alloc: Global, format: MeshFormat, bytes: Vec<u8>) -> Result<
 /// The verdict on the mesh text of the whole input.
 fn verdict_of_input<S: Source>(
     alloc: Global,
-    format: MeshFormat,
+    format: TwoWayFormat,
     input: &mut S,
 ) -> Result<Verdict, Answer>
     ensures verdict { IfOk result (λ v. HasMesh format (S.seen input.old) (S.seen input.new) v) }
@@ -95,7 +95,7 @@ fn put_verdict<K: Sink>(output: &mut K, verdict: Verdict) -> Result<(), Failed>
 /// Says whether the mesh of a text is a surface, closed or with a border, or where it is broken.
 pub fn check<S: Source, K: Sink>(
     alloc: Global,
-    format: MeshFormat,
+    format: TwoWayFormat,
     input: &mut S,
     output: &mut K,
 ) -> Answer

@@ -5,7 +5,7 @@ ghost use Rattle.command_words.specs.Words.{HasCapacity, HasSamplePad, IsCapacit
 ghost use Rattle.endings.specs.Notes.{note_of};
 ghost use Rattle.endings.specs.Status.{status_of};
 ghost use Rattle.endings.specs.Tries.{Tries};
-ghost use Rattle.mesh_text.specs.declared.format.MeshFormat.{MeshFormat};
+ghost use Rattle.mesh_text.specs.declared.format.TwoWayFormat.{TwoWayFormat};
 ghost use Rattle.commands.specs.Causes.{Asks, HasBadMesh, HasBadVolume, HasBrokenMesh, HasNoFile, HasTooMany};
 ghost use Rattle.commands.specs.Economy.{LeavesBench};
 ghost use Rattle.commands.specs.Headline.{HoldsWatertight};
@@ -149,7 +149,7 @@ pub fn run<S: Source, K: Sink, N: Sink, H: Shelf, L: Ledger>(
         (H.seen shelf.old) (H.seen shelf.new) left.new steps.old steps.new) }
 
     // The headline, where a mesh is extracted: the mesh that was written is watertight.
-    ensures headline { (level : ℤ) (pad : Option ℤ) (format : MeshFormat) → request_of (map string_bytes words.now) ≡ Some (Extract level pad format)
+    ensures headline { (level : ℤ) (pad : Option ℤ) (format : TwoWayFormat) → request_of (map string_bytes words.now) ≡ Some (Extract level pad format)
         → result ≡ Status.Done → HoldsWatertight level pad (S.seen input.old) }
 
     // The headline, in a session, however it ended: each line `ply` or `obj` that was run wrote the mesh of the state that the

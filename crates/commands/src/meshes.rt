@@ -16,7 +16,7 @@ use endings::Answer;
 use flat_mesh::{Mesh, extract_flat};
 use iso_base::{Level, Written};
 use iso_io::{Failed, Sink, Source};
-use mesh_text::MeshFormat;
+use mesh_text::TwoWayFormat;
 use mesh_write::{STAGE, put_mesh_as};
 use std::alloc::Global;
 use voxel_list::VoxelList;
@@ -27,7 +27,7 @@ fn put_text<K: Sink>(
     waiting: &mut Vec<u8>,
     mesh: &Mesh,
     padded: bool,
-    format: MeshFormat,
+    format: TwoWayFormat,
 ) -> Result<Written, Failed>
     requires { waiting.old.items ≡ [] }
     ensures { (v : Volume) (level : ℤ) → padded ≡ is_some v.pad → mesh.now ≡ mesh_of v.grid (field v.samples level) → Puts (K.seen sink.old) (K.seen sink.new) result (mesh_text format level v) }
@@ -46,7 +46,7 @@ pub fn extract<S: Source, K: Sink>(
     alloc: Global,
     level: Level,
     pad: Option<i64>,
-    format: MeshFormat,
+    format: TwoWayFormat,
     input: &mut S,
     output: &mut K,
 ) -> Answer

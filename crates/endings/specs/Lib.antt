@@ -1,5 +1,4 @@
 pub mod Status
-pub mod Parts
 pub mod Notes
 pub mod Verdicts
 pub mod Tries

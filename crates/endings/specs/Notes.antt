@@ -11,7 +11,7 @@ use Rattle.nrrd.specs.declared.fault.NrrdFault.{NrrdFault}
 use Rattle.nrrd.specs.declared.fault.NrrdFault.TheVariants as nrrds
 use Rattle.mesh_read.specs.declared.fault.MeshFault.{MeshFault}
 use Rattle.mesh_read.specs.declared.fault.MeshFault.TheVariants as meshes
-use Rattle.endings.specs.Parts.{counted, counted_twice, level_and_pad}
+use Rattle.iso_defs.specs.Texts.{counted, counted_twice, level_and_pad}
 use Rattle.endings.specs.declared.answer.VolumeFault.{VolumeFault}
 use Rattle.endings.specs.declared.answer.VolumeFault.TheVariants as volumes
 use Rattle.endings.specs.declared.answer.Answer.{Answer}
@@ -65,7 +65,7 @@ nrrd_text nrrds.Memory = codes "memory"
 unfoldable pub volume_text : VolumeFault → List ℕ
 volume_text (volumes.Nrrd fault) = nrrd_text fault
 volume_text (volumes.Pad fault) = codes "volume 16 pad " ++ size_text fault
-volume_text (volumes.LevelNotAbovePad level pad) = level_and_pad (codes "volume 17 level not above pad ") level pad
+volume_text (volumes.LevelNotAbovePad level pad) = codes "volume 17 level not above pad " ++ level_and_pad level pad
 
 unfoldable pub mesh_text : MeshFault → List ℕ
 mesh_text meshes.NotMesh = codes "mesh 1 not mesh"

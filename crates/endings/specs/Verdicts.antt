@@ -3,7 +3,7 @@ use Rattle.std.specs.Prelude.{ℕ, List, codes}
 use Rattle.iso_defs.specs.Texts.{line}
 use Rattle.iso_base.specs.declared.verdict.Verdict.{Verdict}
 use Rattle.iso_base.specs.declared.verdict.Verdict.TheVariants.{Closed, Border, RepeatedCorner, EdgeTwice, SplitVertex}
-use Rattle.endings.specs.Parts.{counted, counted_twice}
+use Rattle.iso_defs.specs.Texts.{counted, counted_twice}
 
 -- triangles and vertices are counted from 0
 unfoldable pub verdict_words : Verdict → List ℕ

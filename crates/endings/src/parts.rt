@@ -3,7 +3,7 @@
 ghost use Rattle.std.specs.Prelude.{◌≡◌, ◌+◌, ◌≤◌, ◌++◌, length, decimal};
 ghost use Rattle.std.specs.Fmt.{signed_decimal};
 ghost use Rattle.arrayvec.specs.ArrayString.{array_string_len};
-ghost use Rattle.endings.specs.Parts.{counted, counted_twice, level_and_pad};
+ghost use Rattle.iso_defs.specs.Texts.{counted, counted_twice, level_and_pad};
 
 use arrayvec::ArrayString;
 use iso_base::put_level;
@@ -52,7 +52,7 @@ pub fn put_counted_twice(words: &str, first: u64, second: u64, into: &mut ArrayS
 /// Appends words, a level, given in thousandths, and a pad.
 pub fn put_level_and_pad(words: &str, level: i64, pad: i64, into: &mut ArrayString<128>)
     requires room { array_string_len into.old + length words.now ≤ 40 }
-    ensures text { into.new.bytes ≡ into.old.bytes ++ level_and_pad words.now level pad }
+    ensures text { into.new.bytes ≡ into.old.bytes ++ (words.now ++ level_and_pad level pad) }
     ensures room { array_string_len into.new ≤ 121 }
 {
     let mut level_text = ArrayString::new();

@@ -6,7 +6,8 @@ ghost use Rattle.iso_defs.specs.Scratch.{centre_name};
 ghost use Rattle.flat_mesh.specs.Lattice.{heights};
 ghost use Rattle.flat_mesh.specs.Numbers.{AreNumbers};
 ghost use Rattle.flat_mesh.specs.Centres.{IsCellAt, cell_place, centre_of, local_mean};
-ghost use Rattle.flat_mesh.specs.Faces.{AllCross, IsLoop};
+ghost use Rattle.cell_loops.specs.Loops.{IsLoop};
+ghost use Rattle.flat_mesh.specs.Faces.{AllCross};
 
 use crate::lattice::Lattice;
 use edge_points::{rounded_mean, x_in_cell, y_in_cell, z_in_cell};

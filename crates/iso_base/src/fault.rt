@@ -49,6 +49,9 @@ pub enum BenchFault {
     /// A box has more points than one command may fill; with their number.
     #[error("box of {n} points")]
     FillTooLarge { n: u64 },
+    /// A window has only n points along an axis, fewer than two: the first such axis, 0 is x.
+    #[error("window of {n} points along axis {axis}")]
+    WindowThin { axis: u8, n: u64 },
     /// The shelf did not take the file.
     #[error("file not written")]
     ShelfFailed,

@@ -5,6 +5,7 @@
 mod decimal;
 mod edge;
 mod fault;
+mod format;
 mod kind;
 mod level;
 mod point;
@@ -17,6 +18,7 @@ mod voxels;
 pub use decimal::{Thousandth, put_decimal, put_level};
 pub use edge::{CellName, EdgeName, edge_name, edge_of};
 pub use fault::{BenchFault, Memory, Written};
+pub use format::MeshFormat;
 pub use kind::SampleKind;
 pub use level::Level;
 pub use point::{Point, index, is_inside, next_point, point_of};

@@ -4,10 +4,10 @@ use Rattle.iso_defs.specs.Texts.{scratch_ply}
 use Rattle.iso_base.specs.Shifted.{field}
 use Rattle.iso_base.specs.Volume.{Volume}
 use Rattle.mesh_write.specs.Mesh.{scratch_obj}
-use Rattle.mesh_text.specs.declared.format.MeshFormat.{MeshFormat}
-use Rattle.mesh_text.specs.declared.format.MeshFormat.TheVariants.{Ply, Obj}
+use Rattle.mesh_text.specs.declared.format.TwoWayFormat.{TwoWayFormat}
+use Rattle.mesh_text.specs.declared.format.TwoWayFormat.TheVariants.{Ply, Obj}
 
 -- the mesh from scratch, in a format
-unfoldable pub scratch_text : MeshFormat → Volume → ℤ → List ℕ
+unfoldable pub scratch_text : TwoWayFormat → Volume → ℤ → List ℕ
 scratch_text Ply v level = scratch_ply (is_some v.pad) v.grid (field v.samples level)
 scratch_text Obj v level = scratch_obj (is_some v.pad) v.grid (field v.samples level)

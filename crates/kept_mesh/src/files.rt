@@ -16,7 +16,7 @@ use edge_points::RowRanks;
 use iso_base::{Level, Steps, Written};
 use iso_io::{Failed, Shelf, ShelfFile, Sink};
 use mesh_cache::MeshCache;
-use mesh_text::MeshFormat;
+use mesh_text::TwoWayFormat;
 use span_tree::SpanTree;
 use std::sync::ledger::Ledger;
 use stitch::{write_obj, write_ply};
@@ -29,7 +29,7 @@ fn put_mesh<K: Sink, L: Ledger>(
     cache: &MeshCache,
     ranks: &mut RowRanks,
     level: Level,
-    format: MeshFormat,
+    format: TwoWayFormat,
     steps: &mut Steps<L>,
 ) -> Result<Written, Failed>
     requires tree { IsRightFor tree.now store.now }
@@ -43,8 +43,8 @@ fn put_mesh<K: Sink, L: Ledger>(
 {
     let mut rows = KeptRows::new(store, cache, level);
     match format {
-        MeshFormat::Ply => write_ply(store, tree, level, &mut rows, ranks, sink, steps),
-        MeshFormat::Obj => write_obj(store, tree, level, &mut rows, ranks, sink, steps),
+        TwoWayFormat::Ply => write_ply(store, tree, level, &mut rows, ranks, sink, steps),
+        TwoWayFormat::Obj => write_obj(store, tree, level, &mut rows, ranks, sink, steps),
     }
 }
 
@@ -56,7 +56,7 @@ fn fill_file<H: Shelf, L: Ledger>(
     cache: &MeshCache,
     ranks: &mut RowRanks,
     level: Level,
-    format: MeshFormat,
+    format: TwoWayFormat,
     steps: &mut Steps<L>,
 ) -> Result<Written, Failed>
     requires tree { IsRightFor tree.now store.now }
@@ -84,7 +84,7 @@ pub fn write_mesh<H: Shelf, L: Ledger>(
     cache: &MeshCache,
     ranks: &mut RowRanks,
     level: Level,
-    format: MeshFormat,
+    format: TwoWayFormat,
     steps: &mut Steps<L>,
 ) -> Result<Written, Failed>
     requires tree { IsRightFor tree.now store.now }

@@ -9,7 +9,7 @@ mod line;
 mod obj;
 mod ply;
 
-pub use format::MeshFormat;
+pub use format::TwoWayFormat;
 pub use head::{ply_head_text, points_head_text, put_ply_head, put_points_head};
 pub use line::Line;
 pub use obj::{obj_face_text, obj_vertex_text, put_obj_face, put_obj_vertex};

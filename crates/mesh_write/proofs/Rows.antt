@@ -8,8 +8,8 @@ use Rattle.iso_defs.specs.Texts.{line, vertex_head, face_head}
 use Rattle.flat_mesh.specs.Mesh.{FlatMesh}
 use Rattle.mesh_text.specs.Lines.{ply_head}
 use Rattle.mesh_write.specs.Mesh.{vertex_line, face_line, vertex_lines, face_lines, head_of, text_of, ply_of, obj_of}
-use Rattle.mesh_text.specs.declared.format.MeshFormat.{MeshFormat}
-use Rattle.mesh_text.specs.declared.format.MeshFormat.TheVariants.{Ply, Obj}
+use Rattle.mesh_text.specs.declared.format.TwoWayFormat.{TwoWayFormat}
+use Rattle.mesh_text.specs.declared.format.TwoWayFormat.TheVariants.{Ply, Obj}
 use Rattle.iso_io.specs.declared.Failed.{Failed}
 use Rattle.iso_io.specs.Seen.{Tape, Stages}
 use Rattle.iso_io.proofs.Staging.{nothing_staged, stages_both, stages_first}
@@ -61,7 +61,7 @@ pub bytes_all : {X : Type 0} (f : X → List ℕ) (xs : List X) (t0 t1 : Tape) (
 bytes_all {X = X} f xs t0 t1 w0 w1 bytes i le h = h.count ∙ ap (λ (l : List X). length (flat_map f l)) (take_all i xs le)
 
 -- the head, the vertices and the triangles of a mesh are its text
-pub mesh_text_is : (format : MeshFormat) (padded : Bool) (m : FlatMesh)
+pub mesh_text_is : (format : TwoWayFormat) (padded : Bool) (m : FlatMesh)
     → head_of format (length m.vertex_list) (length m.triangle_list) ++ (vertex_lines format padded m.vertex_list ++ face_lines format m.triangle_list) ≡ text_of format padded m
 unfolding ply_head ply_of obj_of vertex_line face_line
 mesh_text_is Ply padded m =

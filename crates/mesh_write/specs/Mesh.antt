@@ -9,29 +9,29 @@ use Rattle.iso_defs.specs.Texts.{line, position_text, numbers_text, ply_text, ob
 use Rattle.iso_base.specs.declared.fault.Written.{Written}
 use Rattle.flat_mesh.specs.Mesh.{FlatMesh}
 use Rattle.mesh_text.specs.Lines.{ply_head}
-use Rattle.mesh_text.specs.declared.format.MeshFormat.{MeshFormat}
-use Rattle.mesh_text.specs.declared.format.MeshFormat.TheVariants.{Ply, Obj}
+use Rattle.mesh_text.specs.declared.format.TwoWayFormat.{TwoWayFormat}
+use Rattle.mesh_text.specs.declared.format.TwoWayFormat.TheVariants.{Ply, Obj}
 
 -- the line of a vertex
-unfoldable pub vertex_line : MeshFormat → Bool → ℕ × Position → List ℕ
+unfoldable pub vertex_line : TwoWayFormat → Bool → ℕ × Position → List ℕ
 vertex_line Ply padded v = line (position_text padded v.1)
 vertex_line Obj padded v = line (118 ∷ 32 ∷ position_text padded v.1)
 
 -- the line of a triangle: PLY counts vertices from 0, OBJ from 1
-unfoldable pub face_line : MeshFormat → Triangle → List ℕ
+unfoldable pub face_line : TwoWayFormat → Triangle → List ℕ
 face_line Ply t = line (51 ∷ 32 ∷ numbers_text 0 t)
 face_line Obj t = line (102 ∷ 32 ∷ numbers_text 1 t)
 
 -- what stands before the lines
-abbrev pub head_of : MeshFormat → ℕ → ℕ → List ℕ
+abbrev pub head_of : TwoWayFormat → ℕ → ℕ → List ℕ
 head_of Ply vertices faces = ply_head vertices faces
 head_of Obj vertices faces = []
 
 -- the lines of all vertices, and of all triangles
-abbrev pub vertex_lines : MeshFormat → Bool → List (ℕ × Position) → List ℕ
+abbrev pub vertex_lines : TwoWayFormat → Bool → List (ℕ × Position) → List ℕ
 vertex_lines format padded vs = flat_map (vertex_line format padded) vs
 
-abbrev pub face_lines : MeshFormat → List Triangle → List ℕ
+abbrev pub face_lines : TwoWayFormat → List Triangle → List ℕ
 face_lines format ts = flat_map (face_line format) ts
 
 -- a mesh as PLY
@@ -43,7 +43,7 @@ unfoldable pub obj_of : Bool → FlatMesh → List ℕ
 obj_of padded m = obj_text padded m.vertex_list m.triangle_list
 
 -- a mesh in either format
-abbrev pub text_of : MeshFormat → Bool → FlatMesh → List ℕ
+abbrev pub text_of : TwoWayFormat → Bool → FlatMesh → List ℕ
 text_of Ply padded m = ply_of padded m
 text_of Obj padded m = obj_of padded m
 
@@ -57,7 +57,7 @@ ply_written padded m = written_with m (ply_of padded m)
 abbrev pub obj_written : Bool → FlatMesh → Written
 obj_written padded m = written_with m (obj_of padded m)
 
-abbrev pub written_of : MeshFormat → Bool → FlatMesh → Written
+abbrev pub written_of : TwoWayFormat → Bool → FlatMesh → Written
 written_of format padded m = written_with m (text_of format padded m)
 
 -- the mesh of a field as OBJ

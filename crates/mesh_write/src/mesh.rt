@@ -10,7 +10,7 @@ use flat_mesh::Mesh;
 use iso_base::{Thousandth, Written};
 use iso_io::{Failed, Sink, stage, write_all_of};
 use mesh_text::{
-    Line, MeshFormat, obj_face_text, obj_vertex_text, ply_face_text, ply_head_text, ply_vertex_text,
+    Line, TwoWayFormat, obj_face_text, obj_vertex_text, ply_face_text, ply_head_text, ply_vertex_text,
 };
 
 /// A pad's layer along an axis, in thousandths.
@@ -50,29 +50,29 @@ fn printed_position(at: &[Thousandth; 3], padded: bool) -> [Thousandth; 3]
 /// The line of a vertex.
 #[tactic(auto, unfolding(crate::specs::Mesh::vertex_line))]
 #[inline(always)]
-fn vertex_text(mesh: &Mesh, format: MeshFormat, padded: bool, i: u32) -> Line
+fn vertex_text(mesh: &Mesh, format: TwoWayFormat, padded: bool, i: u32) -> Line
     requires { i < length mesh.now.vertex_list }
     ensures { result ≡ vertex_line format padded (get_or mesh.now.vertex_list i (0, (0, 0, 0))) }
 {
     let (_, at) = mesh.vertex(i);
     let at = printed_position(&at, padded);
     match format {
-        MeshFormat::Ply => ply_vertex_text(&at),
-        MeshFormat::Obj => obj_vertex_text(&at),
+        TwoWayFormat::Ply => ply_vertex_text(&at),
+        TwoWayFormat::Obj => obj_vertex_text(&at),
     }
 }
 
 /// The line of a triangle.
 #[tactic(auto, unfolding(crate::specs::Mesh::face_line))]
 #[inline(always)]
-fn face_text(mesh: &Mesh, format: MeshFormat, i: u32) -> Line
+fn face_text(mesh: &Mesh, format: TwoWayFormat, i: u32) -> Line
     requires { i < length mesh.now.triangle_list }
     ensures { result ≡ face_line format (get_or mesh.now.triangle_list i (0, 0, 0)) }
 {
     let corners = mesh.triangle(i);
     match format {
-        MeshFormat::Ply => ply_face_text(&corners),
-        MeshFormat::Obj => obj_face_text(&corners),
+        TwoWayFormat::Ply => ply_face_text(&corners),
+        TwoWayFormat::Obj => obj_face_text(&corners),
     }
 }
 
@@ -118,7 +118,7 @@ fn stage_ply_head<K: Sink>(
 fn stage_head<K: Sink>(
     sink: &mut K,
     waiting: &mut Vec<u8>,
-    format: MeshFormat,
+    format: TwoWayFormat,
     vertices: u32,
     faces: u32,
 ) -> Result<u64, Failed>
@@ -127,8 +127,8 @@ fn stage_head<K: Sink>(
     ensures few { IfOk result (λ n. n ≤ 256) }
 {
     match format {
-        MeshFormat::Ply => stage_ply_head(sink, waiting, vertices, faces),
-        MeshFormat::Obj => Ok(0),
+        TwoWayFormat::Ply => stage_ply_head(sink, waiting, vertices, faces),
+        TwoWayFormat::Obj => Ok(0),
     }
 }
 
@@ -136,7 +136,7 @@ fn stage_vertices<K: Sink>(
     sink: &mut K,
     waiting: &mut Vec<u8>,
     mesh: &Mesh,
-    format: MeshFormat,
+    format: TwoWayFormat,
     padded: bool,
 ) -> Result<u64, Failed>
     ensures staged { Stages (K.seen sink.old) (K.seen sink.new) waiting.old.items waiting.new.items result (vertex_lines format padded mesh.now.vertex_list) }
@@ -154,7 +154,7 @@ fn stage_faces<K: Sink>(
     sink: &mut K,
     waiting: &mut Vec<u8>,
     mesh: &Mesh,
-    format: MeshFormat,
+    format: TwoWayFormat,
 ) -> Result<u64, Failed>
     ensures staged { Stages (K.seen sink.old) (K.seen sink.new) waiting.old.items waiting.new.items result (face_lines format mesh.now.triangle_list) }
     ensures bytes { IfOk result (λ n. n ≡ length (face_lines format mesh.now.triangle_list)) }
@@ -171,7 +171,7 @@ fn stage_lines<K: Sink>(
     sink: &mut K,
     waiting: &mut Vec<u8>,
     mesh: &Mesh,
-    format: MeshFormat,
+    format: TwoWayFormat,
     padded: bool,
 ) -> Result<u64, Failed>
     ensures staged { Stages (K.seen sink.old) (K.seen sink.new) waiting.old.items waiting.new.items result
@@ -188,7 +188,7 @@ fn stage_mesh<K: Sink>(
     sink: &mut K,
     waiting: &mut Vec<u8>,
     mesh: &Mesh,
-    format: MeshFormat,
+    format: TwoWayFormat,
     padded: bool,
 ) -> Result<u64, Failed>
     ensures staged { Stages (K.seen sink.old) (K.seen sink.new) waiting.old.items waiting.new.items result (text_of format padded mesh.now) }
@@ -212,7 +212,7 @@ pub fn put_mesh_as<K: Sink>(
     sink: &mut K,
     waiting: &mut Vec<u8>,
     mesh: &Mesh,
-    format: MeshFormat,
+    format: TwoWayFormat,
     padded: bool,
 ) -> Result<Written, Failed>
     requires none { waiting.old.items ≡ [] }

@@ -1,5 +1,5 @@
 use command_words::{Request, read_words};
-use mesh_text::MeshFormat;
+use mesh_text::TwoWayFormat;
 use std::alloc::{AllocError, Global};
 use std::test::Fail;
 
@@ -12,10 +12,10 @@ fn words_of(alloc: Global, line: &str) -> Result<Vec<String>, AllocError> {
     Ok(words)
 }
 
-fn format_name(format: MeshFormat) -> &'static str {
+fn format_name(format: TwoWayFormat) -> &'static str {
     match format {
-        MeshFormat::Ply => "ply",
-        MeshFormat::Obj => "obj",
+        TwoWayFormat::Ply => "ply",
+        TwoWayFormat::Obj => "obj",
     }
 }
 

@@ -12,7 +12,7 @@ use Rattle.flat_mesh.specs.declared.centres.LoopCentre.{LoopCentre}
 use Rattle.flat_mesh.specs.Found.{numbered}
 use Rattle.flat_mesh.specs.Mesh.{at_centre}
 use Rattle.flat_mesh.specs.Lattice.{Leveled, heights}
-use Rattle.mesh_text.specs.declared.format.MeshFormat.{MeshFormat}
+use Rattle.mesh_text.specs.declared.format.TwoWayFormat.{TwoWayFormat}
 use Rattle.mesh_write.specs.Mesh.{face_line, vertex_line}
 use Rattle.stitch.specs.declared.style.Style.{Style}
 
@@ -21,27 +21,27 @@ unfoldable pub span : {X : Type 0} → (ℕ → List X) → (ℕ → Bool) → �
 span f p a n = flat_map f (filter p (range_with_len a n))
 
 -- the line of the vertex on a crossing edge
-abbrev pub edge_line : MeshFormat → Bool → Leveled → ℕ → List ℕ
+abbrev pub edge_line : TwoWayFormat → Bool → Leveled → ℕ → List ℕ
 edge_line format padded v n = vertex_line format padded (n, edge_position v.grid (heights v) n)
 
 -- the lines of the centres of a cell
-unfoldable pub centre_lines : MeshFormat → Bool → Leveled → ℕ → List ℕ
+unfoldable pub centre_lines : TwoWayFormat → Bool → Leveled → ℕ → List ℕ
 centre_lines format padded v q = flat_map (vertex_line format padded) (cell_centres v.grid (heights v) q)
 
 -- the lines of the triangles of a cell
-unfoldable pub triangle_lines : MeshFormat → Leveled → ℕ → List ℕ
+unfoldable pub triangle_lines : TwoWayFormat → Leveled → ℕ → List ℕ
 triangle_lines format v q = flat_map (face_line format) (numbered v q)
 
 -- those of the vertices on the crossing edges among n names from a on
-abbrev pub edges_text : MeshFormat → Bool → Leveled → ℕ → ℕ → List ℕ
+abbrev pub edges_text : TwoWayFormat → Bool → Leveled → ℕ → ℕ → List ℕ
 edges_text format padded v a n = span (edge_line format padded v) (is_crossing v.grid (heights v)) a n
 
 -- those of the centres of the cells among n points from a on
-abbrev pub centres_text : MeshFormat → Bool → Leveled → ℕ → ℕ → List ℕ
+abbrev pub centres_text : TwoWayFormat → Bool → Leveled → ℕ → ℕ → List ℕ
 centres_text format padded v a n = span (centre_lines format padded v) (is_cell v.grid) a n
 
 -- and those of their triangles
-abbrev pub faces_text : MeshFormat → Leveled → ℕ → ℕ → List ℕ
+abbrev pub faces_text : TwoWayFormat → Leveled → ℕ → ℕ → List ℕ
 faces_text format v a n = span (triangle_lines format v) (is_cell v.grid) a n
 
 -- how many centres the cells among n points from a on have
@@ -81,15 +81,15 @@ abbrev pub centre_line : Style → Leveled → ℕ → List ℕ → ℕ → List
 centre_line style v q edges n = vertex_line style.format style.padded (n, centre_position v.grid (heights v) (map (cell_edge v.grid q) edges))
 
 -- the lines of triangles as the code has them
-unfoldable pub face_lines : MeshFormat → List (List ℕ) → List ℕ
+unfoldable pub face_lines : TwoWayFormat → List (List ℕ) → List ℕ
 face_lines format faces = flat_map (λ t. face_line format (triangle_of t)) faces
 
 -- the lines of centres as the code has them
-unfoldable pub loop_lines : MeshFormat → Bool → List LoopCentre → List ℕ
+unfoldable pub loop_lines : TwoWayFormat → Bool → List LoopCentre → List ℕ
 loop_lines format padded centres = flat_map (λ c. vertex_line format padded (at_centre c)) centres
 
 -- the lines of all vertices, and then those of all triangles
-abbrev pub lines_text : MeshFormat → Bool → Leveled → List ℕ
+abbrev pub lines_text : TwoWayFormat → Bool → Leveled → List ℕ
 lines_text format padded v =
     edges_text format padded v 0 (3 * (v.grid.nx * row_count v.grid))
     ++ (centres_text format padded v 0 (v.grid.nx * row_count v.grid) ++ faces_text format v 0 (v.grid.nx * row_count v.grid))

@@ -5,7 +5,7 @@ ghost use Rattle.iso_base.specs.Triangles.{triangle_of};
 ghost use Rattle.mesh_write.specs.Mesh.{face_line, vertex_line};
 
 use iso_base::Thousandth;
-use mesh_text::{Line, MeshFormat, obj_face_text, obj_vertex_text, ply_face_text, ply_vertex_text};
+use mesh_text::{Line, TwoWayFormat, obj_face_text, obj_vertex_text, ply_face_text, ply_vertex_text};
 
 /// A pad's layer along an axis, in thousandths.
 const LAYER: i64 = 1000;
@@ -13,7 +13,7 @@ const LAYER: i64 = 1000;
 /// The format of a text, and whether its volume has a pad, whose layer is taken off each coordinate.
 #[derive(Clone, Copy)]
 pub struct Style {
-    pub format: MeshFormat,
+    pub format: TwoWayFormat,
     pub padded: bool,
 }
 
@@ -40,8 +40,8 @@ impl Style {
             without_pad(at[2], self.padded),
         ];
         match self.format {
-            MeshFormat::Ply => ply_vertex_text(&at),
-            MeshFormat::Obj => obj_vertex_text(&at),
+            TwoWayFormat::Ply => ply_vertex_text(&at),
+            TwoWayFormat::Obj => obj_vertex_text(&at),
         }
     }
 
@@ -52,8 +52,8 @@ impl Style {
         ensures { result ≡ face_line self.format (triangle_of corners.now) }
     {
         match self.format {
-            MeshFormat::Ply => ply_face_text(corners),
-            MeshFormat::Obj => obj_face_text(corners),
+            TwoWayFormat::Ply => ply_face_text(corners),
+            TwoWayFormat::Obj => obj_face_text(corners),
         }
     }
 }

@@ -25,20 +25,20 @@ use brick_store::BrickStore;
 use edge_points::RowRanks;
 use iso_base::{Level, Steps, Written};
 use iso_io::{Failed, Sink};
-use mesh_text::{MeshFormat, ply_head_text};
+use mesh_text::{TwoWayFormat, ply_head_text};
 use span_tree::SpanTree;
 use std::sync::ledger::Ledger;
 use stitch_rows::{CellRows, Field};
 
 /// Puts what stands before the lines behind the others: a head in PLY, nothing in OBJ.
-fn put_head(format: MeshFormat, vertices: u32, faces: u32, block: &mut Block)
+fn put_head(format: TwoWayFormat, vertices: u32, faces: u32, block: &mut Block)
     requires { length block.old.waiting + 256 ≤ 32768 }
     ensures put { IsBehind block.old block.new (head_of format vertices faces) }
     ensures bytes { block.new.total ≤ block.old.total + 256 }
 {
     match format {
-        MeshFormat::Ply => block.push(ply_head_text(vertices, faces).as_str().as_bytes()),
-        MeshFormat::Obj => {}
+        TwoWayFormat::Ply => block.push(ply_head_text(vertices, faces).as_str().as_bytes()),
+        TwoWayFormat::Obj => {}
     }
 }
 
@@ -124,7 +124,7 @@ pub fn write_ply<R: CellRows, K: Sink, L: Ledger>(
 {
     let _ = store.sizes();
     let style = Style {
-        format: MeshFormat::Ply,
+        format: TwoWayFormat::Ply,
         padded: store.pad().is_some(),
     };
     let field = Field::new(store, tree, level);
@@ -153,7 +153,7 @@ pub fn write_obj<R: CellRows, K: Sink, L: Ledger>(
 {
     let _ = store.sizes();
     let style = Style {
-        format: MeshFormat::Obj,
+        format: TwoWayFormat::Obj,
         padded: store.pad().is_some(),
     };
     let field = Field::new(store, tree, level);

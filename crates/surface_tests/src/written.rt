@@ -8,7 +8,7 @@ use crate::grids::two_a_side;
 use crossing_edges::EdgeVertices;
 use iso_base::{Level, Sizes, Written};
 use iso_io::MemSink;
-use mesh_text::MeshFormat;
+use mesh_text::TwoWayFormat;
 use mesh_write::{STAGE, put_mesh_as, put_points};
 use std::alloc::Global;
 use std::test::Fail;
@@ -21,7 +21,7 @@ fn a_mesh_in_both_formats(rt: HostRuntime) -> Result<(), Fail> {
     let ply =
         "ply\nformat ascii 1.0\nelement vertex 3\nproperty float x\nproperty float y\nproperty float z\nelement face 1\nproperty list uchar int vertex_indices\nend_header\n0.500 0.000 0.000\n0.000 0.500 0.000\n0.000 0.000 0.500\n3 0 1 2\n";
     let obj = "v 0.500 0.000 0.000\nv 0.000 0.500 0.000\nv 0.000 0.000 0.500\nf 1 2 3\n";
-    for (format, text, bytes) in [(MeshFormat::Ply, ply, 216), (MeshFormat::Obj, obj, 68)] {
+    for (format, text, bytes) in [(TwoWayFormat::Ply, ply, 216), (TwoWayFormat::Obj, obj, 68)] {
         let mut sink = MemSink::new(rt.alloc(), 300, Vec::new(rt.alloc()))?;
         let mut waiting = Vec::with_capacity(rt.alloc(), STAGE)?;
         let written = put_mesh_as(&mut sink, &mut waiting, &mesh, format, false);
