@@ -1,9 +1,9 @@
 -- Sources and sinks in memory.
-use Rattle.std.specs.Prelude.{ℕ, ◌+◌, ◌-◌, ◌^◌, min, List, [], Some, Contains}
+use Rattle.std.specs.Prelude.{ℕ, ◌+◌, ◌-◌, ◌^◌, min, List, [], take, Option, None, Some, Contains}
 use Rattle.std.specs.Prelude.{refl}
 use Rattle.std.specs.Coded.{Coded, code_by, coded×, coded_ℕ, coded_list}
 use Rattle.iso_io.specs.Files.{no_files}
-use Rattle.iso_io.specs.Places.{Places, placed, places_code}
+use Rattle.iso_io.specs.Places.{Places, placed, placed_behind, fitting, places_code}
 use Rattle.iso_io.specs.Shelves.{Store}
 use Rattle.iso_io.specs.Seen.{Feed, Tape}
 
@@ -15,10 +15,11 @@ pub record FedBytes : Type 0 where
   pub calls : ℕ
   pub faults : ℕ
 
--- the bytes taken, the room for all, the calls that fail, and how many calls and faults there were
+-- the bytes taken, the room for all, the most that a write takes, where there is such a bound, the calls that fail, and how many calls and faults there were
 pub record KeptBytes : Type 0 where
   pub taken : List ℕ
   pub room : ℕ
+  pub piece : Option ℕ
   pub failing : List ℕ
   pub calls : ℕ
   pub faults : ℕ
@@ -27,15 +28,21 @@ pub record KeptBytes : Type 0 where
 abbrev pub one_more : ℕ → ℕ
 one_more n = min (n + 1) (2 ^ 64 - 1)
 
+-- what a write takes of the bytes where there is room for it
+abbrev pub taken_of : Option ℕ → List ℕ → List ℕ
+taken_of None bytes = bytes
+taken_of (Some piece) bytes = take piece bytes
+
 abbrev pub feed_of : FedBytes → Feed
 feed_of m = record { left = Some m.left; faults = m.faults }
 
 abbrev pub tape_of : KeptBytes → Tape
 tape_of m = record { taken = Some m.taken; faults = m.faults; beside = record { held = []; others = Some ([], no_files) } }
 
--- files in places, the calls that fail, and how many calls and faults there were
+-- files in places, the most that a failing append takes, the calls that fail, and how many calls and faults there were
 pub record KeptFiles : Type 0 where
   pub places : Places
+  pub cut : ℕ
   pub failing : List ℕ
   pub calls : ℕ
   pub faults : ℕ
@@ -59,7 +66,11 @@ missed m = record m { calls = one_more m.calls; faults = one_more m.faults }
 abbrev pub IsFailing : KeptFiles → Type 0
 IsFailing m = Contains m.failing (one_more m.calls)
 
+-- one more call, which failed after it had put as many of the first bytes as are let and as fit; for none no file is made
+abbrev pub cut_short : KeptFiles → List ℕ → List ℕ → KeptFiles
+cut_short m name bytes = record (missed m) { places = placed_behind m.places name (fitting m.places name m.cut bytes) }
+
 -- as its fields, one in another
 abbrev pub kept_files_code : Coded KeptFiles
-kept_files_code = code_by (Places × (List ℕ × (ℕ × ℕ))) (coded× places_code (coded× (coded_list coded_ℕ) (coded× coded_ℕ coded_ℕ)))
-    (λ m. (m.places, (m.failing, (m.calls, m.faults)))) (λ c. record { places = c.0; failing = c.1.0; calls = c.1.1.0; faults = c.1.1.1 }) (λ _. refl)
+kept_files_code = code_by (Places × (ℕ × (List ℕ × (ℕ × ℕ)))) (coded× places_code (coded× coded_ℕ (coded× (coded_list coded_ℕ) (coded× coded_ℕ coded_ℕ))))
+    (λ m. (m.places, (m.cut, (m.failing, (m.calls, m.faults))))) (λ c. record { places = c.0; cut = c.1.0; failing = c.1.1.0; calls = c.1.1.1.0; faults = c.1.1.1.1 }) (λ _. refl)

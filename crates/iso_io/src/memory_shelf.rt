@@ -13,10 +13,12 @@ use std::alloc::Global;
 use std::marker::Model;
 
 /// Files in memory that was reserved, with calls that fail. It is seen as its files by name, the number of places that are
-/// free, the room of each, the calls that fail, and the numbers of calls and of faults so far.
+/// free, the room of each, the most that a failing append takes, the calls that fail, and the numbers of calls and of
+/// faults so far.
 #[derive(Drop)]
 pub struct MemShelf {
     places: Places,
+    cut: u32,
     failing: Vec<u64>,
     calls: u64,
     faults: u64,
@@ -29,19 +31,35 @@ impl Model for MemShelf {
 
     ghost coded = { kept_files_code };
 
-    ghost view = { λ m. record { places = m.places; failing = m.failing.items; calls = m.calls; faults = m.faults } };
+    ghost view = { λ m. record { places = m.places; cut = m.cut; failing = m.failing.items; calls = m.calls; faults = m.faults } };
 }
 
 impl MemShelf {
     /// Reserves `files` places of `room` bytes each, for names of at most 255 bytes. The calls of `read`, `start` and
-    /// `append` whose numbers stand in `failing` fail, all counted together from 1.
+    /// `append` whose numbers stand in `failing` fail, all counted together from 1, and change no file.
     pub fn new(alloc: Global, files: u32, room: u32, failing: Vec<u64>) -> Result<MemShelf, Memory>
         requires { files * room ≤ 2 ^ 32 }
-        ensures { IfOk result (λ m. m ≡ record { places = record { files = no_files; free = files; room = room }; failing = failing.items; calls = 0; faults = 0 }) }
+        ensures { IfOk result (λ m. m ≡ record { places = record { files = no_files; free = files; room = room }; cut = 0; failing = failing.items; calls = 0; faults = 0 }) }
+    {
+        MemShelf::cutting(alloc, files, room, 0, failing)
+    }
+
+    /// As `new`, but an append whose number stands in `failing` takes as many of the first `cut` bytes of its piece as
+    /// there are and as fit. It makes no file where it takes none.
+    pub fn cutting(
+        alloc: Global,
+        files: u32,
+        room: u32,
+        cut: u32,
+        failing: Vec<u64>,
+    ) -> Result<MemShelf, Memory>
+        requires { files * room ≤ 2 ^ 32 }
+        ensures { IfOk result (λ m. m ≡ record { places = record { files = no_files; free = files; room = room }; cut = cut; failing = failing.items; calls = 0; faults = 0 }) }
     {
         let places = Places::new(alloc, files, room)?;
         Ok(MemShelf {
             places,
+            cut,
             failing,
             calls: 0,
             faults: 0,
@@ -70,7 +88,7 @@ impl Shelf for MemShelf {
     ghost use Rattle.std.specs.Prelude.{◌≡◌, ◌⊎◌, ◌+◌, ◌<◌, ◌≤◌, ◌↔◌, ◌++◌, [], length, false, None, Some, IfOk, IfErr, IfSome, IsErr, IsErrOf, OnOk, OnErr};
     ghost use Rattle.std.specs.FinMap.{get};
     ghost use Rattle.iso_io.specs.Causes.{Rose};
-    ghost use Rattle.iso_io.specs.Memory.{store_of, stored, called, missed, IsFailing};
+    ghost use Rattle.iso_io.specs.Memory.{store_of, stored, called, missed, cut_short, IsFailing};
     ghost use Rattle.iso_io.specs.Places.{has_place, content_in};
     ghost use Rattle.iso_io.specs.Shelves.{Starts, Grows};
 
@@ -121,10 +139,16 @@ impl Shelf for MemShelf {
         ensures grows { Grows (store_of self.old) (store_of self.new) result name.now bytes.now }
         ensures fails { IsErr result ↔ (IsFailing self.old ⊎ (has_place self.old.places name.now ≡ false) ⊎ (self.old.places.room < length (content_in self.old.places name.now) + length bytes.now)) }
         ensures appended { OnOk result (self.new ≡ stored (called self.old) name.now (content_in self.old.places name.now ++ bytes.now)) }
-        ensures kept { OnErr result (self.new ≡ missed self.old) }
+        ensures cut { IsFailing self.old → self.new ≡ cut_short self.old name.now bytes.now }
+        ensures kept { (IsFailing self.old → ⊥) → OnErr result (self.new ≡ missed self.old) }
     {
         self.calls = self.calls.saturating_add(1);
-        if self.failing.contains(&self.calls) || self.places.append(name, bytes).is_err() {
+        if self.failing.contains(&self.calls) {
+            self.faults = self.faults.saturating_add(1);
+            self.places.append_front(name, bytes, self.cut);
+            return Err(Failed);
+        }
+        if self.places.append(name, bytes).is_err() {
             self.faults = self.faults.saturating_add(1);
             return Err(Failed);
         }

@@ -4,7 +4,7 @@ ghost use Rattle.std.specs.Prelude.{◌≡◌, ◌⊎◌, ◌+◌, ◌<◌, ◌�
 ghost use Rattle.std.specs.FinMap.{get};
 ghost use Rattle.std.specs.Option.{option_map};
 ghost use Rattle.iso_io.specs.Files.{no_files};
-ghost use Rattle.iso_io.specs.Places.{IsFound, IsLacking, AllOfRoom, entries_of, content_in, has_place, placed};
+ghost use Rattle.iso_io.specs.Places.{IsFound, IsLacking, AllOfRoom, entries_of, content_in, has_place, placed, placed_behind, fitting};
 
 use crate::Failed;
 use crate::place::Place;
@@ -103,6 +103,22 @@ impl Places {
         match place_of(&self.all[..self.used], name) {
             Some(i) => self.all[i].append(bytes),
             None => self.put(name, bytes),
+        }
+    }
+    /// Puts as many of the first `most` bytes as there are and as fit behind those of the name's file. Where that is
+    /// none, or there is no place for a new file, nothing is changed.
+    pub(crate) fn append_front(&mut self, name: &str, bytes: &[u8], most: u32)
+        ensures { self.new ≡ placed_behind self.old name.now (fitting self.old name.now most bytes.now) }
+    {
+        let held = match self.file(name) {
+            Some(held) => held.len(),
+            None => 0,
+        };
+        let free = (self.room as usize).saturating_sub(held);
+        let count = bytes.len().min(most as usize).min(free);
+        if 0 < count {
+            // It fits, so it is refused only for want of a place.
+            let _ = self.append(name, &bytes[..count]);
         }
     }
 }
