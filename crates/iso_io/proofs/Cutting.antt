@@ -1,5 +1,5 @@
 -- An append that fails takes a front of its piece.
-use Rattle.std.proofs.Common.{◌≡◌, ◌⊎◌, inl, inr, ℕ, Bool, true, false, cond, List, ◌++◌, take, drop, Some, refl, sym, ap, ◌∙◌, min, ◌-◌, length}
+use Rattle.std.proofs.Common.{◌≡◌, ◌⊎◌, inl, inr, ℕ, Bool, true, false, cond, List, ◌++◌, take, drop, Some, sym, ap, min, ◌-◌, length}
 use Rattle.std.specs.Prelude.{◌&&◌, nat_lt}
 use Rattle.std.proofs.lemmas.List.{take-append-drop}
 use Rattle.iso_io.specs.Places.{Places, placed, content_in, has_place, fitting, placed_behind}

@@ -1,6 +1,4 @@
-use Rattle.std.proofs.Common.{◌≡◌, rules, ap, sym, ◌∙◌}
-use Rattle.iso_io.specs.Memory.{KeptFiles}
-use Rattle.iso_io.specs.Places.{Places, placed_behind, fitting}
+use Rattle.std.proofs.Common.{rules}
 use Rattle.iso_io.proofs.Cutting.{front_is_cut}
 use Rattle.iso_io.proofs.memory_shelf.MemShelfShelf.append.Goals as goal
 
