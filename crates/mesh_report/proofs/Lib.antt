@@ -7,3 +7,5 @@ pub mod GraphLaws
 pub mod NumberLaws
 pub mod SurveyLaws
 pub mod PartLaws
+pub mod NameLaws
+pub mod ComponentLaws

@@ -1,9 +1,10 @@
 -- What a report says of a mesh: the numbers of all of it, and those of each component.
-use Rattle.std.specs.Prelude.{ℕ, zero, suc, Bool, ◌==◌, ◌&&◌, ◌||◌, List, length, map, nat_lt, pos, ◌+ℤ◌, ◌-ℤ◌}
+use Rattle.std.specs.Prelude.{◌≡◌, ◌<◌, ℕ, zero, suc, Bool, false, slice_index, ◌==◌, ◌&&◌, ◌||◌, List, length, map, nat_lt, pos, ◌+ℤ◌, ◌-ℤ◌}
 use Rattle.std.specs.List.{filter, flat_map, list_any, count_by}
 use Rattle.iso_defs.specs.Lists.{below, least_of}
 use Rattle.iso_defs.specs.Cell.{Triangle}
 use Rattle.iso_defs.specs.Manifold.{uses}
+use Rattle.iso_base.specs.Triangles.{Mesh, triangles_of}
 use Rattle.mesh_report.specs.declared.part.Part.{Part}
 
 -- whether both vertices are corners of the triangle
@@ -27,6 +28,14 @@ reaches n ts (suc k) v w = v == w || list_any (λ u. are_joined ts v u && reache
 -- so the bound leaves no way out (component_is, in proofs/Reach.antt).
 unfoldable pub component : ℕ → List Triangle → ℕ → ℕ
 component n ts v = least_of (filter (reaches n ts n v) (below n))
+
+-- of triangles as the code holds them: the component of each vertex
+abbrev pub component_of_each : Mesh → List ℕ
+component_of_each m = map (component m.vertex_count (triangles_of m.triangles)) (below m.vertex_count)
+
+-- a vertex that no triangle uses is its own component
+abbrev pub IsItselfUnused : List Triangle → List ℕ → Type 0
+IsItselfUnused ts ks = (v : ℕ) → v < length ks → list_any (uses v) ts ≡ false → slice_index ks v ≡ v
 
 -- the vertices that a triangle uses, of those below n
 abbrev pub used : ℕ → List Triangle → List ℕ

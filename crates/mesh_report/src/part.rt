@@ -71,3 +71,12 @@ impl Report {
         self.parts.values().as_slice()
     }
 }
+
+/// The report on a mesh, and the component of each of its vertices.
+#[derive(Debug, Drop)]
+pub struct Survey {
+    /// The numbers of the mesh and of its components.
+    pub report: Report,
+    /// For each vertex the least vertex to which edges lead from it.
+    pub components: Vec<u32>,
+}

@@ -1,4 +1,4 @@
-use Rattle.std.proofs.Common.{rules, ◌≡◌, ℕ, ◌+◌, ◌<◌, false, List, length, map, replicate, nat_lt, arith, sym, subst, ap, ◌∙◌}
+use Rattle.std.proofs.Common.{rules, ◌≡◌, ℕ, ◌+◌, ◌<◌, ◌≤◌, false, List, length, map, drop, replicate, nat_lt, arith, sym, subst, ap, ◌∙◌}
 use Rattle.std.specs.List.{All, AllByRecursion}
 use Rattle.std.specs.Map.{keys_of, values_of}
 use Rattle.std.proofs.lemmas.Bool.{le-ltb}
@@ -11,8 +11,10 @@ use Rattle.iso_base.specs.Triangles.{IsBelow, triangles_of}
 use Rattle.arc_rings.proofs.ArcLaws.{all_of, length_is}
 use Rattle.mesh_report.specs.declared.part.Part.{Part}
 use Rattle.mesh_report.specs.Report.{component, components, part_of, total_of}
+use Rattle.mesh_report.specs.Survey.{with_name}
 use Rattle.mesh_report.specs.Walks.{Grows, is_seen}
 use Rattle.mesh_report.proofs.WalkLaws.{grows_see, walked_grows}
+use Rattle.mesh_report.proofs.NameLaws.{AreNamed, all_named, continues_long, continues_walk, length-with_name, names_next}
 use Rattle.mesh_report.proofs.SurveyLaws.{Counts, Stepped, survey_step, rings_size, are_rings, rises, total_rises, tally_counts, total_is, components_all, components_below, parts_with, parts_without, nothing_seen, nothing_marked, walk_start}
 use Rattle.mesh_report.proofs.survey.survey.Goals as goal
 use Rattle.mesh_report.proofs.survey.survey.Goals.{then-before-tally+in_ok-add_part, else-before-tally}
@@ -32,6 +34,8 @@ loop-start-init c =
       walked = walk_start c.args.rings.now c.as_mut_slice-seen.result.now c.in_ok-queue.queue.items c.new-tally.result k none c.in_ok-queue.ensures.items c.new-tally.ensures;
       all = search rules;
       seen = λ v l. none v ∙ sym (le-ltb (component c.args.mesh.now.vertex_count (triangles_of c.args.mesh.now.triangles) v) 0 (omega arith));
+      size = c.requires.names;
+      names = λ v l m. absurd (omega arith);
       named = subst (λ (es : List (ℕ × Part)). All (λ v. v < 0) (keys_of es)) (sym c.new-parts.ensures.empty) (All-nil (λ v. v < 0));
       parts = ap values_of c.new-parts.ensures.empty;
     }
@@ -81,6 +85,9 @@ loop-start-preserved c =
     let d : AllByRecursion HasThreeCorners ts = all_of HasThreeCorners c.args.mesh.now.triangles c.requires.different in
     let b : AllByRecursion (IsBelow n) ts = all_of (IsBelow n) c.args.mesh.now.triangles c.vertex_count-vertices.ensures.mesh in
     let inside : c.loop-start.start < n = omega (arith, c.vertex_count-vertices.ensures.value) in
+    let size : length c.args.rings.now ≡ n = rings_size n ts d b c.args.rings.now c.requires.rings in
+    let same : length c.loop-start.seen ≡ length c.args.rings.now = c.loop-start.invariant.walked.size in
+    let low : c.loop-start.start < length c.loop-start.seen = omega arith in
     let h : Stepped n ts d b c.args.rings.now c.requires.rings c.loop-start.start c.loop-start.tally c.in_ok-tally.tally c.walk_on.new.seen
     = survey_step n ts d b c.args.rings.now c.requires.rings c.loop-start.start inside c.loop-start.seen c.loop-start.queue.items c.loop-start.tally
     c.loop-start.invariant.walked c.loop-start.invariant.all c.loop-start.invariant.seen c.see.new.seen c.in_ok-see.ensures.seen c.walk_on.new.seen c.walk_on.new.queue.items c.in_ok-tally.tally
@@ -90,6 +97,13 @@ loop-start-preserved c =
       walked = c.in_ok-tally.ensures.walked;
       all = c.in_ok-tally.ensures.all;
       seen = h.at;
+      size = ap length c.name_from.ensures ∙ (length-with_name c.loop-start.names (drop c.loop-start.tally.walked c.as_slice.result.now) c.loop-start.start ∙ c.loop-start.invariant.size);
+      names = subst (AreNamed n ts (c.loop-start.start + 1)) (sym c.name_from.ensures)
+          (subst (λ q. AreNamed n ts (c.loop-start.start + 1) (with_name c.loop-start.names (drop c.loop-start.tally.walked q) c.loop-start.start)) (sym c.as_slice.ensures.value)
+          (names_next n ts c.args.rings.now c.loop-start.start c.loop-start.seen c.walk_on.new.seen c.loop-start.queue.items c.walk_on.new.queue.items c.loop-start.tally c.in_ok-tally.tally
+          c.loop-start.invariant.walked c.in_ok-tally.ensures.walked c.loop-start.invariant.seen h.at
+          (continues_walk c.loop-start.seen c.loop-start.queue.items c.loop-start.start low c.see.new.queue.items c.walk_on.new.queue.items c.in_ok-see.ensures.queue c.in_ok-tally.ensures.queue)
+          c.loop-start.invariant.all c.loop-start.names c.loop-start.invariant.size c.loop-start.invariant.names));
       named = elim c.if-before-tally.branch [
         | then-before-tally+in_ok-add_part w ↦
             let least : w.part_between.result.least ≡ c.loop-start.start = ap (λ (p : Part). p.least) w.part_between.ensures in
@@ -127,8 +141,8 @@ part_between-requires-2 c =
     total_rises n ts d b c.args.rings.now c.requires.rings c.new.result c.loop-start.tally c.new.ensures c.loop-start.start x (omega (arith, c.requires.count))
     c.loop-start.invariant.walked.few c.loop-start.invariant.walked.less
 
-pub returns : goal.returns
-returns c =
+pub returns-clause-report : goal.returns-clause-report
+returns-clause-report c =
     let n : ℕ = c.args.mesh.now.vertex_count in
     let ts : List Triangle = triangles_of c.args.mesh.now.triangles in
     let d : AllByRecursion HasThreeCorners ts = all_of HasThreeCorners c.args.mesh.now.triangles c.requires.different in
@@ -142,3 +156,34 @@ returns c =
     = c.loop-start.invariant.parts ∙ ap (map (part_of n ts)) (ap (components_below n ts) last ∙ components_all n ts) in
     c.new-2.ensures
     ∙ (ap (λ x. record { total = x; parts = values c.loop-start.parts }) t ∙ ap (λ x. record { total = total_of n ts; parts = x }) p)
+
+pub returns-clause-names : goal.returns-clause-names
+returns-clause-names c =
+    let n : ℕ = c.args.mesh.now.vertex_count in
+    let ts : List Triangle = triangles_of c.args.mesh.now.triangles in
+    let last : c.loop-start.start ≡ n = omega (arith, c.vertex_count-vertices.ensures.value) in
+    all_named n ts c.loop-start.names c.loop-start.invariant.size (subst (λ s. AreNamed n ts s c.loop-start.names) last c.loop-start.invariant.names)
+
+pub name_from-requires-clause-from : goal.name_from-requires-clause-from
+name_from-requires-clause-from c =
+    let n : ℕ = c.args.mesh.now.vertex_count in
+    let ts : List Triangle = triangles_of c.args.mesh.now.triangles in
+    let d : AllByRecursion HasThreeCorners ts = all_of HasThreeCorners c.args.mesh.now.triangles c.requires.different in
+    let b : AllByRecursion (IsBelow n) ts = all_of (IsBelow n) c.args.mesh.now.triangles c.vertex_count-vertices.ensures.mesh in
+    let size : length c.args.rings.now ≡ n = rings_size n ts d b c.args.rings.now c.requires.rings in
+    let same : length c.loop-start.seen ≡ length c.args.rings.now = c.loop-start.invariant.walked.size in
+    let low : c.loop-start.start < length c.loop-start.seen = omega (arith, c.vertex_count-vertices.ensures.value) in
+    let k : length c.loop-start.queue.items ≤ length c.walk_on.new.queue.items
+    = continues_long c.loop-start.queue.items c.walk_on.new.queue.items
+    (continues_walk c.loop-start.seen c.loop-start.queue.items c.loop-start.start low c.see.new.queue.items c.walk_on.new.queue.items c.in_ok-see.ensures.queue c.in_ok-tally.ensures.queue) in
+    omega (arith, ap length c.as_slice.ensures.value, c.loop-start.invariant.all)
+
+pub name_from-requires-clause-inside : goal.name_from-requires-clause-inside
+name_from-requires-clause-inside c =
+    let n : ℕ = c.args.mesh.now.vertex_count in
+    let ts : List Triangle = triangles_of c.args.mesh.now.triangles in
+    let d : AllByRecursion HasThreeCorners ts = all_of HasThreeCorners c.args.mesh.now.triangles c.requires.different in
+    let b : AllByRecursion (IsBelow n) ts = all_of (IsBelow n) c.args.mesh.now.triangles c.vertex_count-vertices.ensures.mesh in
+    let size : length c.args.rings.now ≡ n = rings_size n ts d b c.args.rings.now c.requires.rings in
+    let m : length c.loop-start.names ≡ length c.args.rings.now = c.loop-start.invariant.size ∙ sym size in
+    subst (λ k. All (λ v. v < k) c.as_slice.result.now) (sym m) (subst (All (λ v. v < length c.args.rings.now)) (sym c.as_slice.ensures.value) c.in_ok-tally.ensures.walked.inside)
