@@ -12,7 +12,7 @@ use iso_io::{Failed, Sink, write_all_of};
 
 /// Writes the line of a vertex from a place on, and says where it ends.
 #[inline(always)]
-pub fn write_obj_vertex(vertex: &[Thousandth; 3], room: &mut [u8], at: usize) -> usize
+pub(crate) fn write_obj_vertex(vertex: &[Thousandth; 3], room: &mut [u8], at: usize) -> usize
     requires x { unsigned_abs (along vertex.now 0) < 2 ^ 44 }
     requires y { unsigned_abs (along vertex.now 1) < 2 ^ 44 }
     requires z { unsigned_abs (along vertex.now 2) < 2 ^ 44 }
@@ -50,7 +50,7 @@ pub fn put_obj_vertex<K: Sink>(sink: &mut K, at: [Thousandth; 3]) -> Result<(), 
 
 /// Writes the line of a face from a place on, and says where it ends.
 #[inline(always)]
-pub fn write_obj_face(corners: &[u32; 3], room: &mut [u8], at: usize) -> usize
+pub(crate) fn write_obj_face(corners: &[u32; 3], room: &mut [u8], at: usize) -> usize
     requires space { at + 64 ≤ length room.old }
     ensures end { result ≤ at + 64 }
     ensures behind { at ≤ result }
