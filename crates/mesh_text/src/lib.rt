@@ -6,11 +6,13 @@ mod digits;
 mod format;
 mod head;
 mod line;
+mod lines;
 mod obj;
 mod ply;
 
 pub use format::TwoWayFormat;
 pub use head::{ply_head_text, points_head_text, put_ply_head, put_points_head};
 pub use line::Line;
+pub use lines::Lines;
 pub use obj::{obj_face_text, obj_vertex_text, put_obj_face, put_obj_vertex};
 pub use ply::{ply_face_text, ply_vertex_text, put_ply_face, put_ply_vertex};

@@ -5,31 +5,30 @@ use std::marker::Model;
 /// The bytes of a line, its end included.
 #[derive(Drop)]
 pub struct Line {
-    // A line is written from its end towards its start, in room for the longest one.
     bytes: [u8; 64],
-    start: usize,
+    end: usize,
 }
 
 impl Model for Line {
-    ghost use Rattle.std.specs.Prelude.{ℕ, List, drop, ◌≤◌};
+    ghost use Rattle.std.specs.Prelude.{ℕ, List, take, ◌≤◌};
 
     ghost Value = { List ℕ };
 
-    ghost view = { λ l. drop l.start l.bytes };
+    ghost view = { λ l. take l.end l.bytes };
 
-    ghost invariant = { λ l. l.start ≤ 64 };
+    ghost invariant = { λ l. l.end ≤ 64 };
 }
 
 impl Line {
-    ghost use Rattle.std.specs.Prelude.{drop, ◌≤◌};
+    ghost use Rattle.std.specs.Prelude.{take, ◌≤◌};
 
-    /// The line that stands at the end of the bytes.
+    /// The line that stands at the front of the bytes.
     #[inline(always)]
-    pub(crate) fn from_end(bytes: [u8; 64], start: usize) -> Line
-        requires { start ≤ 64 }
-        ensures { result ≡ drop start bytes }
+    pub(crate) fn of(bytes: [u8; 64], end: usize) -> Line
+        requires { end ≤ 64 }
+        ensures { result ≡ take end bytes }
     {
-        Line { bytes, start }
+        Line { bytes, end }
     }
 
     /// The bytes.
@@ -38,6 +37,6 @@ impl Line {
         ensures value { result.now ≡ self.now }
         ensures short { length self.now ≤ 64 }
     {
-        &self.bytes[self.start..]
+        &self.bytes[..self.end]
     }
 }

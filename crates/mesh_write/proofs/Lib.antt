@@ -1,4 +1,5 @@
-pub mod Placing
 pub mod Crossings
+pub mod Placing
 pub mod Rows
 pub mod Scratches
+pub mod Waiting

@@ -1,6 +1,7 @@
 //! Meshes and points written as texts to a sink, in blocks of 32 KiB and more.
 #![tactic(auto)]
 
+mod gathered;
 mod mesh;
 mod points;
 

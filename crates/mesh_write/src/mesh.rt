@@ -1,17 +1,16 @@
 //! A mesh as a PLY or an OBJ text.
 
-ghost use Rattle.std.specs.Prelude.{◌≡◌, ◌*◌, ◌<◌, ◌≤◌, ◌^◌, ◌++◌, ℕ, [], length, get_or, pos, unsigned_abs, IfOk};
+ghost use Rattle.std.specs.Prelude.{◌≡◌, ◌+◌, ◌*◌, ◌<◌, ◌≤◌, ◌^◌, ◌++◌, ℕ, [], length, get_or, pos, unsigned_abs, IfOk};
 ghost use Rattle.iso_defs.specs.Texts.{printed};
 ghost use Rattle.iso_io.specs.Seen.{Puts, Stages};
 ghost use Rattle.mesh_text.specs.Lines.{along, ply_head};
 ghost use Rattle.mesh_write.specs.Mesh.{vertex_line, face_line, vertex_lines, face_lines, head_of, text_of, written_of};
 
+use crate::gathered::{make_room, stage_gathered};
 use flat_mesh::Mesh;
 use iso_base::{Thousandth, Written};
 use iso_io::{Failed, Sink, stage, write_all_of};
-use mesh_text::{
-    Line, TwoWayFormat, obj_face_text, obj_vertex_text, ply_face_text, ply_head_text, ply_vertex_text,
-};
+use mesh_text::{Lines, TwoWayFormat, ply_head_text};
 
 /// A pad's layer along an axis, in thousandths.
 const LAYER: i64 = 1000;
@@ -47,33 +46,82 @@ fn printed_position(at: &[Thousandth; 3], padded: bool) -> [Thousandth; 3]
     ]
 }
 
-/// The line of a vertex.
+/// Puts the line of a vertex behind those that are gathered.
 #[tactic(auto, unfolding(crate::specs::Mesh::vertex_line))]
 #[inline(always)]
-fn vertex_text(mesh: &Mesh, format: TwoWayFormat, padded: bool, i: u32) -> Line
-    requires { i < length mesh.now.vertex_list }
-    ensures { result ≡ vertex_line format padded (get_or mesh.now.vertex_list i (0, (0, 0, 0))) }
+fn gather_vertex(mesh: &Mesh, format: TwoWayFormat, padded: bool, i: u32, lines: &mut Lines)
+    requires number { i < length mesh.now.vertex_list }
+    requires room { length lines.old + 64 ≤ 4096 }
+    ensures line { lines.new ≡ lines.old ++ vertex_line format padded (get_or mesh.now.vertex_list i (0, (0, 0, 0))) }
+    ensures few { length lines.new ≤ length lines.old + 64 }
 {
     let (_, at) = mesh.vertex(i);
     let at = printed_position(&at, padded);
     match format {
-        TwoWayFormat::Ply => ply_vertex_text(&at),
-        TwoWayFormat::Obj => obj_vertex_text(&at),
+        TwoWayFormat::Ply => lines.push_ply_vertex(&at),
+        TwoWayFormat::Obj => lines.push_obj_vertex(&at),
     }
 }
 
-/// The line of a triangle.
+/// Puts the line of a triangle behind those that are gathered.
 #[tactic(auto, unfolding(crate::specs::Mesh::face_line))]
 #[inline(always)]
-fn face_text(mesh: &Mesh, format: TwoWayFormat, i: u32) -> Line
-    requires { i < length mesh.now.triangle_list }
-    ensures { result ≡ face_line format (get_or mesh.now.triangle_list i (0, 0, 0)) }
+fn gather_face(mesh: &Mesh, format: TwoWayFormat, i: u32, lines: &mut Lines)
+    requires number { i < length mesh.now.triangle_list }
+    requires room { length lines.old + 64 ≤ 4096 }
+    ensures line { lines.new ≡ lines.old ++ face_line format (get_or mesh.now.triangle_list i (0, 0, 0)) }
+    ensures few { length lines.new ≤ length lines.old + 64 }
 {
     let corners = mesh.triangle(i);
     match format {
-        TwoWayFormat::Ply => ply_face_text(&corners),
-        TwoWayFormat::Obj => obj_face_text(&corners),
+        TwoWayFormat::Ply => lines.push_ply_face(&corners),
+        TwoWayFormat::Obj => lines.push_obj_face(&corners),
     }
+}
+
+/// Puts the line of a vertex behind those that are gathered and wait, and counts its bytes.
+#[inline(always)]
+fn stage_vertex<K: Sink>(
+    sink: &mut K,
+    waiting: &mut Vec<u8>,
+    lines: &mut Lines,
+    mesh: &Mesh,
+    format: TwoWayFormat,
+    padded: bool,
+    i: u32,
+) -> Result<u64, Failed>
+    requires { i < length mesh.now.vertex_list }
+    ensures staged { Stages (K.seen sink.old) (K.seen sink.new) (waiting.old.items ++ lines.old) (waiting.new.items ++ lines.new) result
+        (vertex_line format padded (get_or mesh.now.vertex_list i (0, (0, 0, 0)))) }
+    ensures bytes { IfOk result (λ n. n ≡ length (vertex_line format padded (get_or mesh.now.vertex_list i (0, (0, 0, 0))))) }
+    ensures few { IfOk result (λ n. n ≤ 64) }
+{
+    make_room(sink, waiting, lines)?;
+    let before = lines.len();
+    gather_vertex(mesh, format, padded, i, lines);
+    Ok((lines.len() - before) as u64)
+}
+
+/// Puts the line of a triangle behind those that are gathered and wait, and counts its bytes.
+#[inline(always)]
+fn stage_face<K: Sink>(
+    sink: &mut K,
+    waiting: &mut Vec<u8>,
+    lines: &mut Lines,
+    mesh: &Mesh,
+    format: TwoWayFormat,
+    i: u32,
+) -> Result<u64, Failed>
+    requires { i < length mesh.now.triangle_list }
+    ensures staged { Stages (K.seen sink.old) (K.seen sink.new) (waiting.old.items ++ lines.old) (waiting.new.items ++ lines.new) result
+        (face_line format (get_or mesh.now.triangle_list i (0, 0, 0))) }
+    ensures bytes { IfOk result (λ n. n ≡ length (face_line format (get_or mesh.now.triangle_list i (0, 0, 0)))) }
+    ensures few { IfOk result (λ n. n ≤ 64) }
+{
+    make_room(sink, waiting, lines)?;
+    let before = lines.len();
+    gather_face(mesh, format, i, lines);
+    Ok((lines.len() - before) as u64)
 }
 
 /// Puts a text behind what waits, and counts its bytes.
@@ -86,15 +134,6 @@ fn stage_text<K: Sink>(sink: &mut K, waiting: &mut Vec<u8>, text: &[u8]) -> Resu
         Ok(()) => Ok(text.len() as u64),
         Err(Failed) => Err(Failed),
     }
-}
-
-#[inline(always)]
-fn stage_line<K: Sink>(sink: &mut K, waiting: &mut Vec<u8>, line: &Line) -> Result<u64, Failed>
-    ensures staged { Stages (K.seen sink.old) (K.seen sink.new) waiting.old.items waiting.new.items result line.now }
-    ensures bytes { IfOk result (λ n. n ≡ length line.now) }
-    ensures few { IfOk result (λ n. n ≤ 64) }
-{
-    stage_text(sink, waiting, line.as_bytes())
 }
 
 fn stage_ply_head<K: Sink>(
@@ -135,17 +174,19 @@ fn stage_head<K: Sink>(
 fn stage_vertices<K: Sink>(
     sink: &mut K,
     waiting: &mut Vec<u8>,
+    lines: &mut Lines,
     mesh: &Mesh,
     format: TwoWayFormat,
     padded: bool,
 ) -> Result<u64, Failed>
-    ensures staged { Stages (K.seen sink.old) (K.seen sink.new) waiting.old.items waiting.new.items result (vertex_lines format padded mesh.now.vertex_list) }
+    ensures staged { Stages (K.seen sink.old) (K.seen sink.new) (waiting.old.items ++ lines.old) (waiting.new.items ++ lines.new) result
+        (vertex_lines format padded mesh.now.vertex_list) }
     ensures bytes { IfOk result (λ n. n ≡ length (vertex_lines format padded mesh.now.vertex_list)) }
     ensures few { IfOk result (λ n. n ≤ 2 ^ 38) }
 {
     let mut bytes = 0;
     for i in 0..mesh.vertex_count() {
-        bytes += stage_line(sink, waiting, &vertex_text(mesh, format, padded, i))?;
+        bytes += stage_vertex(sink, waiting, lines, mesh, format, padded, i)?;
     }
     Ok(bytes)
 }
@@ -153,16 +194,18 @@ fn stage_vertices<K: Sink>(
 fn stage_faces<K: Sink>(
     sink: &mut K,
     waiting: &mut Vec<u8>,
+    lines: &mut Lines,
     mesh: &Mesh,
     format: TwoWayFormat,
 ) -> Result<u64, Failed>
-    ensures staged { Stages (K.seen sink.old) (K.seen sink.new) waiting.old.items waiting.new.items result (face_lines format mesh.now.triangle_list) }
+    ensures staged { Stages (K.seen sink.old) (K.seen sink.new) (waiting.old.items ++ lines.old) (waiting.new.items ++ lines.new) result
+        (face_lines format mesh.now.triangle_list) }
     ensures bytes { IfOk result (λ n. n ≡ length (face_lines format mesh.now.triangle_list)) }
     ensures few { IfOk result (λ n. n ≤ 2 ^ 38) }
 {
     let mut bytes = 0;
     for i in 0..mesh.triangle_count() {
-        bytes += stage_line(sink, waiting, &face_text(mesh, format, i))?;
+        bytes += stage_face(sink, waiting, lines, mesh, format, i)?;
     }
     Ok(bytes)
 }
@@ -179,8 +222,10 @@ fn stage_lines<K: Sink>(
     ensures bytes { IfOk result (λ n. n ≡ length (vertex_lines format padded mesh.now.vertex_list ++ face_lines format mesh.now.triangle_list)) }
     ensures few { IfOk result (λ n. n ≤ 2 ^ 39) }
 {
-    let vertices = stage_vertices(sink, waiting, mesh, format, padded)?;
-    let faces = stage_faces(sink, waiting, mesh, format)?;
+    let mut lines = Lines::new();
+    let vertices = stage_vertices(sink, waiting, &mut lines, mesh, format, padded)?;
+    let faces = stage_faces(sink, waiting, &mut lines, mesh, format)?;
+    stage_gathered(sink, waiting, &mut lines)?;
     Ok(vertices + faces)
 }
 

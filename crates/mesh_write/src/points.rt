@@ -6,10 +6,11 @@ ghost use Rattle.iso_io.specs.Seen.{Puts, Stages};
 ghost use Rattle.mesh_text.specs.Lines.{along, points_head};
 ghost use Rattle.mesh_write.specs.Edges.{ArePlaced, placed_line, placed_lines};
 
+use crate::gathered::{make_room, put_gathered};
 use crossing_edges::{EdgeVertices, position_on};
 use iso_base::{Sizes, Thousandth};
-use iso_io::{Failed, Sink, stage, write_all_of};
-use mesh_text::{ply_vertex_text, points_head_text};
+use iso_io::{Failed, Sink, write_all_of};
+use mesh_text::{Lines, points_head_text};
 
 fn coordinate(at: &[u32; 3], axis: usize) -> Thousandth
     requires { axis < 3 }
@@ -30,20 +31,37 @@ fn thousandths(at: &[u32; 3]) -> [Thousandth; 3]
     [coordinate(at, 0), coordinate(at, 1), coordinate(at, 2)]
 }
 
+/// Puts the line of a vertex behind those that are gathered.
+#[inline(always)]
 #[tactic(auto, unfolding(crate::specs::Edges::placed_line))]
+fn gather_vertex(sizes: &Sizes, name: u32, place: u16, lines: &mut Lines)
+    requires name { name < name_bound sizes.now }
+    requires place { place ≤ 1000 }
+    requires room { length lines.old + 64 ≤ 4096 }
+    ensures { lines.new ≡ lines.old ++ placed_line sizes.now name place }
+{
+    let at = position_on(sizes, name, place);
+    lines.push_ply_vertex(&thousandths(&at));
+}
+
+/// Puts the line of a vertex behind those that are gathered and wait.
+#[inline(always)]
 fn stage_vertex<K: Sink>(
     sink: &mut K,
     waiting: &mut Vec<u8>,
+    lines: &mut Lines,
     sizes: &Sizes,
     name: u32,
     place: u16,
 ) -> Result<(), Failed>
     requires name { name < name_bound sizes.now }
     requires place { place ≤ 1000 }
-    ensures { Stages (K.seen sink.old) (K.seen sink.new) waiting.old.items waiting.new.items result (placed_line sizes.now name place) }
+    ensures { Stages (K.seen sink.old) (K.seen sink.new) (waiting.old.items ++ lines.old) (waiting.new.items ++ lines.new) result
+        (placed_line sizes.now name place) }
 {
-    let at = position_on(sizes, name, place);
-    stage(sink, waiting, ply_vertex_text(&thousandths(&at)).as_bytes())
+    make_room(sink, waiting, lines)?;
+    gather_vertex(sizes, name, place, lines);
+    Ok(())
 }
 
 fn put_vertices<K: Sink>(
@@ -57,10 +75,11 @@ fn put_vertices<K: Sink>(
     requires placed { ArePlaced sizes.now names.now places.now }
     ensures { Puts (K.seen sink.old) (K.seen sink.new) result (placed_lines sizes.now names.now places.now) }
 {
+    let mut lines = Lines::new();
     for i in 0..names.len() {
-        stage_vertex(sink, waiting, sizes, names[i], places[i])?;
+        stage_vertex(sink, waiting, &mut lines, sizes, names[i], places[i])?;
     }
-    write_all_of(sink, waiting)
+    put_gathered(sink, waiting, &lines)
 }
 
 fn put_head<K: Sink>(sink: &mut K, vertices: u32) -> Result<(), Failed>

@@ -7,11 +7,8 @@ use Rattle.mesh_write.proofs.mesh.stage_faces.Goals as goal
 pub returns-in_err-bytes-clause-staged : goal.returns-in_err-bytes-clause-staged
 returns-in_err-bytes-clause-staged g c =
     let p = err_from_is_err_and c.from_residual.result c.from_residual.ensures.1 in
-    let s = rw c.face_text.ensures at c.in_err-bytes.ensures.staged in
-    rw p.1 (lines_failed (face_line c.args.format) c.args.mesh.now.triangle_list _ _ _ _ _ _ _ _ c.loop-i.i (0, 0, 0) _ _ (omega (arith, c.loop-i-test.true, c.triangle_count-i-end.ensures)) c.loop-i.invariant s)
+    rw p.1 (lines_failed (face_line c.args.format) c.args.mesh.now.triangle_list _ _ _ _ _ _ _ _ c.loop-i.i (0, 0, 0) _ _ (omega (arith, c.loop-i-test.true, c.triangle_count-i-end.ensures)) c.loop-i.invariant c.in_err-bytes.ensures.staged)
 
 pub loop-i-preserved : goal.loop-i-preserved
 loop-i-preserved g c =
-    let s = rw c.face_text.ensures at c.in_ok-bytes.ensures.staged in
-    let n = rw c.face_text.ensures at c.in_ok-bytes.ensures.bytes in
-    lines_more (face_line c.args.format) c.args.mesh.now.triangle_list _ _ _ _ _ _ c.loop-i.bytes c.loop-i.i c.in_ok-bytes.field-0 (0, 0, 0) (omega (arith, c.loop-i-test.true, c.triangle_count-i-end.ensures)) c.loop-i.invariant s n c.in_ok-bytes.ensures.few
+    lines_more (face_line c.args.format) c.args.mesh.now.triangle_list _ _ _ _ _ _ c.loop-i.bytes c.loop-i.i c.in_ok-bytes.field-0 (0, 0, 0) (omega (arith, c.loop-i-test.true, c.triangle_count-i-end.ensures)) c.loop-i.invariant c.in_ok-bytes.ensures.staged c.in_ok-bytes.ensures.bytes c.in_ok-bytes.ensures.few

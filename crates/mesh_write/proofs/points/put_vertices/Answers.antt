@@ -1,3 +1,4 @@
+use Rattle.std.proofs.Common.{ℕ, List, ◌++◌, ap}
 use Rattle.std.proofs.lemmas.Result.{err_from_is_err_and}
 use Rattle.mesh_write.proofs.Placing.{vertex_staged, vertex_failed, vertices_put}
 use Rattle.mesh_write.proofs.points.put_vertices.Goals as goal
@@ -13,4 +14,5 @@ loop-i-preserved g c =
 
 pub returns : goal.returns
 returns g c =
-    vertices_put c.args.sizes.now c.args.names.now c.args.places.now c.requires.placed.same_length c.loop-i.i _ _ _ _ _ _ _ c.loop-i-test.false c.loop-i.invariant c.deref.ensures.value c.write_all_of.ensures
+    vertices_put c.args.sizes.now c.args.names.now c.args.places.now c.requires.placed.same_length c.loop-i.i _ _ _ _ _ _ _ c.loop-i-test.false c.loop-i.invariant
+    (ap (λ (l : List ℕ). l ++ c.loop-i.lines) c.deref.ensures.value) c.put_gathered.ensures

@@ -1,0 +1,119 @@
+ghost use Rattle.std.specs.Prelude.{◌≡◌, ◌+◌, ◌<◌, ◌≤◌, ◌^◌, ◌++◌, [], IsTrue, length, unsigned_abs};
+ghost use Rattle.mesh_text.specs.Lines.{along, obj_face_line, obj_vertex_line, ply_face_line, ply_vertex_line};
+
+use crate::obj::{write_obj_face, write_obj_vertex};
+use crate::ply::{write_ply_face, write_ply_vertex};
+use iso_base::Thousandth;
+use std::marker::Model;
+
+/// The bytes of some lines.
+const PAGE: usize = 4096;
+
+/// Lines one behind another, each written where it stays until all are taken. Contracts see their bytes, which are at
+/// most 4,096.
+#[derive(Drop)]
+pub struct Lines {
+    bytes: [u8; PAGE],
+    end: usize,
+}
+
+impl Model for Lines {
+    ghost use Rattle.std.specs.Prelude.{ℕ, List, take, ◌≤◌};
+
+    ghost Value = { List ℕ };
+
+    ghost view = { λ l. take l.end l.bytes };
+
+    ghost invariant = { λ l. l.end ≤ 4096 };
+}
+
+impl Lines {
+    /// No lines.
+    pub fn new() -> Lines
+        ensures { result ≡ [] }
+    {
+        Lines {
+            bytes: [0; PAGE],
+            end: 0,
+        }
+    }
+
+    /// The bytes.
+    #[inline(always)]
+    pub fn as_bytes(&self) -> &[u8]
+        ensures { result.now ≡ self.now }
+    {
+        &self.bytes[..self.end]
+    }
+
+    /// How many bytes there are.
+    #[inline(always)]
+    pub fn len(&self) -> usize
+        ensures value { result ≡ length self.now }
+        ensures bound { result ≤ 4096 }
+    {
+        self.end
+    }
+
+    /// Whether there is room for one more line.
+    #[inline(always)]
+    pub fn has_room(&self) -> bool
+        ensures { IsTrue result → length self.now + 64 ≤ 4096 }
+    {
+        self.end <= PAGE - 64
+    }
+
+    /// Lets all lines go.
+    #[inline(always)]
+    pub fn clear(&mut self)
+        ensures { self.new ≡ [] }
+    {
+        self.end = 0;
+    }
+
+    /// Puts the line of a vertex in PLY behind the others.
+    #[inline(always)]
+    pub fn push_ply_vertex(&mut self, vertex: &[Thousandth; 3])
+        requires x { unsigned_abs (along vertex.now 0) < 2 ^ 44 }
+        requires y { unsigned_abs (along vertex.now 1) < 2 ^ 44 }
+        requires z { unsigned_abs (along vertex.now 2) < 2 ^ 44 }
+        requires room { length self.old + 64 ≤ 4096 }
+        ensures line { self.new ≡ self.old ++ ply_vertex_line vertex.now }
+        ensures few { length self.new ≤ length self.old + 64 }
+    {
+        self.end = write_ply_vertex(vertex, &mut self.bytes, self.end);
+    }
+
+    /// Puts the line of a vertex in OBJ behind the others.
+    #[inline(always)]
+    pub fn push_obj_vertex(&mut self, vertex: &[Thousandth; 3])
+        requires x { unsigned_abs (along vertex.now 0) < 2 ^ 44 }
+        requires y { unsigned_abs (along vertex.now 1) < 2 ^ 44 }
+        requires z { unsigned_abs (along vertex.now 2) < 2 ^ 44 }
+        requires room { length self.old + 64 ≤ 4096 }
+        ensures line { self.new ≡ self.old ++ obj_vertex_line vertex.now }
+        ensures few { length self.new ≤ length self.old + 64 }
+    {
+        self.end = write_obj_vertex(vertex, &mut self.bytes, self.end);
+    }
+
+    /// Puts the line of a face in PLY behind the others.
+    #[inline(always)]
+    pub fn push_ply_face(&mut self, corners: &[u32; 3])
+        requires room { length self.old + 64 ≤ 4096 }
+        ensures line { self.new ≡ self.old ++ ply_face_line corners.now }
+        ensures few { length self.new ≤ length self.old + 64 }
+    {
+        self.end = write_ply_face(corners, &mut self.bytes, self.end);
+    }
+
+    /// Puts the line of a face in OBJ behind the others. Its corners are handed in counted from 0.
+    #[inline(always)]
+    pub fn push_obj_face(&mut self, corners: &[u32; 3])
+        requires room { length self.old + 64 ≤ 4096 }
+        ensures line { self.new ≡ self.old ++ obj_face_line corners.now }
+        ensures few { length self.new ≤ length self.old + 64 }
+    {
+        self.end = write_obj_face(corners, &mut self.bytes, self.end);
+    }
+}
