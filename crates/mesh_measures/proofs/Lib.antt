@@ -1,0 +1,3 @@
+pub mod PositionLaws
+pub mod Triangles
+pub mod MeshLaws

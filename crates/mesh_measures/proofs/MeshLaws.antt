@@ -1,0 +1,54 @@
+-- The measures of a list of triangles that is the mesh of a volume.
+use Rattle.std.proofs.Common.{◌≡◌, ℕ, List, [], ◌∷◌, map, length, sym, subst, All, ℤ, is_some, Result, IfOk}
+use Rattle.std.specs.List.{AllByRecursion}
+use Rattle.std.proofs.lemmas.Result.{IfOk-weaker}
+use Rattle.std.proofs.lemmas.List.Elements.{All-from_recursion}
+use Rattle.iso_defs.specs.Cell.{Triangle}
+use Rattle.iso_defs.specs.Manifold.{HasThreeCorners, IsManifold}
+use Rattle.iso_defs.specs.Scratch.{triangles, vertices}
+use Rattle.iso_base.specs.Shifted.{field}
+use Rattle.iso_base.specs.Volume.{IsVolume, Volume}
+use Rattle.iso_base.proofs.VolumeLaws.{grid_is_solid, pad_is_below}
+use Rattle.iso_defs.specs.Verdict.{IsVerdict, border_count}
+use Rattle.iso_defs.specs.Verdict.Verdict.{Closed}
+use Rattle.mesh_laws.proofs.Padded.{closed}
+use Rattle.fan_laws.specs.Padded.{HasPadBelow}
+use Rattle.mesh_report.specs.Report.{components}
+use Rattle.measure_laws.specs.Vectors.{Vector}
+use Rattle.measure.specs.declared.share.Share.{Share}
+use Rattle.measure.specs.Positions.{position}
+use Rattle.measure.specs.Measures.{measures_of, share_of}
+use Rattle.measure.proofs.ClosedLaws.{no_border}
+use Rattle.mesh_measures.specs.Printed.{HasNoBorder, measures_at, position_in, printed_positions}
+
+module _ {E : Type 0} (r : Result (List Share) E) (v : Volume) (level : ℤ) (n : ℕ) (ts : List Triangle) (at : List (List ℤ))
+    (count : n ≡ length (vertices v.grid (field v.samples level))) (list : ts ≡ triangles v.grid (field v.samples level))
+    (places : at ≡ printed_positions (is_some v.pad) (vertices v.grid (field v.samples level))) where
+  pub measured_is : IfOk r (λ m. m ≡ measures_of n ts (position at)) → IfOk r (λ m. m ≡ measures_at v level)
+  unfolding measures_at
+  measured_is h =
+      subst (λ ps. IfOk r (λ m. m ≡ measures_of (length (vertices v.grid (field v.samples level))) (triangles v.grid (field v.samples level)) (position ps))) places
+      (subst (λ us. IfOk r (λ m. m ≡ measures_of (length (vertices v.grid (field v.samples level))) us (position at))) list
+      (subst (λ k. IfOk r (λ m. m ≡ measures_of k ts (position at))) count h))
+
+-- a part of a mesh without border edges has none
+no_borders : (n : ℕ) (ts : List Triangle) (at : ℕ → Vector) → AllByRecursion HasThreeCorners ts → border_count ts ≡ 0 → All HasNoBorder (measures_of n ts at)
+unfolding share_of
+no_borders n ts at d none = All-from_recursion HasNoBorder (measures_of n ts at) (go (components n ts))
+  where
+    one : (k : ℕ) → HasNoBorder (share_of n ts at k)
+    one k = no_border n ts d none k
+
+    go : (ks : List ℕ) → AllByRecursion HasNoBorder (map (share_of n ts at) ks)
+    go [] = tt
+    go (k ∷ ks) = (one k, go ks)
+
+-- with a pad below the level no part of the mesh of a volume has a border
+pub closed_parts : {E : Type 0} (r : Result (List Share) E) (v : Volume) (level : ℤ) → IsVolume v → HasPadBelow v level → IsManifold (triangles v.grid (field v.samples level))
+    → IfOk r (λ m. m ≡ measures_at v level) → IfOk r (λ m. All HasNoBorder m)
+unfolding measures_at
+closed_parts r v level is pad manifold h =
+    let s : ℕ → ℤ = field v.samples level in
+    let verdict : IsVerdict (triangles v.grid s) Closed = closed v.grid s (grid_is_solid is.grid) (pad_is_below v level pad.0 is pad.1 pad.2) in
+    IfOk-weaker r (λ m. m ≡ measures_of (length (vertices v.grid s)) (triangles v.grid s) (position_in v level)) (All HasNoBorder)
+    (λ m e. subst (All HasNoBorder) (sym e) (no_borders (length (vertices v.grid s)) (triangles v.grid s) (position_in v level) manifold.corners verdict.1)) h
