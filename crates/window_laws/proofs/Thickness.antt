@@ -1,5 +1,5 @@
 -- A grid is thick where no axis is thin.
-use Rattle.std.proofs.Common.{◌≡◌, ◌≤◌, ltb, inl, inr, refl, sym, ◌∙◌, arith}
+use Rattle.std.proofs.Common.{◌≡◌, ltb, inl, inr, refl, sym, ◌∙◌}
 use Rattle.std.specs.Prelude.{None, Some}
 use Rattle.std.proofs.lemmas.Bool.{cases_Bool, ltb-false}
 use Rattle.iso_defs.specs.Grid.{Grid}
