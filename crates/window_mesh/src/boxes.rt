@@ -93,6 +93,7 @@ pub fn crop(alloc: Global, store: &BrickStore, area: &FillBox) -> Result<VoxelLi
     ensures thick { OnOk result (thin_axis (window_of area.now).grid ≡ None) }
     ensures fault { IfErr result (IsFaultOf (window_of area.now).grid) }
 {
+    let _ = area.low();
     let window = window_sizes(&store.sizes(), area)?;
     let mut samples = Vec::with_capacity(alloc, window.count() as usize)?;
     for z in 0..window.nz() {
