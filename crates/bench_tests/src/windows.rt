@@ -249,7 +249,7 @@ fn check_boxes<L: Ledger>(rt: &impl Abort, alloc: Global, blank: Blank) -> Resul
         .write_ply(&mut shelf, "w", &mut steps)
         .ok()
         .ok_or("not written")?;
-    assert!(rt; written.faces > 200);
+    assert!(rt; written.faces > 100);
     let text = shelf.file("w").ok_or("no file")?;
     let whole = std::str::from_utf8(text).ok().ok_or("no text")?;
     assert_eq!(rt; boxes_apart(alloc, &bench, whole)?, 0);
