@@ -8,3 +8,4 @@ pub mod Triangles
 pub mod Touching
 pub mod Staying
 pub mod Surfaces
+pub mod Windows

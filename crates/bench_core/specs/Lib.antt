@@ -3,3 +3,4 @@ pub mod Texts
 pub mod Surface
 pub mod History
 pub mod Keeping
+pub mod Windows

@@ -7,6 +7,8 @@ ghost use Rattle.voxel_list.specs.Areas.{between};
 ghost use Rattle.edit_log.specs.Changes.{Suits, after, area_of, before, moment};
 ghost use Rattle.bench_core.specs.Machine.{IsAbovePad, IsState, IsStep, IsSureStep, area_by, begin_fault, changed, checked_level, contour_step, fill_at, fill_step, level_step, pad_fault, redo_step, set_at, set_step, undo_step};
 ghost use Rattle.bench_core.specs.Keeping.{IsRightBench, Keeps, Refreshes, fill_area, first_area, first_bench, set_area, turn_steps, waiting_bricks, without_points, write_steps};
+ghost use Rattle.bench_core.specs.Windows.{WritesWindow, window_area};
+ghost use Rattle.window_mesh.specs.Crops.{IsWindowOfMesh};
 ghost use Rattle.inner_volume.specs.Unpadded.{inner_voxels};
 ghost use Rattle.nrrd.specs.Nrrd.{nrrd_of};
 
@@ -15,11 +17,12 @@ use crate::edits::{area_change, is_in_range, one_change};
 use crate::fault::BeginFault;
 use crate::follow::follow;
 use crate::summary::mesh_numbers;
+use crate::windows::write_window;
 use brick_store::BrickStore;
 use edge_points::RowRanks;
 use edit_log::{Change, EditLog};
 use inner_volume::{place_in, plane_in, write_volume};
-use iso_base::{BenchFault, Level, Memory, Point, SampleKind, Steps, Written};
+use iso_base::{BenchFault, Level, Memory, MeshFormat, Point, SampleKind, Steps, Written};
 use iso_io::{Failed, Shelf};
 use kept_mesh::{refresh_bricks, write_mesh};
 use mesh_cache::{Capacity, MeshCache};
@@ -359,6 +362,30 @@ impl Bench {
             Ok(bytes) => Ok(bytes),
             Err(Failed) => Err(BenchFault::ShelfFailed),
         }
+    }
+
+    /// Makes the name's file the mesh of a box of two corners, x, y, z of each, in any order along each axis: as if its points
+    /// were a volume of their own, without a pad, in its place in the unpadded volume. It is the part of the whole mesh in the
+    /// box, and its cost grows with the box alone. Refused, in this order: `Outside` exactly where a corner is not in the unpadded
+    /// volume; `WindowThin` exactly where the box has fewer than two points along an axis, with the first such; `Memory`;
+    /// `ShelfFailed` only where the shelf's count of faults rose, the file then being as before or a front of the text, and all
+    /// other files as before. Before that the shelf is not touched.
+    pub fn window<H: Shelf>(
+        &self,
+        shelf: &mut H,
+        name: &str,
+        corners: [i64; 6],
+        format: MeshFormat,
+    ) -> Result<Written, BenchFault>
+        ensures window { let v = self.now.state.volume in WritesWindow v self.now.state.level (window_area v corners) format (H.seen shelf.old) (H.seen shelf.new) result name.now }
+        ensures part { let v = self.now.state.volume in OnOk result (IsSomeAnd (window_area v corners) (IsWindowOfMesh v self.now.state.level)) }
+    {
+        let [ax, ay, az, bx, by, bz] = corners;
+        let Some(area) = self.area(ax, ay, az, bx, by, bz) else {
+            return Err(BenchFault::Outside);
+        };
+        let (store, level) = (&self.store, self.level);
+        write_window(self.alloc, store, level, &area, format, shelf, name)
     }
 
     /// The contour lines of plane z = k, with stored coordinates; with a pad they go over the pad's ring too. They lie

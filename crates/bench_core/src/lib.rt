@@ -10,6 +10,7 @@ mod fault;
 mod follow;
 mod summary;
 mod surface;
+mod windows;
 
 pub use bench::Bench;
 pub use fault::BeginFault;

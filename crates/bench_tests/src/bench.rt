@@ -12,6 +12,7 @@ use std::marker::Brand;
 use std::process::Abort;
 use std::sync::ledger::{Blank, Ledger};
 use std::test::Fail;
+use volume_gen::generated;
 use voxel_list::VoxelList;
 
 const NO_FACES: &str =
@@ -55,7 +56,7 @@ fn corner(alloc: Global, sizes: Sizes) -> Result<VoxelList, Memory>
 }
 
 /// A bench on two points along each axis, of which the first has the sample 10, at level 5.
-fn bench(alloc: Global) -> Option<Bench> {
+pub fn bench(alloc: Global) -> Option<Bench> {
     let sizes = sizes()?;
     let volume = corner(alloc, sizes).ok()?;
     Bench::begin(alloc, volume, Level::new(5_000)?, Capacity::new(16, 64)?).ok()
@@ -168,7 +169,7 @@ fn dot(alloc: Global) -> Option<VoxelList>
 }
 
 /// A bench on three points along each axis, of which the one in the middle has the sample 10, at level 5.
-fn dot_bench(alloc: Global) -> Option<Bench> {
+pub fn dot_bench(alloc: Global) -> Option<Bench> {
     Bench::begin(
         alloc,
         dot(alloc)?,
@@ -179,9 +180,24 @@ fn dot_bench(alloc: Global) -> Option<Bench> {
 }
 
 /// The same with the pad 0 round it.
-fn padded_bench(alloc: Global) -> Option<Bench> {
+pub fn padded_bench(alloc: Global) -> Option<Bench> {
     let volume = dot(alloc)?.padded(alloc, 0).ok()?;
     Bench::begin(alloc, volume, Level::new(5_000)?, Capacity::new(16, 64)?).ok()
+}
+
+/// A bench on four points along each axis, whose samples are 0 or 1 as if by chance, at level 0.5.
+pub fn four_a_side(alloc: Global) -> Option<Bench> {
+    let volume = generated(alloc, 0, &Sizes::new(4, 4, 4).ok()?).ok()?;
+    let level = Level::new(500)?;
+    let mut bench = Bench::begin(alloc, VoxelList::of(volume), level, Capacity::new(16, 64)?).ok()?;
+    let mut seed: u64 = 1;
+    for i in 0..64 {
+        seed = seed
+            .wrapping_mul(6_364_136_223_846_793_005)
+            .wrapping_add(1_442_695_040_888_963_407);
+        let _ = bench.set(i % 4, i / 4 % 4, i / 16, (seed >> 63) as i64);
+    }
+    Some(bench)
 }
 
 /// A bench on 10, 10 and 3 zeros, which are four bricks, at level 0.5.

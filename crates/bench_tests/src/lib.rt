@@ -4,3 +4,5 @@
 
 #[cfg(test)]
 mod bench;
+#[cfg(test)]
+mod windows;

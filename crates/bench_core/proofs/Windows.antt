@@ -1,0 +1,93 @@
+-- Windows of a volume, and what a call that writes one does.
+use Rattle.std.proofs.Common.{◌≡◌, ◌⊎◌, ℕ, ◌+◌, ◌≤◌, List, Ok, Err, inl, inr, refl, sym, ap, ◌∙◌, subst, arith, ℤ}
+use Rattle.std.specs.Prelude.{Option, Some, None}
+use Rattle.iso_base.specs.Points.{IsPoint}
+use Rattle.iso_base.specs.Volume.{Volume, IsVolume}
+use Rattle.iso_base.specs.declared.point.Point.{Point}
+use Rattle.iso_base.specs.declared.fault.BenchFault.{BenchFault}
+use Rattle.iso_base.specs.declared.fault.BenchFault.TheVariants as faults
+use Rattle.iso_base.specs.declared.fault.Written.{Written}
+use Rattle.iso_base.specs.declared.format.MeshFormat.{MeshFormat}
+use Rattle.iso_io.specs.declared.Failed.{Failed}
+use Rattle.iso_io.specs.Shelves.{Store, Stores, FilesCut, with_file}
+use Rattle.voxel_list.specs.Areas.{Area}
+use Rattle.flat_mesh.specs.Mesh.{FlatMesh}
+use Rattle.mesh_more.specs.Texts.{moved_text}
+use Rattle.window_mesh.specs.Crops.{IsBoxOfKind, IsFaultOf, window_of}
+use Rattle.window_mesh.specs.declared.boxes.WindowFault.{WindowFault}
+use Rattle.window_mesh.specs.declared.boxes.WindowFault.TheVariants.{Memory, Thin}
+use Rattle.window_write.specs.Lines.{steps_of, text_of, written_of}
+use Rattle.inner_volume.specs.Places.{IsInside}
+use Rattle.bench_core.specs.Windows.{WritesWindow, inner_corner, mesh_in, numbers_with, text_at, thin_fault, window_fault, window_text, window_written}
+use Rattle.bench_core.proofs.Changing.{inner_area}
+
+-- a point off the pad's layer is one of the grid
+pub inside_point : (v : Volume) (p : Point) → IsInside v p → IsPoint v.grid p
+inside_point v p is =
+    let hx = is.high_x in
+    let hy = is.high_y in
+    let hz = is.high_z in
+    record { x = omega arith; y = omega arith; z = omega arith }
+
+-- the samples of a box off the pad's layer are of the volume's kind
+pub box_of_kind : (v : Volume) (a : Area) → IsVolume v → IsInside v a.low → IsInside v a.high → IsBoxOfKind v a
+box_of_kind v a is low high p here within = is.each p here (inner_area v a low high p here within)
+
+-- why a box is refused, in the bench's words
+pub refused_as : (a : Area) (fault : WindowFault) (made : BenchFault) → IsFaultOf (window_of a).grid fault
+    → (fault ≡ Memory → made ≡ faults.Memory) → ((axis n : ℕ) → fault ≡ Thin axis n → made ≡ faults.WindowThin axis n)
+    → (window_fault (Some a) ≡ Some made) ⊎ ((made ≡ faults.Memory) × (window_fault (Some a) ≡ None))
+refused_as a Memory made is memory thin = inr (memory refl, ap (thin_fault (window_of a).grid) is)
+refused_as a (Thin axis n) made is memory thin =
+    inl (ap (thin_fault (window_of a).grid) is.0 ∙ ap Some (ap (faults.WindowThin axis) (sym is.1) ∙ sym (thin axis n refl)))
+
+-- a box that is thick is a window
+pub no_fault : (a : Area) (axis : Option ℕ) → axis ≡ None → thin_fault (window_of a).grid axis ≡ None
+no_fault a axis e = ap (thin_fault (window_of a).grid) e
+
+module _ (v : Volume) (level : ℤ) (a : Area) (format : MeshFormat) (by : Point) (m : FlatMesh)
+    (mesh : m ≡ mesh_in v level a) (corner : steps_of by ≡ inner_corner v a) where
+  text_is : text_of format by m ≡ window_text v level (Some a) format
+  unfolding text_of window_text
+  text_is = ap (λ by. moved_text format by m.vertex_list m.triangle_list) corner ∙ ap (text_at v a format) mesh
+
+  written_is : written_of format by m ≡ window_written v level (Some a) format
+  unfolding text_of window_written
+  written_is =
+      ap (λ by. numbers_with m (moved_text format by m.vertex_list m.triangle_list)) corner
+      ∙ ap (λ (m : FlatMesh). numbers_with m (text_at v a format m)) mesh
+
+  -- the mesh was written as a file
+  pub window_filed : (old new : Store) (w : Written) (name : List ℕ) → window_fault (Some a) ≡ None
+      → Stores {E = Failed} old new (Ok w) name (text_of format by m) → w ≡ written_of format by m → WritesWindow v level (Some a) format old new (Ok w) name
+  window_filed old new w name none is e = record {
+    window = none;
+    numbers = e ∙ written_is;
+    file = is.changed ∙ ap (λ (l : List ℕ). with_file name l old.files) text_is;
+    fault = tt;
+    later = is.cause.later;
+  }
+
+  -- or it was not
+  pub window_cut : (old new : Store) (e : Failed) (name : List ℕ) → window_fault (Some a) ≡ None
+      → Stores {T = Written} old new (Err e) name (text_of format by m) → WritesWindow v level (Some a) format old new (Err faults.ShelfFailed) name
+  window_cut old new e name none is = record {
+    window = tt;
+    numbers = tt;
+    file = tt;
+    fault = inr (none, inr (refl, subst (λ (l : List ℕ). FilesCut name l old.files new.files) text_is is.changed, is.cause.failed));
+    later = is.cause.later;
+  }
+
+-- before the shelf is touched
+pub window_refused : (v : Volume) (level : ℤ) (a : Area) (format : MeshFormat) (store : Store) (fault : BenchFault) (name : List ℕ)
+    → (window_fault (Some a) ≡ Some fault) ⊎ ((fault ≡ faults.Memory) × (window_fault (Some a) ≡ None)) → WritesWindow v level (Some a) format store store (Err fault) name
+window_refused v level a format store fault name (inl e) = record { window = tt; numbers = tt; file = tt; fault = inl (e, refl); later = omega arith }
+window_refused v level a format store fault name (inr e) =
+    record { window = tt; numbers = tt; file = tt; fault = inr (e.1, inl (e.0, refl)); later = omega arith }
+
+-- where a corner is not inside
+pub window_outside : (v : Volume) (level : ℤ) (box : Option Area) (format : MeshFormat) (store : Store) (name : List ℕ) → box ≡ None
+    → WritesWindow v level box format store store (Err faults.Outside) name
+window_outside v level box format store name e =
+    record { window = tt; numbers = tt; file = tt; fault = inl (ap window_fault e, refl); later = omega arith }

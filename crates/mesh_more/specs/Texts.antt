@@ -1,0 +1,43 @@
+-- Meshes as OFF and VTK texts, and in each format with their positions moved.
+use Rattle.std.specs.Prelude.{ℕ, ◌+◌, ◌*◌, List, ◌∷◌, ◌++◌, length, map, false}
+use Rattle.std.specs.List.{flat_map}
+use Rattle.iso_defs.specs.Cell.{Triangle}
+use Rattle.iso_defs.specs.Place.{Position}
+use Rattle.iso_defs.specs.Texts.{line, position_text, numbers_text, ply_text, obj_text}
+use Rattle.mesh_more.specs.Heads.{off_head, vtk_faces, vtk_head}
+use Rattle.iso_base.specs.declared.format.MeshFormat.{MeshFormat}
+use Rattle.iso_base.specs.declared.format.MeshFormat.TheVariants.{Ply, Obj, Off, Vtk}
+
+-- the lines of vertices, and of triangles, as in PLY
+abbrev pub vertex_lines : List (ℕ × Position) → List ℕ
+vertex_lines vs = flat_map (λ (v : ℕ × Position). line (position_text false v.1)) vs
+
+abbrev pub face_lines : List Triangle → List ℕ
+face_lines ts = flat_map (λ (t : Triangle). line (51 ∷ 32 ∷ numbers_text 0 t)) ts
+
+-- a mesh as OFF
+abbrev pub off_text : List (ℕ × Position) → List Triangle → List ℕ
+off_text vs ts = off_head (length vs) (length ts) ++ (vertex_lines vs ++ face_lines ts)
+
+-- a mesh as VTK
+abbrev pub vtk_text : List (ℕ × Position) → List Triangle → List ℕ
+vtk_text vs ts = vtk_head (length vs) ++ (vertex_lines vs ++ (vtk_faces (length ts) ++ face_lines ts))
+
+-- a mesh in a format
+abbrev pub text_in : MeshFormat → List (ℕ × Position) → List Triangle → List ℕ
+text_in Ply vs ts = ply_text false vs ts
+text_in Obj vs ts = obj_text false vs ts
+text_in Off vs ts = off_text vs ts
+text_in Vtk vs ts = vtk_text vs ts
+
+-- a position moved by so many points along each axis
+abbrev pub moved : ℕ × ℕ × ℕ → Position → Position
+moved by p = (1000 * by.0 + p.0, 1000 * by.1 + p.1, 1000 * by.2 + p.2)
+
+-- a vertex whose position is moved
+abbrev pub moved_vertex : ℕ × ℕ × ℕ → ℕ × Position → ℕ × Position
+moved_vertex by v = (v.0, moved by v.1)
+
+-- a mesh in a format, each position moved by so many points along each axis
+abbrev pub moved_text : MeshFormat → ℕ × ℕ × ℕ → List (ℕ × Position) → List Triangle → List ℕ
+moved_text format by vs ts = text_in format (map (moved_vertex by) vs) ts

@@ -1,0 +1,4 @@
+pub mod Runs
+pub mod WindowSizes
+pub mod Cropping
+pub mod Meshes

@@ -1,0 +1,196 @@
+//! A mesh whose positions are moved, as a text in a format.
+ghost use Rattle.std.specs.Prelude.{◌≡◌, ◌≤◌, ◌^◌, ◌++◌, [], length, IfOk};
+ghost use Rattle.iso_io.specs.Seen.{Puts, Stages};
+ghost use Rattle.window_write.specs.Lines.{IsNear, face_lines, head_of, middle_of, steps_of, text_of, vertex_lines, written_of};
+
+use crate::lines::{face_text, vertex_text};
+use flat_mesh::Mesh;
+use iso_base::{MeshFormat, Point, Written};
+use iso_io::{Failed, Sink, stage, write_all_of};
+use mesh_more::{off_head_text, vtk_faces_text, vtk_head_text};
+use mesh_text::{Line, ply_head_text};
+
+/// Puts a text behind what waits, and counts its bytes.
+#[inline(always)]
+fn stage_text<K: Sink>(sink: &mut K, waiting: &mut Vec<u8>, text: &[u8]) -> Result<u64, Failed>
+    ensures staged { Stages (K.seen sink.old) (K.seen sink.new) waiting.old.items waiting.new.items result text.now }
+    ensures bytes { IfOk result (λ n. n ≡ length text.now) }
+{
+    match stage(sink, waiting, text) {
+        Ok(()) => Ok(text.len() as u64),
+        Err(Failed) => Err(Failed),
+    }
+}
+
+#[inline(always)]
+fn stage_line<K: Sink>(sink: &mut K, waiting: &mut Vec<u8>, line: &Line) -> Result<u64, Failed>
+    ensures staged { Stages (K.seen sink.old) (K.seen sink.new) waiting.old.items waiting.new.items result line.now }
+    ensures bytes { IfOk result (λ n. n ≡ length line.now) }
+    ensures few { IfOk result (λ n. n ≤ 64) }
+{
+    stage_text(sink, waiting, line.as_bytes())
+}
+
+/// What stands before the vertices.
+fn stage_head<K: Sink>(
+    sink: &mut K,
+    waiting: &mut Vec<u8>,
+    format: MeshFormat,
+    vertices: u32,
+    faces: u32,
+) -> Result<u64, Failed>
+    ensures staged { Stages (K.seen sink.old) (K.seen sink.new) waiting.old.items waiting.new.items result (head_of format vertices faces) }
+    ensures bytes { IfOk result (λ n. n ≡ length (head_of format vertices faces)) }
+    ensures few { IfOk result (λ n. n ≤ 256) }
+{
+    match format {
+        MeshFormat::Ply => stage_text(
+            sink,
+            waiting,
+            ply_head_text(vertices, faces).as_str().as_bytes(),
+        ),
+        MeshFormat::Obj => Ok(0),
+        MeshFormat::Off => stage_text(
+            sink,
+            waiting,
+            off_head_text(vertices, faces).as_str().as_bytes(),
+        ),
+        MeshFormat::Vtk => stage_text(sink, waiting, vtk_head_text(vertices).as_str().as_bytes()),
+    }
+}
+
+/// What stands between the vertices and the triangles.
+fn stage_middle<K: Sink>(
+    sink: &mut K,
+    waiting: &mut Vec<u8>,
+    format: MeshFormat,
+    faces: u32,
+) -> Result<u64, Failed>
+    ensures staged { Stages (K.seen sink.old) (K.seen sink.new) waiting.old.items waiting.new.items result (middle_of format faces) }
+    ensures bytes { IfOk result (λ n. n ≡ length (middle_of format faces)) }
+    ensures few { IfOk result (λ n. n ≤ 256) }
+{
+    match format {
+        MeshFormat::Vtk => stage_text(sink, waiting, vtk_faces_text(faces).as_str().as_bytes()),
+        _ => Ok(0),
+    }
+}
+
+fn stage_vertices<K: Sink>(
+    sink: &mut K,
+    waiting: &mut Vec<u8>,
+    mesh: &Mesh,
+    format: MeshFormat,
+    by: Point,
+) -> Result<u64, Failed>
+    requires { IsNear by }
+    ensures staged { Stages (K.seen sink.old) (K.seen sink.new) waiting.old.items waiting.new.items result (vertex_lines format (steps_of by) mesh.now.vertex_list) }
+    ensures bytes { IfOk result (λ n. n ≡ length (vertex_lines format (steps_of by) mesh.now.vertex_list)) }
+    ensures few { IfOk result (λ n. n ≤ 2 ^ 38) }
+{
+    let mut bytes = 0;
+    for i in 0..mesh.vertex_count() {
+        bytes += stage_line(sink, waiting, &vertex_text(mesh, format, by, i))?;
+    }
+    Ok(bytes)
+}
+
+fn stage_faces<K: Sink>(
+    sink: &mut K,
+    waiting: &mut Vec<u8>,
+    mesh: &Mesh,
+    format: MeshFormat,
+) -> Result<u64, Failed>
+    ensures staged { Stages (K.seen sink.old) (K.seen sink.new) waiting.old.items waiting.new.items result (face_lines format mesh.now.triangle_list) }
+    ensures bytes { IfOk result (λ n. n ≡ length (face_lines format mesh.now.triangle_list)) }
+    ensures few { IfOk result (λ n. n ≤ 2 ^ 38) }
+{
+    let mut bytes = 0;
+    for i in 0..mesh.triangle_count() {
+        bytes += stage_line(sink, waiting, &face_text(mesh, format, i))?;
+    }
+    Ok(bytes)
+}
+
+/// The triangles, behind what stands before them.
+fn stage_body<K: Sink>(
+    sink: &mut K,
+    waiting: &mut Vec<u8>,
+    mesh: &Mesh,
+    format: MeshFormat,
+) -> Result<u64, Failed>
+    ensures staged { Stages (K.seen sink.old) (K.seen sink.new) waiting.old.items waiting.new.items result
+        (middle_of format (length mesh.now.triangle_list) ++ face_lines format mesh.now.triangle_list) }
+    ensures bytes { IfOk result (λ n. n ≡ length (middle_of format (length mesh.now.triangle_list) ++ face_lines format mesh.now.triangle_list)) }
+    ensures few { IfOk result (λ n. n ≤ 2 ^ 39) }
+{
+    let middle = stage_middle(sink, waiting, format, mesh.triangle_count())?;
+    let faces = stage_faces(sink, waiting, mesh, format)?;
+    Ok(middle + faces)
+}
+
+/// The vertices and the triangles.
+fn stage_lines<K: Sink>(
+    sink: &mut K,
+    waiting: &mut Vec<u8>,
+    mesh: &Mesh,
+    format: MeshFormat,
+    by: Point,
+) -> Result<u64, Failed>
+    requires { IsNear by }
+    ensures staged { Stages (K.seen sink.old) (K.seen sink.new) waiting.old.items waiting.new.items result
+        (vertex_lines format (steps_of by) mesh.now.vertex_list ++ (middle_of format (length mesh.now.triangle_list) ++ face_lines format mesh.now.triangle_list)) }
+    ensures bytes { IfOk result (λ n. n ≡ length (vertex_lines format (steps_of by) mesh.now.vertex_list
+        ++ (middle_of format (length mesh.now.triangle_list) ++ face_lines format mesh.now.triangle_list))) }
+    ensures few { IfOk result (λ n. n ≤ 2 ^ 40) }
+{
+    let vertices = stage_vertices(sink, waiting, mesh, format, by)?;
+    let body = stage_body(sink, waiting, mesh, format)?;
+    Ok(vertices + body)
+}
+
+fn stage_mesh<K: Sink>(
+    sink: &mut K,
+    waiting: &mut Vec<u8>,
+    mesh: &Mesh,
+    format: MeshFormat,
+    by: Point,
+) -> Result<u64, Failed>
+    requires { IsNear by }
+    ensures staged { Stages (K.seen sink.old) (K.seen sink.new) waiting.old.items waiting.new.items result (text_of format by mesh.now) }
+    ensures bytes { IfOk result (λ n. n ≡ length (text_of format by mesh.now)) }
+{
+    let head = stage_head(
+        sink,
+        waiting,
+        format,
+        mesh.vertex_count(),
+        mesh.triangle_count(),
+    )?;
+    let lines = stage_lines(sink, waiting, mesh, format, by)?;
+    Ok(head + lines)
+}
+
+/// Appends the text of a mesh in a format, each position moved by so many points along each axis, and says how many
+/// vertices, faces and bytes were written. `waiting` is the empty buffer in which blocks are gathered; what it holds
+/// afterwards is open. `Failed` comes only where the sink's count rose; a front of the text was then taken.
+pub fn put_moved<K: Sink>(
+    sink: &mut K,
+    waiting: &mut Vec<u8>,
+    mesh: &Mesh,
+    format: MeshFormat,
+    by: Point,
+) -> Result<Written, Failed>
+    requires none { waiting.old.items ≡ [] }
+    requires near { IsNear by }
+    ensures text { Puts (K.seen sink.old) (K.seen sink.new) result (text_of format by mesh.now) }
+    ensures written { IfOk result (λ w. w ≡ written_of format by mesh.now) }
+{
+    let bytes = stage_mesh(sink, waiting, mesh, format, by)?;
+    write_all_of(sink, waiting)?;
+    Ok(Written {
+        vertices: mesh.vertex_count(),
+        faces: mesh.triangle_count(),
+        bytes,
+    })
+}
