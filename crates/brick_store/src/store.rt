@@ -9,6 +9,7 @@ ghost use Rattle.iso_base.specs.Points.{IsPoint, index_of};
 ghost use Rattle.iso_base.specs.Samples.{IsOfKind, IsSample};
 ghost use Rattle.iso_base.specs.Volume.{IsInner, IsVolume, Volume, sample};
 ghost use Rattle.brick_store.specs.Holding.{IsCellOf, brick_of, holds_point, local_of, points_along, row_length};
+ghost use Rattle.brick_store.specs.Copies.{row_rest};
 ghost use Rattle.brick_store.specs.Rows.{row_set};
 
 use crate::numbering::{self, BrickId};
@@ -166,6 +167,15 @@ impl BrickStore {
         ensures range { All IsSample result.now }
     {
         copies::row(&self.sizes, &self.copies, brick, y, z)
+    }
+
+    /// The samples from a point of the stored grid on, along x, as far as the first brick that holds it has them: its own
+    /// copies, where they lie in memory.
+    pub fn row_from(&self, p: Point) -> &[i64]
+        requires { IsPoint self.now.grid p }
+        ensures { result.now ≡ map (λ x. sample self.now.samples (index_of self.now.grid p + x)) (below (row_rest self.now.grid p)) }
+    {
+        copies::row_from(&self.sizes, &self.copies, p)
     }
 
     /// The volume as one list of samples. The store stays.
