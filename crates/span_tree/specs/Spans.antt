@@ -24,6 +24,10 @@ pub record IsSpan (s : Span) : Type 0 where
 abbrev pub no_span : Span
 no_span = record { least = pos 4294967295; greatest = negsuc 2147483647 }
 
+-- the span of one sample
+abbrev pub one_span : ℤ → Span
+one_span v = record { least = v; greatest = v }
+
 -- the span of some samples and one more
 abbrev pub with_sample : Span → ℤ → Span
 with_sample s v = record { least = int_min s.least v; greatest = int_max s.greatest v }
