@@ -1,4 +1,4 @@
-use Rattle.std.proofs.Common.{◌≡◌, ◌-◌, rules, arith}
+use Rattle.std.proofs.Common.{◌≡◌, ◌-◌, arith}
 use Rattle.brick_store.specs.Copies.{row_rest}
 use Rattle.brick_store.proofs.Standing.{rest_is}
 use Rattle.brick_store.proofs.copies.row_from.Goals as goal
