@@ -1,7 +1,6 @@
-use Rattle.std.proofs.Common.{◌≡◌, ◌<◌, ◌≤◌, ◌+◌, ◌∙◌, sym, subst, length, rules, arith, pos}
+use Rattle.std.proofs.Common.{◌<◌, ◌∙◌, sym, subst, length, pos}
 use Rattle.edit_log.specs.declared.runs.Run.{Run}
-use Rattle.edit_log.specs.Runs.{values_left, values_of}
-use Rattle.edit_log.proofs.RunLaws.{run_there, run_passed, run_value}
+use Rattle.edit_log.proofs.RunLaws.{run_there, run_passed}
 use Rattle.edit_log.proofs.runs.next_value.Goals as goal
 
 abbrev none : Run
