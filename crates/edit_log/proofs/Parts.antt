@@ -9,7 +9,7 @@ use Rattle.iso_base.specs.declared.point.Point.{Point}
 use Rattle.voxel_list.specs.Areas.{Area, area_count, is_in_area}
 use Rattle.brick_store.specs.Rows.{row_set}
 use Rattle.brick_store.proofs.RowWriting.{length-row_set, row_set_before, row_set_within, row_set_behind}
-use Rattle.edit_log.specs.Boxes.{IsBox, IsInnerArea, area_grid, area_index, area_place, is_in_part, part_filled, filled}
+use Rattle.edit_log.specs.Boxes.{IsBox, IsInnerArea, area_grid, area_index, area_place, is_in_part, part_filled, filled, replaced}
 use Rattle.edit_log.proofs.BoxPoints.{area_index_in, area_index_is_in, area_place-area_index, area_index-area_place, area_place_in, row_index}
 use Rattle.edit_log.proofs.Replacing.{length-replaced, sample-replaced, replaced_is, replaced_none}
 
@@ -81,30 +81,35 @@ module _ (g : Grid) (a : Area) (from k : ℕ) (values : List ℤ) (is : IsBox g 
       let number : area_place g a (area_index g a k + d) ≡ k + d = ap (area_place g a) (sym (place d l)) ∙ area_place-area_index g a is (k + d) (number_low d l) in
       rw inside (ap (λ n. nat_le from n && nat_lt n (k + length values)) number ∙ one_of_these from (k + length values) (k + d) (omega (arith, le)) (omega (arith, l)))
 
-  pub part_row : (v : ℤ) (samples : List ℤ) → length samples ≡ point_count g → ((d : ℕ) → d < length values → sample values d ≡ v)
-      → row_set (area_index g a k) values (part_filled g a from k v samples) ≡ part_filled g a from (k + length values) v samples
-  part_row v samples count all =
-      replaced_is (is_in_part g a from (k + length values)) (λ _. v) samples (row_set i values once) (length-row_set i values once fits ∙ same)
+  -- the number of each of them
+  pub number_of : (d : ℕ) → d < length values → area_place g a (area_index g a k + d) ≡ k + d
+  number_of d l = ap (area_place g a) (sym (place d l)) ∙ area_place-area_index g a is (k + d) (number_low d l)
+
+  pub part_row : (f : ℕ → ℤ) (samples : List ℤ) → length samples ≡ point_count g → ((d : ℕ) → d < length values → sample values d ≡ f (area_index g a k + d))
+      → row_set (area_index g a k) values (replaced (is_in_part g a from k) f samples) ≡ replaced (is_in_part g a from (k + length values)) f samples
+  part_row f samples count all =
+      replaced_is (is_in_part g a from (k + length values)) f samples (row_set i values once) (length-row_set i values once fits ∙ same)
       (λ p low. each p low (subst (λ n. p < n) count low))
     where
       i : ℕ
       i = area_index g a k
 
       once : List ℤ
-      once = part_filled g a from k v samples
+      once = replaced (is_in_part g a from k) f samples
 
-      same : length (part_filled g a from k v samples) ≡ length samples
-      same = length-replaced (is_in_part g a from k) (λ _. v) samples
+      same : length (replaced (is_in_part g a from k) f samples) ≡ length samples
+      same = length-replaced (is_in_part g a from k) f samples
 
-      fits : area_index g a k + length values ≤ length (part_filled g a from k v samples)
+      fits : area_index g a k + length values ≤ length (replaced (is_in_part g a from k) f samples)
       fits = omega (arith, row_in_grid, same, count)
 
       stays : (p : ℕ) → p < length samples → p < point_count g → ((d : ℕ) → d < length values → p ≡ area_index g a k + d → ⊥)
-          → sample (part_filled g a from k v samples) p ≡ cond (is_in_part g a from (k + length values) p) v (sample samples p)
-      stays p low here not = sample-replaced (is_in_part g a from k) (λ _. v) samples p low ∙ ap (λ b. cond b v (sample samples p)) (sym (others p here not))
+          → sample (replaced (is_in_part g a from k) f samples) p ≡ cond (is_in_part g a from (k + length values) p) (f p) (sample samples p)
+      stays p low here not = sample-replaced (is_in_part g a from k) f samples p low ∙ ap (λ b. cond b (f p) (sample samples p)) (sym (others p here not))
 
       each : (p : ℕ) → p < length samples → p < point_count g
-          → sample (row_set (area_index g a k) values (part_filled g a from k v samples)) p ≡ cond (is_in_part g a from (k + length values) p) v (sample samples p)
+          → sample (row_set (area_index g a k) values (replaced (is_in_part g a from k) f samples)) p
+          ≡ cond (is_in_part g a from (k + length values) p) (f p) (sample samples p)
       each p low here = elim (cases_lt p i) [
         | inl l ↦ row_set_before i values once fits p l ∙ stays p low here (λ d h e. absurd (omega (arith, l, e)))
         | inr m ↦ elim (cases_lt p (i + length values)) [
@@ -112,23 +117,23 @@ module _ (g : Grid) (a : Area) (from k : ℕ) (values : List ℤ) (is : IsBox g 
               let d : ℕ = p - i in
               let less : d < length values = omega (arith, m, l) in
               let at : p ≡ i + d = omega (arith, m) in
-              row_set_within i values once fits p m l ∙ (all d less
-              ∙ sym (ap (λ b. cond b v (sample samples p)) (ap (is_in_part g a from (k + length values)) at ∙ these d less))))
+              row_set_within i values once fits p m l ∙ (all d less ∙ (ap f (sym at)
+              ∙ sym (ap (λ b. cond b (f p) (sample samples p)) (ap (is_in_part g a from (k + length values)) at ∙ these d less)))))
           | inr h ↦ row_set_behind i values once fits p h ∙ stays p low here (λ d l e. absurd (omega (arith, h, l, e)))
         ]
       ]
 
--- the same for a volume that was filled so far
-pub volume_part_row : (v w u : Volume) (a : Area) (from k : ℕ) (values : List ℤ) (value : ℤ) (p : Point) → IsBox v.grid a → length v.samples ≡ point_count v.grid
+-- the same for a volume in which those before them were replaced
+pub volume_part_row : (v w u : Volume) (a : Area) (from k : ℕ) (values : List ℤ) (f : ℕ → ℤ) (p : Point) → IsBox v.grid a → length v.samples ≡ point_count v.grid
     → from ≤ k → 0 < length values → k + length values ≤ area_count a → k % (area_grid a).nx + length values ≤ (area_grid a).nx
-    → ((d : ℕ) → d < length values → sample values d ≡ value)
-    → w ≡ record v { samples = part_filled v.grid a from k value v.samples } → index_of v.grid p ≡ area_index v.grid a k
+    → ((d : ℕ) → d < length values → sample values d ≡ f (area_index v.grid a k + d))
+    → w ≡ record v { samples = replaced (is_in_part v.grid a from k) f v.samples } → index_of v.grid p ≡ area_index v.grid a k
     → u ≡ record w { samples = row_set (index_of w.grid p) values w.samples }
-    → u ≡ record v { samples = part_filled v.grid a from (k + length values) value v.samples }
-volume_part_row v w u a from k values value p is count le some end row all so at put =
+    → u ≡ record v { samples = replaced (is_in_part v.grid a from (k + length values)) f v.samples }
+volume_part_row v w u a from k values f p is count le some end row all so at put =
     put ∙ ap (λ (x : Volume). record x { samples = row_set (index_of x.grid p) values x.samples }) so
-    ∙ ap (λ i. record v { samples = row_set i values (part_filled v.grid a from k value v.samples) }) at
-    ∙ ap (λ s. record v { samples = s }) (part_row v.grid a from k values is le some end row value v.samples count all)
+    ∙ ap (λ i. record v { samples = row_set i values (replaced (is_in_part v.grid a from k) f v.samples) }) at
+    ∙ ap (λ s. record v { samples = s }) (part_row v.grid a from k values is le some end row f v.samples count all)
 
 -- the points that follow in a row of the box hold no pad
 pub row_is_inner : (v : Volume) (a : Area) (k count : ℕ) (p : Point) → IsBox v.grid a → IsInnerArea v a → k + count ≤ area_count a

@@ -51,7 +51,7 @@ pub fn area_count(sizes: &Sizes, area: &FillBox) -> u32
 }
 
 /// The most points that are replaced together.
-const PIECE: u32 = 64;
+pub const PIECE: u32 = 64;
 
 /// A value as often as a whole piece has points.
 fn piece_of(value: &i64) -> [i64; 64]
@@ -61,7 +61,7 @@ fn piece_of(value: &i64) -> [i64; 64]
 }
 
 /// How many points of a box from the number k on, before an end, are replaced together: those of one row, a piece at most.
-fn piece_of_row(area: &FillBox, k: u32, end: u32) -> u32
+pub fn piece_of_row(area: &FillBox, k: u32, end: u32) -> u32
     requires { k < end }
     ensures some { 0 < result }
     ensures piece { result ≤ 64 }
@@ -73,7 +73,7 @@ fn piece_of_row(area: &FillBox, k: u32, end: u32) -> u32
 }
 
 /// Replaces the samples of the points of a box from a number on, so many. The cost is that of the rows that they lie in.
-pub fn fill_part(store: &mut BrickStore, area: &FillBox, from: u32, count: u32, value: &i64)
+fn fill_part(store: &mut BrickStore, area: &FillBox, from: u32, count: u32, value: &i64)
     requires high { IsPoint store.old.grid area.now.high }
     requires inner { IsInnerArea store.old area.now }
     requires part { from + count ≤ area_count area.now }

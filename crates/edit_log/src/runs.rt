@@ -1,13 +1,13 @@
 //! Values of a box, kept as runs of equal ones.
 
-ghost use Rattle.std.specs.Prelude.{◌≡◌, ◌+◌, ◌^◌, ◌<◌, ◌≤◌, [], ◌∷◌, ◌++◌, All, IfOk, OnOk, length};
+ghost use Rattle.std.specs.Prelude.{◌≡◌, ◌+◌, ◌^◌, ◌<◌, ◌≤◌, [], ◌∷◌, ◌++◌, All, IfOk, OnOk, drop, length, take};
 ghost use Rattle.iso_base.specs.Points.{IsPoint};
 ghost use Rattle.iso_base.specs.Samples.{IsOfKind};
 ghost use Rattle.voxel_list.specs.Areas.{area_count};
 ghost use Rattle.edit_log.specs.Boxes.{IsInnerArea, area_samples, restored};
-ghost use Rattle.edit_log.specs.Runs.{gathered};
+ghost use Rattle.edit_log.specs.Runs.{gathered, values_left};
 
-use crate::boxes::{area_count, area_point, fill_part};
+use crate::boxes::{PIECE, area_count, area_point, piece_of_row};
 use brick_store::BrickStore;
 use iso_base::Memory;
 use std::alloc::{AllocError, Global};
@@ -54,21 +54,68 @@ fn extend(runs: &mut Vec<Run>, run: &mut Run, value: &i64) -> Result<(), AllocEr
     Ok(())
 }
 
+/// Puts values behind the others.
+fn extend_all(runs: &mut Vec<Run>, run: &mut Run, values: &[i64]) -> Result<(), AllocError>
+    requires { run.old.count + length values.now < 2 ^ 32 }
+    ensures values { OnOk result (gathered runs.new.items run.new ≡ gathered runs.old.items run.old ++ values.now) }
+    ensures count { OnOk result (run.new.count ≤ run.old.count + length values.now) }
+{
+    for value in values {
+        extend(runs, run, value)?;
+    }
+    Ok(())
+}
+
+/// What is left of the values: so much of a run, and the runs from a place on.
+#[derive(Clone, Copy)]
+struct Rest {
+    run: Run,
+    next: usize,
+}
+
+/// Takes the first of the values that are left.
+fn next_value(runs: &[Run], rest: &mut Rest) -> i64
+    requires { 0 < length (values_left runs.now rest.old) }
+    ensures { values_left runs.now rest.old ≡ result ∷ values_left runs.now rest.new }
+{
+    while rest.run.count == 0 {
+        rest.run = runs[rest.next];
+        rest.next += 1;
+    }
+    rest.run.count -= 1;
+    rest.run.value
+}
+
+/// Takes as many values as there is room for.
+fn take_values(runs: &[Run], rest: &mut Rest, values: &mut [i64])
+    requires { length values.old ≤ length (values_left runs.now rest.old) }
+    ensures values { values.new ≡ take (length values.old) (values_left runs.now rest.old) }
+    ensures rest { values_left runs.now rest.new ≡ drop (length values.old) (values_left runs.now rest.old) }
+{
+    for k in 0..values.len() {
+        values[k] = next_value(runs, rest);
+    }
+}
+
 impl Runs {
-    /// The samples of a box of the stored grid, in the order of their indices.
+    /// The samples of a box of the stored grid, in the order of their indices. Of a row, what one brick has is taken at once.
     pub fn of(alloc: Global, store: &BrickStore, area: &FillBox) -> Result<Runs, Memory>
         requires { IsPoint store.now.grid area.now.high }
         ensures { IfOk result (λ r. r ≡ area_samples store.now.grid area.now store.now.samples) }
     {
         let sizes = store.sizes();
+        let count = area_count(&sizes, area);
         let mut runs = Vec::new(alloc);
         let mut run = Run {
             value: store.get(area.low()),
             count: 0,
         };
-        for k in 0..area_count(&sizes, area) {
-            let value = store.get(area_point(&sizes, area, k));
-            extend(&mut runs, &mut run, &value)?;
+        let mut k = 0;
+        while k < count {
+            let samples = store.row_from(area_point(&sizes, area, k));
+            let piece = piece_of_row(area, k, count).min(samples.len() as u32);
+            extend_all(&mut runs, &mut run, &samples[..piece as usize])?;
+            k += piece;
         }
         runs.push(run)?;
         Ok(Runs { runs })
@@ -83,11 +130,18 @@ impl Runs {
         requires kind { All (IsOfKind store.old.kind) self.now }
         ensures { store.new ≡ record store.old { samples = restored store.old.grid area.now self.now store.old.samples } }
     {
-        let _ = (store.sizes(), area.low());
-        let mut at = 0;
-        for run in &self.runs {
-            fill_part(store, area, at, run.count, &run.value);
-            at += run.count;
+        let sizes = store.sizes();
+        let count = area_count(&sizes, area);
+        let mut values = [0; PIECE as usize];
+        let run = Run { value: 0, count: 0 };
+        let mut rest = Rest { run, next: 0 };
+        let mut k = 0;
+        while k < count {
+            let piece = piece_of_row(area, k, count);
+            let row = &mut values[..piece as usize];
+            take_values(&self.runs, &mut rest, row);
+            store.set_row(area_point(&sizes, area, k), row);
+            k += piece;
         }
     }
 }

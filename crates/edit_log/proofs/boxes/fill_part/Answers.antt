@@ -83,7 +83,7 @@ loop-k-preserved c =
     let at : index_of v.grid c.area_point.result ≡ area_index v.grid a k = rw c.sizes-sizes.ensures.value at c.area_point.ensures.value in
     record {
       filled = subst (λ m. c.set_row.new.self ≡ record v { samples = part_filled v.grid a c.args.from (k + m) c.args.value.now v.samples }) n
-          (volume_part_row v c.loop-k.store c.set_row.new.self a c.args.from k values c.args.value.now c.area_point.result is c.sizes-sizes.ensures.volume.count
+          (volume_part_row v c.loop-k.store c.set_row.new.self a c.args.from k values (λ _. c.args.value.now) c.area_point.result is c.sizes-sizes.ensures.volume.count
           c.loop-k.invariant.from (omega (arith, n, c.piece_of_row-piece.ensures.some))
           (omega (arith, n, c.piece_of_row-piece.ensures.end, c.requires.part)) (omega (arith, n, c.piece_of_row-piece.ensures.row))
           all c.loop-k.invariant.filled at c.set_row.ensures);
