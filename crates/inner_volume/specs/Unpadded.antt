@@ -23,3 +23,10 @@ inner_voxels v = record { grid = inner_grid v; kind = v.kind; samples = inner_sa
 -- it as a file
 unfoldable pub saved_text : Volume → List ℕ
 saved_text v = nrrd.save_text (inner_voxels v)
+
+-- as a file of lines of numbers, and of lines of hex digits
+unfoldable pub saved_as_text : Volume → List ℕ
+saved_as_text v = nrrd.text_save (inner_voxels v)
+
+unfoldable pub saved_as_hex : Volume → List ℕ
+saved_as_hex v = nrrd.hex_save (inner_voxels v)
