@@ -9,7 +9,7 @@ use Rattle.nrrd_text.specs.Samples.{sample_bytes}
 use Rattle.nrrd_text.specs.Writing.{hex_line, text_line}
 use Rattle.nrrd.specs.declared.encoding.Encoding.{Encoding}
 use Rattle.nrrd.specs.declared.encoding.Encoding.TheVariants.{Raw, Text, Hex}
-use Rattle.nrrd.specs.Checks.{has_order}
+use Rattle.nrrd.specs.Encodings.{has_order}
 
 -- the name of a kind
 unfoldable pub kind_text : SampleKind → List ℕ
@@ -44,8 +44,11 @@ head_in encoding e kind =
 abbrev pub head_text : Grid → SampleKind → List ℕ
 head_text e kind = head_in Raw e kind
 
+abbrev pub coded_by : Bool → Encoding
+coded_by hex = if hex then Hex else Text
+
 abbrev pub coded_head_text : Grid → SampleKind → Bool → List ℕ
-coded_head_text e kind hex = head_in (if hex then Hex else Text) e kind
+coded_head_text e kind hex = head_in (coded_by hex) e kind
 
 -- the bytes of samples
 abbrev pub samples_text : SampleKind → List ℤ → List ℕ
@@ -62,10 +65,17 @@ row_of v j = take v.grid.nx (drop (j * v.grid.nx) v.samples)
 abbrev pub rows_of : Voxels → List (List ℤ)
 rows_of v = map (row_of v) (below (v.grid.ny * v.grid.nz))
 
--- a whole volume as lines of numbers
-abbrev pub text_save : Voxels → List ℕ
-text_save v = coded_head_text v.grid v.kind false ++ flat_map text_line (rows_of v)
+-- the line of a row, of numbers or of hex digits
+abbrev pub coded_line : Bool → SampleKind → List ℤ → List ℕ
+coded_line hex kind values = if hex then hex_line kind values else text_line values
 
--- a whole volume as lines of hex digits
+-- a whole volume in print, a row in a line
+abbrev pub coded_save : Bool → Voxels → List ℕ
+coded_save hex v = coded_head_text v.grid v.kind hex ++ flat_map (coded_line hex v.kind) (rows_of v)
+
+-- as lines of numbers, and as lines of hex digits
+abbrev pub text_save : Voxels → List ℕ
+text_save v = coded_save false v
+
 abbrev pub hex_save : Voxels → List ℕ
-hex_save v = coded_head_text v.grid v.kind true ++ flat_map (hex_line v.kind) (rows_of v)
+hex_save v = coded_save true v
