@@ -2,7 +2,7 @@ ghost use Rattle.std.specs.Prelude.{◌≡◌, ◌⊎◌, ◌+◌, ◌*◌, ◌<
 ghost use Rattle.iso_base.specs.Samples.{IsSample, least_of, greatest_of};
 ghost use Rattle.inner_volume.specs.Places.{IsInside, place_of, plane_of};
 ghost use Rattle.bench_core.specs.Surface.{IsCutOfMesh, IsWatertight};
-ghost use Rattle.bench_core.specs.Texts.{WritesFile, contour_of, mesh_text, mesh_written, obj_text, obj_written, ply_text, ply_written, report_of, save_text};
+ghost use Rattle.bench_core.specs.Texts.{WritesFile, contour_of, hex_save, mesh_text, mesh_written, obj_text, obj_written, ply_text, ply_written, report_of, save_text, text_save};
 ghost use Rattle.voxel_list.specs.Areas.{between};
 ghost use Rattle.edit_log.specs.Changes.{Suits, after, area_of, before, moment};
 ghost use Rattle.bench_core.specs.Machine.{IsAbovePad, IsState, IsStep, IsSureStep, area_by, begin_fault, changed, checked_level, contour_step, fill_at, fill_step, level_step, pad_fault, redo_step, set_at, set_step, undo_step};
@@ -21,7 +21,7 @@ use crate::windows::write_window;
 use brick_store::BrickStore;
 use edge_points::RowRanks;
 use edit_log::{Change, EditLog};
-use inner_volume::{place_in, plane_in, write_volume};
+use inner_volume::{place_in, plane_in, write_hex, write_text, write_volume};
 use iso_base::{BenchFault, Level, Memory, MeshFormat, Point, SampleKind, Steps, Written};
 use iso_io::{Failed, Shelf};
 use kept_mesh::{refresh_bricks, write_mesh};
@@ -359,6 +359,32 @@ impl Bench {
         ensures no_memory { IsErrOf result BenchFault.Memory → ⊥ }
     {
         match write_volume(shelf, name, &self.store) {
+            Ok(bytes) => Ok(bytes),
+            Err(Failed) => Err(BenchFault::ShelfFailed),
+        }
+    }
+
+    /// Makes the name's file the volume without its pad, as lines of numbers: a row of samples in a line. It is refused as
+    /// `save` is, and no memory is taken.
+    pub fn save_text<H: Shelf>(&self, shelf: &mut H, name: &str) -> Result<u64, BenchFault>
+        ensures file { WritesFile (H.seen shelf.old) (H.seen shelf.new) result name.now (text_save self.now.state) (length (text_save self.now.state)) }
+        ensures read_again { nrrd_of (text_save self.now.state) ≡ Ok (inner_voxels self.now.state.volume, 1) }
+        ensures no_memory { IsErrOf result BenchFault.Memory → ⊥ }
+    {
+        match write_text(shelf, name, &self.store) {
+            Ok(bytes) => Ok(bytes),
+            Err(Failed) => Err(BenchFault::ShelfFailed),
+        }
+    }
+
+    /// Makes the name's file the volume without its pad, as lines of hex digits: a row of samples in a line, the low byte
+    /// of each first. It is refused as `save` is, and no memory is taken.
+    pub fn save_hex<H: Shelf>(&self, shelf: &mut H, name: &str) -> Result<u64, BenchFault>
+        ensures file { WritesFile (H.seen shelf.old) (H.seen shelf.new) result name.now (hex_save self.now.state) (length (hex_save self.now.state)) }
+        ensures read_again { nrrd_of (hex_save self.now.state) ≡ Ok (inner_voxels self.now.state.volume, 1) }
+        ensures no_memory { IsErrOf result BenchFault.Memory → ⊥ }
+    {
+        match write_hex(shelf, name, &self.store) {
             Ok(bytes) => Ok(bytes),
             Err(Failed) => Err(BenchFault::ShelfFailed),
         }

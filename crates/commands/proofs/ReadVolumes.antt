@@ -68,3 +68,4 @@ no_volume pad level bytes (faults.Size fault) h = not_read pad level bytes (faul
 no_volume pad level bytes faults.NoEndian h = not_read pad level bytes faults.NoEndian h
 no_volume pad level bytes (faults.ShortSamples needed present) h = not_read pad level bytes (faults.ShortSamples needed present) h
 no_volume pad level bytes faults.Memory h = tt
+no_volume pad level bytes (faults.BadSample place) h = not_read pad level bytes (faults.BadSample place) h

@@ -61,6 +61,7 @@ nrrd_two (nrrd_faults.Size fault) = inl refl
 nrrd_two nrrd_faults.NoEndian = inl refl
 nrrd_two (nrrd_faults.ShortSamples needed present) = inl refl
 nrrd_two nrrd_faults.Memory = inr refl
+nrrd_two (nrrd_faults.BadSample place) = inl refl
 
 volume_two : (f : VolumeFault) → (volume_status f ≡ statuses.BadVolume) ⊎ (volume_status f ≡ statuses.Memory)
 volume_two (volume_faults.Nrrd fault) = nrrd_two fault

@@ -31,8 +31,6 @@ field_name fields.ByteSkip = codes "byte skip"
 
 -- the words of encodings
 abbrev pub encoding_name : EncodingWord → List ℕ
-encoding_name encodings.Text = codes "text"
-encoding_name encodings.Hex = codes "hex"
 encoding_name encodings.Gzip = codes "gzip"
 encoding_name encodings.Bzip2 = codes "bzip2"
 encoding_name encodings.Unknown = codes "unknown"
@@ -61,6 +59,7 @@ nrrd_text (nrrds.Size fault) = codes "volume 12 " ++ size_text fault
 nrrd_text nrrds.NoEndian = codes "volume 13 no endian"
 nrrd_text (nrrds.ShortSamples needed present) = counted_twice (codes "volume 14 short samples ") needed present
 nrrd_text nrrds.Memory = codes "memory"
+nrrd_text (nrrds.BadSample place) = counted (codes "volume 19 bad sample ") place
 
 unfoldable pub volume_text : VolumeFault → List ℕ
 volume_text (volumes.Nrrd fault) = nrrd_text fault

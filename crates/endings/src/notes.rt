@@ -33,8 +33,6 @@ fn name_of_encoding(word: EncodingWord) -> &'static str
     ensures length { length result.now ≤ 20 }
 {
     match word {
-        EncodingWord::Text => "text",
-        EncodingWord::Hex => "hex",
         EncodingWord::Gzip => "gzip",
         EncodingWord::Bzip2 => "bzip2",
         EncodingWord::Unknown => "unknown",
@@ -100,6 +98,7 @@ fn put_nrrd(fault: NrrdFault, into: &mut ArrayString<128>)
             put_counted_twice("volume 14 short samples ", needed, present, into);
         }
         NrrdFault::Memory => into.push_str("memory"),
+        NrrdFault::BadSample { place } => put_counted("volume 19 bad sample ", place, into),
     }
 }
 

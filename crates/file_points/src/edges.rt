@@ -1,12 +1,13 @@
 //! The crossing edges of a volume in its file.
 ghost use Rattle.std.specs.Prelude.{IfOk, IfErr};
+ghost use Rattle.nrrd.specs.Files.{file_voxels};
 ghost use Rattle.nrrd.specs.Nrrd.{Fails, nrrd_of};
 ghost use Rattle.file_points.specs.Edges.{AreEdgesOf, AreEdgesOfFile};
 
 use crate::samples::FileSamples;
-use crossing_edges::{EdgeVertices, crossing_points};
-use iso_base::{Level, Memory, Sizes};
-use nrrd::{NrrdFault, RawVolume, read_raw_volume};
+use crossing_edges::{EdgeVertices, Numbers, crossing_points};
+use iso_base::{Level, Memory, Sizes, VoxelData};
+use nrrd::{FileVolume, NrrdFault, RawVolume, read_file_volume};
 use std::alloc::Global;
 
 /// The crossing edges of a volume, and the sizes of its grid.
@@ -16,8 +17,12 @@ pub struct FileEdges {
     pub edges: EdgeVertices,
 }
 
-/// The crossing edges of a volume at a level, each with its place.
-fn edges_of<'a>(alloc: Global, volume: &'a RawVolume<'a>, level: Level) -> Result<FileEdges, Memory>
+/// The crossing edges at a level of a volume whose samples stay in its file, each with its place.
+fn edges_in_place<'a>(
+    alloc: Global,
+    volume: &'a RawVolume<'a>,
+    level: Level,
+) -> Result<FileEdges, Memory>
     ensures { IfOk result (λ e. AreEdgesOf volume.now level e.sizes e.edges.names.items e.edges.places.items) }
 {
     let sizes = volume.sizes();
@@ -26,12 +31,35 @@ fn edges_of<'a>(alloc: Global, volume: &'a RawVolume<'a>, level: Level) -> Resul
     Ok(FileEdges { sizes, edges })
 }
 
-/// The crossing edges at a level of the volume in a file, in order of name, each with its place. Bytes after the samples
-/// are not read. The refusals are those of the reader of volumes, and last `Memory`.
+/// The crossing edges at a level of a volume whose samples were read, each with its place.
+fn edges_in_memory(alloc: Global, volume: &VoxelData, level: Level) -> Result<FileEdges, Memory>
+    ensures { IfOk result (λ e. AreEdgesOf volume.now level e.sizes e.edges.names.items e.edges.places.items) }
+{
+    let sizes = volume.sizes();
+    let samples = Numbers {
+        numbers: volume.samples(),
+    };
+    let edges = crossing_points(alloc, &sizes, &samples, level)?;
+    Ok(FileEdges { sizes, edges })
+}
+
+/// The crossing edges of a volume at a level, wherever its samples lie.
+fn edges_of(alloc: Global, volume: &FileVolume<'_>, level: Level) -> Result<FileEdges, Memory>
+    ensures { IfOk result (λ e. AreEdgesOf (file_voxels volume.now) level e.sizes e.edges.names.items e.edges.places.items) }
+{
+    match volume {
+        FileVolume::Raw(raw) => edges_in_place(alloc, raw, level),
+        FileVolume::Read(read) => edges_in_memory(alloc, read, level),
+    }
+}
+
+/// The crossing edges at a level of the volume in a file, in order of name, each with its place. Raw samples are not copied
+/// out of the bytes; bytes after the samples are not read. The refusals are those of the reader of volumes, and last
+/// `Memory`.
 pub fn edges_of_file(alloc: Global, bytes: &[u8], level: Level) -> Result<FileEdges, NrrdFault>
     ensures edges { IfOk result (λ e. AreEdgesOfFile bytes.now level e.sizes e.edges.names.items e.edges.places.items) }
     ensures fault { IfErr result (λ fault. Fails fault (nrrd_of bytes.now)) }
 {
-    let (volume, _) = read_raw_volume(bytes)?;
+    let (volume, _) = read_file_volume(alloc, bytes)?;
     Ok(edges_of(alloc, &volume, level)?)
 }

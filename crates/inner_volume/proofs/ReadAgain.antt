@@ -1,13 +1,13 @@
 -- The file of a volume without its pad.
-use Rattle.std.proofs.Common.{◌≡◌, [], Ok, refl, sym, ap, ◌∙◌, le-ltb}
+use Rattle.std.proofs.Common.{◌≡◌, Bool, [], Ok, refl, sym, ap, ◌∙◌, le-ltb}
 use Rattle.std.proofs.lemmas.List.{append-nil}
 use Rattle.iso_defs.specs.Grid.{Grid, point_count}
 use Rattle.iso_base.specs.Sizing.{IsGrid, sized}
 use Rattle.iso_base.specs.Volume.{Volume, IsVolume}
 use Rattle.nrrd.specs.Nrrd.{nrrd_of}
 use Rattle.nrrd.specs.Writing as nrrd
-use Rattle.nrrd.proofs.RoundTrip.{save_again}
-use Rattle.inner_volume.specs.Unpadded.{inner_voxels, saved_text}
+use Rattle.nrrd.proofs.RoundTrip.{coded_again, save_again}
+use Rattle.inner_volume.specs.Unpadded.{inner_voxels, saved_in_print, saved_text}
 use Rattle.inner_volume.proofs.InnerSamples.{inner_is}
 
 -- the sizes of a grid are not refused
@@ -27,3 +27,9 @@ pub saved_is_read : (v : Volume) → IsVolume v → nrrd_of (saved_text v) ≡ O
 unfolding saved_text
 saved_is_read v is =
     ap nrrd_of (sym (append-nil (nrrd.save_text (inner_voxels v)))) ∙ save_again (inner_voxels v) [] (inner_is v is)
+
+-- and so is the file in print
+pub printed_is_read : (hex : Bool) (v : Volume) → IsVolume v → nrrd_of (saved_in_print hex v) ≡ Ok (inner_voxels v, 1)
+unfolding saved_in_print
+printed_is_read hex v is =
+    ap nrrd_of (sym (append-nil (nrrd.coded_save hex (inner_voxels v)))) ∙ coded_again hex (inner_voxels v) [] (inner_is v is)

@@ -10,11 +10,12 @@ use Rattle.iso_io.specs.Seen.{Tape, Puts}
 use Rattle.iso_io.proofs.Putting.{HasPut, has_none, has_put, has_all, put_failed}
 use Rattle.iso_base.specs.Samples.{IsOfKind}
 use Rattle.iso_base.specs.declared.kind.SampleKind.{SampleKind}
-use Rattle.nrrd.specs.Writing.{sample_text, samples_text}
+use Rattle.nrrd_text.specs.Samples.{sample_bytes}
+use Rattle.nrrd.specs.Writing.{samples_text}
 
 -- the texts of two lists of samples, one after the other
 pub samples_both : (kind : SampleKind) (a b : List ℤ) → samples_text kind (a ++ b) ≡ samples_text kind a ++ samples_text kind b
-samples_both kind a b = flat_map-append (sample_text kind) a b
+samples_both kind a b = flat_map-append (sample_bytes kind) a b
 
 -- a text that is the same
 pub same_text : {T E : Type 0} (old new : Tape) (r : Result T E) (a b : List ℕ) → a ≡ b → Puts old new r a → Puts old new r b

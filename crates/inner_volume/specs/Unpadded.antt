@@ -1,5 +1,5 @@
 -- The part of a volume off the pad's layer, as a file holds it.
-use Rattle.std.specs.Prelude.{ℕ, ◌+◌, List, map, ℤ}
+use Rattle.std.specs.Prelude.{ℕ, ◌+◌, Bool, true, false, List, map, ℤ}
 use Rattle.iso_defs.specs.Lists.{below}
 use Rattle.iso_defs.specs.Grid.{index, coordinate, point_count}
 use Rattle.iso_base.specs.Volume.{Volume, Voxels, inner_grid, layer, sample}
@@ -23,3 +23,13 @@ inner_voxels v = record { grid = inner_grid v; kind = v.kind; samples = inner_sa
 -- it as a file
 unfoldable pub saved_text : Volume → List ℕ
 saved_text v = nrrd.save_text (inner_voxels v)
+
+-- as a file in print, of lines of hex digits or of numbers
+unfoldable pub saved_in_print : Bool → Volume → List ℕ
+saved_in_print hex v = nrrd.coded_save hex (inner_voxels v)
+
+abbrev pub saved_as_text : Volume → List ℕ
+saved_as_text v = saved_in_print false v
+
+abbrev pub saved_as_hex : Volume → List ℕ
+saved_as_hex v = saved_in_print true v

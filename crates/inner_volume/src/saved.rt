@@ -37,7 +37,7 @@ fn row_point(store: &BrickStore, sizes: &Sizes, row: u32, x: u32) -> Point
 }
 
 /// The samples of a row off the pad's layer.
-fn copy_row(store: &BrickStore, sizes: &Sizes, row: u32, samples: &mut [i64])
+pub(crate) fn copy_row(store: &BrickStore, sizes: &Sizes, row: u32, samples: &mut [i64])
     requires sizes { sizes.now ≡ inner_grid store.now }
     requires row { row < sizes.now.ny * sizes.now.nz }
     requires room { length samples.old ≡ sizes.now.nx }

@@ -5,7 +5,7 @@ use Rattle.std.proofs.lemmas.List.{drop-drop, get_or-take, get_or-drop, length-t
 use Rattle.std.proofs.lemmas.List.FromFn.{fill_by_all, get_or-map-range_with_len}
 use Rattle.iso_base.specs.Samples.{width_of}
 use Rattle.iso_base.specs.declared.kind.SampleKind.{SampleKind}
-use Rattle.nrrd.specs.Samples.{number_in, as_kind, sample_of, samples_in}
+use Rattle.nrrd_text.specs.Samples.{number_in, as_kind, sample_of, samples_in}
 use Rattle.nrrd.proofs.SampleLaws.{length_samples}
 
 -- the sample of an index

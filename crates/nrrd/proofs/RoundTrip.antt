@@ -1,5 +1,6 @@
 -- The written head is read again as its sizes and its kind.
-use Rattle.std.proofs.Common.{◌≡◌, ℕ, ◌-◌, ◌<◌, ◌≤◌, true, false, cond, eqb, ltb, List, [], ◌∷◌, ◌++◌, length, None, Ok, refl, sym, ap, ◌∙◌, arith, append_assoc, decimal, codes}
+use Rattle.std.proofs.Common.{◌≡◌, ℕ, ◌+◌, ◌-◌, ◌<◌, ◌≤◌, Bool, true, false, cond, eqb, ltb, List, [], ◌∷◌, ◌++◌, length, None, Ok, refl, sym, ap, ◌∙◌, arith, append_assoc, decimal, codes}
+use Rattle.std.specs.Prelude.{flat_map}
 use Rattle.std.specs.List.{list_all}
 use Rattle.std.proofs.lemmas.Bool.{eqb-true, le-ltb, lt-ltb}
 use Rattle.std.proofs.lemmas.List.{length-append}
@@ -7,21 +8,25 @@ use Rattle.std.proofs.lemmas.List.Folds.{list_all-append}
 use Rattle.std.proofs.lemmas.Fmt.{length-decimal-le}
 use Rattle.iso_defs.specs.Grid.{Grid, point_count}
 use Rattle.iso_base.specs.Sizing.{sized, IsGrid, IsAxis}
-use Rattle.iso_base.specs.Samples.{width_of}
 use Rattle.iso_base.specs.declared.kind.SampleKind.{SampleKind}
 use Rattle.iso_base.specs.declared.kind.SampleKind.TheVariants.{I8, U8, I16, U16, I32, U32}
-use Rattle.nrrd.specs.declared.fault.Field.TheVariants.{Dimension, Kind, Sizes, Encoding, Endian}
+use Rattle.nrrd.specs.declared.fault.Field.TheVariants as fields
+use Rattle.nrrd.specs.declared.fault.Field.TheVariants.{Dimension, Kind, Sizes, Endian}
+use Rattle.nrrd.specs.declared.encoding.Encoding.{Encoding}
+use Rattle.nrrd.specs.declared.encoding.Encoding.TheVariants.{Raw, Text, Hex}
+use Rattle.nrrd.specs.Encodings.{has_order}
 use Rattle.text_lines.specs.Lines.{lines_of}
 use Rattle.text_lines.specs.Words.{skip_blanks, trim_end, trimmed, words_of, is_word}
 use Rattle.text_lines.specs.Numbers.{is_digit}
 use Rattle.nrrd.specs.Fields.{Saying, Gives, meaning_of, meanings, field_line, field_named, is_data_file, fields_in, first_fault}
-use Rattle.nrrd.specs.Checks.{layout_of, grid_of, raw_alone, order_named, is_i8, is_u8, is_i16, is_u16, is_i32, is_u32}
+use Rattle.nrrd.specs.Checks.{layout_of, grid_of, encoding_named, kind_named, order_named, is_i8, is_u8, is_i16, is_u16, is_i32, is_u32}
 use Rattle.nrrd.specs.Nrrd.{split_of, is_first}
-use Rattle.nrrd.specs.Writing.{kind_text, order_text, sizes_text, head_text}
+use Rattle.nrrd.specs.Writing.{coded_by, coded_head_text, coded_line, coded_save, encoding_text, head_in, head_text, kind_text, order_text, rows_of, sizes_text}
 use Rattle.iso_base.specs.Volume.{Voxels, IsVoxels}
 use Rattle.nrrd.specs.Nrrd.{nrrd_of}
 use Rattle.nrrd.specs.Writing.{samples_text, save_text}
-use Rattle.nrrd.proofs.SamplesAgain.{measured_again}
+use Rattle.nrrd.proofs.RowsAgain.{printed_again}
+use Rattle.nrrd.proofs.SamplesAgain.{raw_again}
 use Rattle.text_lines.proofs.Places.{decide}
 use Rattle.nrrd.proofs.Again as again
 use Rattle.nrrd.proofs.Again.{text_of, AreLines}
@@ -88,20 +93,24 @@ grid_again e g =
     rw (words, whole_again e.nx (omega (arith, g.x.most)), whole_again e.ny (omega (arith, g.y.most)), whole_again e.nz (omega (arith, g.z.most))) (rw (sized_grid e g) refl)
 
 -- the lines of the head behind the first
-order_lines : SampleKind → List (List ℕ) → List (List ℕ)
-order_lines kind ls = cond (eqb (width_of kind) 1) ls (codes "endian: little" ∷ ls)
+tail_lines : Bool → Encoding → List (List ℕ)
+tail_lines ordered encoding = cond ordered
+    (codes "endian: little" ∷ (codes "encoding: " ++ encoding_text encoding) ∷ [])
+    ((codes "encoding: " ++ encoding_text encoding) ∷ [])
 
-lines_for : SampleKind → Grid → List (List ℕ)
-lines_for kind e = (codes "type: " ++ kind_text kind) ∷ codes "dimension: 3" ∷ (codes "sizes: " ++ sizes_text e) ∷ order_lines kind (codes "encoding: raw" ∷ [])
+lines_for : Bool → Encoding → SampleKind → Grid → List (List ℕ)
+lines_for ordered encoding kind e = (codes "type: " ++ kind_text kind) ∷ codes "dimension: 3" ∷ (codes "sizes: " ++ sizes_text e) ∷ tail_lines ordered encoding
 
-head_lines : (kind : SampleKind) (e : Grid) (body : List ℕ) → head_text e kind ++ body ≡ text_of (codes "NRRD0004" ∷ lines_for kind e) (10 ∷ body)
-unfolding head_text kind_text order_text lines_for order_lines
-head_lines I8 e body = simp append_assoc
-head_lines U8 e body = simp append_assoc
-head_lines I16 e body = simp append_assoc
-head_lines U16 e body = simp append_assoc
-head_lines I32 e body = simp append_assoc
-head_lines U32 e body = simp append_assoc
+abbrev head_with : Bool → Encoding → Grid → SampleKind → List ℕ
+head_with ordered encoding e kind =
+    codes "NRRD0004\ntype: " ++ kind_text kind ++ codes "\ndimension: 3\nsizes: " ++ sizes_text e
+    ++ order_text ordered ++ codes "\nencoding: " ++ encoding_text encoding ++ codes "\n\n"
+
+head_lines : (ordered : Bool) (encoding : Encoding) (kind : SampleKind) (e : Grid) (body : List ℕ)
+    → head_with ordered encoding e kind ++ body ≡ text_of (codes "NRRD0004" ∷ lines_for ordered encoding kind e) (10 ∷ body)
+unfolding lines_for tail_lines
+head_lines true encoding kind e body = simp append_assoc
+head_lines false encoding kind e body = simp append_assoc
 
 nonzero : (n : ℕ) → 0 < n → eqb n 0 ≡ false
 nonzero n some = decide (eqb n 0) (λ t. absurd (omega (arith, eqb-true n 0 t))) (λ f. f)
@@ -114,20 +123,35 @@ quiet_sizes e g =
     let z = quiet_digits (decimal e.nz) (axis e.nz g.z).all in
     simp (list_all-append, x, y, z)
 
-are_lines : (kind : SampleKind) (e : Grid) → IsGrid e → AreLines (lines_for kind e)
-unfolding lines_for order_lines kind_text
-are_lines I8 e g = (refl, refl, (refl, refl, (quiet_sizes e g, nonzero _ (omega arith), (refl, refl, tt))))
-are_lines U8 e g = (refl, refl, (refl, refl, (quiet_sizes e g, nonzero _ (omega arith), (refl, refl, tt))))
-are_lines I16 e g = (refl, refl, (refl, refl, (quiet_sizes e g, nonzero _ (omega arith), (refl, refl, (refl, refl, tt)))))
-are_lines U16 e g = (refl, refl, (refl, refl, (quiet_sizes e g, nonzero _ (omega arith), (refl, refl, (refl, refl, tt)))))
-are_lines I32 e g = (refl, refl, (refl, refl, (quiet_sizes e g, nonzero _ (omega arith), (refl, refl, (refl, refl, tt)))))
-are_lines U32 e g = (refl, refl, (refl, refl, (quiet_sizes e g, nonzero _ (omega arith), (refl, refl, (refl, refl, tt)))))
+quiet_type : (kind : SampleKind) → list_all is_quiet (codes "type: " ++ kind_text kind) ≡ true
+unfolding kind_text
+quiet_type I8 = refl
+quiet_type U8 = refl
+quiet_type I16 = refl
+quiet_type U16 = refl
+quiet_type I32 = refl
+quiet_type U32 = refl
 
-order_says : SampleKind → List Saying → List Saying
-order_says kind ls = cond (eqb (width_of kind) 1) ls (Gives Endian (codes "little") ∷ ls)
+quiet_encoding : (encoding : Encoding) → list_all is_quiet (codes "encoding: " ++ encoding_text encoding) ≡ true
+unfolding encoding_text
+quiet_encoding Raw = refl
+quiet_encoding Text = refl
+quiet_encoding Hex = refl
 
-pub says_for : SampleKind → Grid → List Saying
-says_for kind e = Gives Kind (kind_text kind) ∷ Gives Dimension (codes "3") ∷ Gives Sizes (sizes_text e) ∷ order_says kind (Gives Encoding (codes "raw") ∷ [])
+are_lines : (ordered : Bool) (encoding : Encoding) (kind : SampleKind) (e : Grid) → IsGrid e → AreLines (lines_for ordered encoding kind e)
+unfolding lines_for tail_lines
+are_lines true encoding kind e g =
+    (quiet_type kind, nonzero _ (omega arith), (refl, refl, (quiet_sizes e g, nonzero _ (omega arith), (refl, refl, (quiet_encoding encoding, nonzero _ (omega arith), tt)))))
+are_lines false encoding kind e g =
+    (quiet_type kind, nonzero _ (omega arith), (refl, refl, (quiet_sizes e g, nonzero _ (omega arith), (quiet_encoding encoding, nonzero _ (omega arith), tt))))
+
+tail_says : Bool → Encoding → List Saying
+tail_says ordered encoding = cond ordered
+    (Gives Endian (codes "little") ∷ Gives fields.Encoding (encoding_text encoding) ∷ [])
+    (Gives fields.Encoding (encoding_text encoding) ∷ [])
+
+pub says_for : Bool → Encoding → SampleKind → Grid → List Saying
+says_for ordered encoding kind e = Gives Kind (kind_text kind) ∷ Gives Dimension (codes "3") ∷ Gives Sizes (sizes_text e) ∷ tail_says ordered encoding
 
 type_line : (kind : SampleKind) → meaning_of (codes "type: " ++ kind_text kind) ≡ Gives Kind (kind_text kind)
 unfolding meaning_of field_line field_named is_data_file is_word kind_text
@@ -138,9 +162,15 @@ type_line U16 = refl
 type_line I32 = refl
 type_line U32 = refl
 
-fixed_lines : (meaning_of (codes "dimension: 3") ≡ Gives Dimension (codes "3")) × (meaning_of (codes "encoding: raw") ≡ Gives Encoding (codes "raw")) × (meaning_of (codes "endian: little") ≡ Gives Endian (codes "little"))
+encoding_line : (encoding : Encoding) → meaning_of (codes "encoding: " ++ encoding_text encoding) ≡ Gives fields.Encoding (encoding_text encoding)
+unfolding meaning_of field_line field_named is_data_file is_word encoding_text
+encoding_line Raw = refl
+encoding_line Text = refl
+encoding_line Hex = refl
+
+fixed_lines : (meaning_of (codes "dimension: 3") ≡ Gives Dimension (codes "3")) × (meaning_of (codes "endian: little") ≡ Gives Endian (codes "little"))
 unfolding meaning_of field_line field_named is_data_file is_word
-fixed_lines = (refl, refl, refl)
+fixed_lines = (refl, refl)
 
 sizes_said : (e : Grid) → IsGrid e → meaning_of (codes "sizes: " ++ sizes_text e) ≡ Gives Sizes (sizes_text e)
 sizes_said e g =
@@ -149,78 +179,119 @@ sizes_said e g =
     let s = sizes_spaced e in
     sizes_line (sizes_text e) (ap (λ (t : List ℕ). trimmed (32 ∷ t)) s ∙ trimmed_spaced (decimal e.nx) (decimal e.ny) (decimal e.nz) (solid_digits (decimal e.nx) x.all) (solid_digits (decimal e.nz) z.all) x.some z.some ∙ sym s)
 
-order_said : (kind : SampleKind) → meanings (order_lines kind (codes "encoding: raw" ∷ [])) ≡ order_says kind (Gives Encoding (codes "raw") ∷ [])
-unfolding order_lines order_says
-order_said I8 = rw (fixed_lines.1) refl
-order_said U8 = rw (fixed_lines.1) refl
-order_said I16 = rw (fixed_lines.1, fixed_lines.2) refl
-order_said U16 = rw (fixed_lines.1, fixed_lines.2) refl
-order_said I32 = rw (fixed_lines.1, fixed_lines.2) refl
-order_said U32 = rw (fixed_lines.1, fixed_lines.2) refl
+tail_said : (ordered : Bool) (encoding : Encoding) → meanings (tail_lines ordered encoding) ≡ tail_says ordered encoding
+unfolding tail_lines tail_says
+tail_said true encoding = rw (fixed_lines.1, encoding_line encoding) refl
+tail_said false encoding = rw (encoding_line encoding) refl
 
-all_said : (kind : SampleKind) (e : Grid) → IsGrid e → meanings (lines_for kind e) ≡ says_for kind e
+all_said : (ordered : Bool) (encoding : Encoding) (kind : SampleKind) (e : Grid) → IsGrid e → meanings (lines_for ordered encoding kind e) ≡ says_for ordered encoding kind e
 unfolding lines_for says_for
-all_said kind e g =
+all_said ordered encoding kind e g =
     let t = type_line kind in
     let d = fixed_lines.0 in
     let s = sizes_said e g in
-    let o = order_said kind in
+    let o = tail_said ordered encoding in
     rw (t, d, s, o) refl
 
-no_fault : (kind : SampleKind) (e : Grid) → first_fault (says_for kind e) ≡ None
-unfolding says_for order_says
-no_fault I8 e = refl
-no_fault U8 e = refl
-no_fault I16 e = refl
-no_fault U16 e = refl
-no_fault I32 e = refl
-no_fault U32 e = refl
+no_fault : (ordered : Bool) (encoding : Encoding) (kind : SampleKind) (e : Grid) → first_fault (says_for ordered encoding kind e) ≡ None
+unfolding says_for tail_says
+no_fault true encoding kind e = refl
+no_fault false encoding kind e = refl
 
-pub layout_again : (kind : SampleKind) (e : Grid) → IsGrid e → layout_of (fields_in (says_for kind e)) ≡ Ok (e, kind, false)
-unfolding layout_of says_for order_says kind_text is_word is_i8 is_u8 is_i16 is_u16 is_i32 is_u32 raw_alone order_named
-layout_again I8 e g = rw (grid_again e g) refl
-layout_again U8 e g = rw (grid_again e g) refl
-layout_again I16 e g = rw (grid_again e g) refl
-layout_again U16 e g = rw (grid_again e g) refl
-layout_again I32 e g = rw (grid_again e g) refl
-layout_again U32 e g = rw (grid_again e g) refl
+kind_again : (kind : SampleKind) → kind_named (kind_text kind) ≡ Ok kind
+unfolding kind_text is_word is_i8 is_u8 is_i16 is_u16 is_i32 is_u32
+kind_again I8 = refl
+kind_again U8 = refl
+kind_again I16 = refl
+kind_again U16 = refl
+kind_again I32 = refl
+kind_again U32 = refl
 
-head_short : (kind : SampleKind) (e : Grid) → IsGrid e → length (head_text e kind) ≤ 65536
-unfolding head_text kind_text order_text sizes_text
-head_short kind e g =
+encoding_again : (encoding : Encoding) → encoding_named (encoding_text encoding) ≡ Ok encoding
+unfolding encoding_text encoding_named is_word
+encoding_again Raw = refl
+encoding_again Text = refl
+encoding_again Hex = refl
+
+little_again : order_named (codes "little") ≡ Ok false
+unfolding order_named is_word
+little_again = refl
+
+pub layout_again : (ordered : Bool) (encoding : Encoding) (kind : SampleKind) (e : Grid) → has_order encoding kind ≡ ordered → IsGrid e
+    → layout_of (fields_in (says_for ordered encoding kind e)) ≡ Ok (record { sizes = e; kind = kind; encoding = encoding; big = false })
+unfolding layout_of says_for tail_says
+layout_again true encoding kind e h g = rw (kind_again kind, encoding_again encoding, grid_again e g, h, little_again) refl
+layout_again false encoding kind e h g = rw (kind_again kind, encoding_again encoding, grid_again e g, h) refl
+
+kind_short : (kind : SampleKind) → length (kind_text kind) ≤ 6
+unfolding kind_text
+kind_short I8 = omega arith
+kind_short U8 = omega arith
+kind_short I16 = omega arith
+kind_short U16 = omega arith
+kind_short I32 = omega arith
+kind_short U32 = omega arith
+
+encoding_short : (encoding : Encoding) → length (encoding_text encoding) ≤ 4
+unfolding encoding_text
+encoding_short Raw = omega arith
+encoding_short Text = omega arith
+encoding_short Hex = omega arith
+
+order_short : (ordered : Bool) → length (order_text ordered) ≤ 15
+order_short true = omega arith
+order_short false = omega arith
+
+head_short : (encoding : Encoding) (kind : SampleKind) (e : Grid) → IsGrid e → length (head_in encoding e kind) ≤ 65536
+unfolding head_in sizes_text
+head_short encoding kind e g =
     let x : length (decimal e.nx) ≤ 4 = length-decimal-le 4 e.nx (omega arith) (omega (arith, g.x.most)) (omega (arith, g.x.most)) in
     let y : length (decimal e.ny) ≤ 4 = length-decimal-le 4 e.ny (omega arith) (omega (arith, g.y.most)) (omega (arith, g.y.most)) in
     let z : length (decimal e.nz) ≤ 4 = length-decimal-le 4 e.nz (omega arith) (omega (arith, g.z.most)) (omega (arith, g.z.most)) in
-    by_kind kind x y z where
-      by_kind : (kind : SampleKind) → length (decimal e.nx) ≤ 4 → length (decimal e.ny) ≤ 4 → length (decimal e.nz) ≤ 4 → length (head_text e kind) ≤ 65536
-      by_kind I8 x y z = simp length-append (omega arith)
-      by_kind U8 x y z = simp length-append (omega arith)
-      by_kind I16 x y z = simp length-append (omega arith)
-      by_kind U16 x y z = simp length-append (omega arith)
-      by_kind I32 x y z = simp length-append (omega arith)
-      by_kind U32 x y z = simp length-append (omega arith)
+    by_parts (kind_short kind) (encoding_short encoding) (order_short (has_order encoding kind)) x y z where
+      by_parts : length (kind_text kind) ≤ 6 → length (encoding_text encoding) ≤ 4 → length (order_text (has_order encoding kind)) ≤ 15
+          → length (decimal e.nx) ≤ 4 → length (decimal e.ny) ≤ 4 → length (decimal e.nz) ≤ 4 → length (head_in encoding e kind) ≤ 65536
+      by_parts k n o x y z = simp length-append (omega arith)
 
 first_again : is_first (codes "NRRD0004") ≡ true
 unfolding is_first
 first_again = refl
 
-pub split_again : (kind : SampleKind) (e : Grid) (body : List ℕ) → IsGrid e → split_of (head_text e kind ++ body) ≡ Ok (fields_in (says_for kind e), body)
+pub split_again : (encoding : Encoding) (kind : SampleKind) (e : Grid) (body : List ℕ) → IsGrid e
+    → split_of (head_in encoding e kind ++ body) ≡ Ok (fields_in (says_for (has_order encoding kind) encoding kind e), body)
 unfolding split_of
-split_again kind e body g =
-    let more = text_of (lines_for kind e) (10 ∷ body) in
-    let lines : lines_of (head_text e kind ++ body) ≡ record { text = codes "NRRD0004"; after = more } ∷ lines_of more = ap lines_of (head_lines kind e body) ∙ line_text (codes "NRRD0004") more refl in
-    let texts = again.texts_again (lines_for kind e) body (are_lines kind e g) in
-    let samples = again.samples_again (lines_for kind e) body (are_lines kind e g) in
-    let short : ltb 65536 (length (head_text e kind ++ body) - length body) ≡ false = le-ltb _ _ (omega (arith, head_short kind e g, length-append (head_text e kind) body)) in
+split_again encoding kind e body g =
+    let ls = lines_for (has_order encoding kind) encoding kind e in
+    let more = text_of ls (10 ∷ body) in
+    let lines : lines_of (head_in encoding e kind ++ body) ≡ record { text = codes "NRRD0004"; after = more } ∷ lines_of more
+    = ap lines_of (head_is encoding kind e body) ∙ line_text (codes "NRRD0004") more refl in
+    let texts = again.texts_again ls body (are_lines (has_order encoding kind) encoding kind e g) in
+    let samples = again.samples_again ls body (are_lines (has_order encoding kind) encoding kind e g) in
+    let short : ltb 65536 (length (head_in encoding e kind ++ body) - length body) ≡ false
+    = le-ltb _ _ (omega (arith, head_short encoding kind e g, length-append (head_in encoding e kind) body)) in
     let first = first_again in
-    let says = all_said kind e g in
-    let none = no_fault kind e in
+    let says = all_said (has_order encoding kind) encoding kind e g in
+    let none = no_fault (has_order encoding kind) encoding kind e in
     rw (lines, first, samples, short, texts, says, none) refl
+  where
+    head_is : (encoding : Encoding) (kind : SampleKind) (e : Grid) (body : List ℕ)
+        → head_in encoding e kind ++ body ≡ text_of (codes "NRRD0004" ∷ lines_for (has_order encoding kind) encoding kind e) (10 ∷ body)
+    head_is encoding kind e body = unfold head_in in head_lines (has_order encoding kind) encoding kind e body
 
 pub save_again : (v : Voxels) (rest : List ℕ) → IsVoxels v → nrrd_of (save_text v ++ rest) ≡ Ok (v, length rest)
 unfolding nrrd_of
 save_again v rest h =
     let regrouped = append_assoc (head_text v.grid v.kind) (samples_text v.kind v.samples) rest in
-    let split = split_again v.kind v.grid (samples_text v.kind v.samples ++ rest) h.grid in
-    let layout = layout_again v.kind v.grid h.grid in
-    rw (regrouped, split, layout) (measured_again v rest h)
+    let split = split_again Raw v.kind v.grid (samples_text v.kind v.samples ++ rest) h.grid in
+    let layout = layout_again (has_order Raw v.kind) Raw v.kind v.grid refl h.grid in
+    rw (regrouped, split, layout, raw_again v rest h) refl
+
+-- samples in print are read by the lines of the rows
+pub coded_again : (hex : Bool) (v : Voxels) (rest : List ℕ) → IsVoxels v → nrrd_of (coded_save hex v ++ rest) ≡ Ok (v, length rest + 1)
+unfolding nrrd_of
+coded_again hex v rest h =
+    let body : List ℕ = flat_map (coded_line hex v.kind) (rows_of v) in
+    let regrouped = append_assoc (coded_head_text v.grid v.kind hex) body rest in
+    let split = split_again (coded_by hex) v.kind v.grid (body ++ rest) h.grid in
+    let layout = layout_again (has_order (coded_by hex) v.kind) (coded_by hex) v.kind v.grid refl h.grid in
+    rw (regrouped, split, layout, printed_again hex v rest h) refl

@@ -1,6 +1,5 @@
 -- Written samples are read again.
-use Rattle.std.proofs.Common.{◌≡◌, ℕ, zero, suc, ◌+◌, ◌-◌, ◌*◌, ◌^◌, ◌<◌, false, ltb, List, [], ◌∷◌, ◌++◌, length, get_or, drop, Ok, refl, sym, ap, ◌∙◌, arith, append_assoc, All, ℤ, pos, negsuc}
-use Rattle.std.proofs.lemmas.Int.{ints}
+use Rattle.std.proofs.Common.{◌≡◌, ℕ, zero, suc, ◌+◌, ◌-◌, ◌*◌, ◌<◌, false, ltb, List, [], ◌∷◌, ◌++◌, length, get_or, drop, Ok, refl, sym, ap, ◌∙◌, arith, append_assoc, All, ℤ, pos}
 use Rattle.std.proofs.lemmas.Bool.{le-ltb}
 use Rattle.std.proofs.lemmas.List.{length-append}
 use Rattle.std.proofs.lemmas.List.Concat.{flat_map-cons}
@@ -12,50 +11,27 @@ use Rattle.iso_defs.specs.Grid.{point_count}
 use Rattle.iso_base.specs.Samples.{IsOfKind, width_of}
 use Rattle.iso_base.specs.Volume.{Voxels, IsVoxels}
 use Rattle.iso_base.specs.declared.kind.SampleKind.{SampleKind}
-use Rattle.iso_base.specs.declared.kind.SampleKind.TheVariants.{I8, U8, I16, U16, I32, U32}
-use Rattle.nrrd.specs.Samples.{as_kind, sample_of, samples_in, number_in}
-use Rattle.nrrd.specs.Writing.{bits_of, sample_text, samples_text}
-use Rattle.nrrd.specs.Nrrd.{measured}
-use Rattle.nrrd.proofs.SampleLaws.{twos_8, twos_16, twos_32}
+use Rattle.nrrd_text.specs.Samples.{as_kind, bits_of, number_in, sample_bytes, sample_of, samples_in}
+use Rattle.nrrd_text.proofs.KindBits.{bits_fit, kind_bits}
+use Rattle.nrrd.specs.Writing.{samples_text}
+use Rattle.nrrd.specs.Nrrd.{raw_samples}
 use Rattle.nrrd.proofs.Texts.{length_sample}
 
-bits_fit : (kind : SampleKind) (v : ℤ) → IsOfKind kind v → bits_of kind v < 256 ^ width_of kind
-bits_fit I8 v h = omega (arith, ints, h.low, h.high)
-bits_fit U8 (pos n) h = omega (arith, ints, h.high)
-bits_fit U8 (negsuc n) h = absurd (omega (arith, ints, h.low))
-bits_fit I16 v h = omega (arith, ints, h.low, h.high)
-bits_fit U16 (pos n) h = omega (arith, ints, h.high)
-bits_fit U16 (negsuc n) h = absurd (omega (arith, ints, h.low))
-bits_fit I32 v h = omega (arith, ints, h.low, h.high)
-bits_fit U32 (pos n) h = omega (arith, ints, h.high)
-bits_fit U32 (negsuc n) h = absurd (omega (arith, ints, h.low))
-
-kind_bits : (kind : SampleKind) (v : ℤ) → IsOfKind kind v → as_kind kind (bits_of kind v) ≡ v
-kind_bits I8 v h = sym (twos_8 (bits_of I8 v) (bits_fit I8 v h)) ∙ omega (arith, ints, h.low, h.high)
-kind_bits U8 (pos n) h = refl
-kind_bits U8 (negsuc n) h = absurd (omega (arith, ints, h.low))
-kind_bits I16 v h = sym (twos_16 (bits_of I16 v) (bits_fit I16 v h)) ∙ omega (arith, ints, h.low, h.high)
-kind_bits U16 (pos n) h = refl
-kind_bits U16 (negsuc n) h = absurd (omega (arith, ints, h.low))
-kind_bits I32 v h = sym (twos_32 (bits_of I32 v) (bits_fit I32 v h)) ∙ omega (arith, ints, h.low, h.high)
-kind_bits U32 (pos n) h = refl
-kind_bits U32 (negsuc n) h = absurd (omega (arith, ints, h.low))
-
-sample_again : (kind : SampleKind) (v : ℤ) (rest : List ℕ) → IsOfKind kind v → as_kind kind (number_in false (width_of kind) (sample_text kind v ++ rest)) ≡ v
+sample_again : (kind : SampleKind) (v : ℤ) (rest : List ℕ) → IsOfKind kind v → as_kind kind (number_in false (width_of kind) (sample_bytes kind v ++ rest)) ≡ v
 sample_again kind v rest h = ap (as_kind kind) (little_number-reads_back (width_of kind) (bits_of kind v) rest (bits_fit kind v h)) ∙ kind_bits kind v h
 
 -- where the sample of an index stands
-at_sample : (kind : SampleKind) (vs : List ℤ) (rest : List ℕ) (k : ℕ) → k < length vs → (more : List ℕ) × (drop (width_of kind * k) (samples_text kind vs ++ rest) ≡ sample_text kind (get_or vs k (pos 0)) ++ more)
+at_sample : (kind : SampleKind) (vs : List ℤ) (rest : List ℕ) (k : ℕ) → k < length vs → (more : List ℕ) × (drop (width_of kind * k) (samples_text kind vs ++ rest) ≡ sample_bytes kind (get_or vs k (pos 0)) ++ more)
 at_sample kind [] rest k lt = absurd (omega arith)
 at_sample kind (v ∷ vs) rest zero lt =
     let none : width_of kind * 0 ≡ 0 = omega arith in
-    let parts : samples_text kind (v ∷ vs) ++ rest ≡ sample_text kind v ++ (samples_text kind vs ++ rest) = ap (λ (l : List ℕ). l ++ rest) (flat_map-cons (sample_text kind) v vs) ∙ append_assoc (sample_text kind v) (samples_text kind vs) rest in
+    let parts : samples_text kind (v ∷ vs) ++ rest ≡ sample_bytes kind v ++ (samples_text kind vs ++ rest) = ap (λ (l : List ℕ). l ++ rest) (flat_map-cons (sample_bytes kind) v vs) ∙ append_assoc (sample_bytes kind v) (samples_text kind vs) rest in
     (samples_text kind vs ++ rest, ap (λ (n : ℕ). drop n (samples_text kind (v ∷ vs) ++ rest)) none ∙ parts)
 at_sample kind (v ∷ vs) rest (suc k) lt =
     let ih = at_sample kind vs rest k (omega arith) in
-    let parts : samples_text kind (v ∷ vs) ++ rest ≡ sample_text kind v ++ (samples_text kind vs ++ rest) = ap (λ (l : List ℕ). l ++ rest) (flat_map-cons (sample_text kind) v vs) ∙ append_assoc (sample_text kind v) (samples_text kind vs) rest in
-    let n : width_of kind * suc k ≡ length (sample_text kind v) + width_of kind * k = omega (arith, mul-suc (width_of kind) k, length_sample kind v) in
-    (ih.0, ap (λ (j : ℕ). drop j (samples_text kind (v ∷ vs) ++ rest)) n ∙ ap (drop (length (sample_text kind v) + width_of kind * k)) parts ∙ drop-append-add (sample_text kind v) (samples_text kind vs ++ rest) (width_of kind * k) ∙ ih.1)
+    let parts : samples_text kind (v ∷ vs) ++ rest ≡ sample_bytes kind v ++ (samples_text kind vs ++ rest) = ap (λ (l : List ℕ). l ++ rest) (flat_map-cons (sample_bytes kind) v vs) ∙ append_assoc (sample_bytes kind v) (samples_text kind vs) rest in
+    let n : width_of kind * suc k ≡ length (sample_bytes kind v) + width_of kind * k = omega (arith, mul-suc (width_of kind) k, length_sample kind v) in
+    (ih.0, ap (λ (j : ℕ). drop j (samples_text kind (v ∷ vs) ++ rest)) n ∙ ap (drop (length (sample_bytes kind v) + width_of kind * k)) parts ∙ drop-append-add (sample_bytes kind v) (samples_text kind vs ++ rest) (width_of kind * k) ∙ ih.1)
 
 samples_again : (kind : SampleKind) (vs : List ℤ) (rest : List ℕ) → All (IsOfKind kind) vs → samples_in kind false (samples_text kind vs ++ rest) (length vs) ≡ vs
 samples_again kind vs rest each = sym (fill_by_all (sample_of kind false (samples_text kind vs ++ rest)) vs (length vs) (pos 0) refl
@@ -63,10 +39,10 @@ samples_again kind vs rest each = sym (fill_by_all (sample_of kind false (sample
 
 length_samples : (kind : SampleKind) (vs : List ℤ) → length (samples_text kind vs) ≡ width_of kind * length vs
 length_samples kind [] = omega arith
-length_samples kind (v ∷ vs) = ap length (flat_map-cons (sample_text kind) v vs) ∙ omega (arith, length-append (sample_text kind v) (samples_text kind vs), length_sample kind v, length_samples kind vs, mul-suc (width_of kind) (length vs))
+length_samples kind (v ∷ vs) = ap length (flat_map-cons (sample_bytes kind) v vs) ∙ omega (arith, length-append (sample_bytes kind v) (samples_text kind vs), length_sample kind v, length_samples kind vs, mul-suc (width_of kind) (length vs))
 
-pub measured_again : (v : Voxels) (rest : List ℕ) → IsVoxels v → measured v.grid v.kind false (samples_text v.kind v.samples ++ rest) ≡ Ok (v, length rest)
-measured_again v rest h =
+pub raw_again : (v : Voxels) (rest : List ℕ) → IsVoxels v → raw_samples v.kind false (point_count v.grid) (samples_text v.kind v.samples ++ rest) ≡ Ok (v.samples, length rest)
+raw_again v rest h =
     let n : length (samples_text v.kind v.samples) ≡ width_of v.kind * point_count v.grid = length_samples v.kind v.samples ∙ ap (λ (k : ℕ). width_of v.kind * k) h.count in
     let all : length (samples_text v.kind v.samples ++ rest) ≡ width_of v.kind * point_count v.grid + length rest = omega (arith, n, length-append (samples_text v.kind v.samples) rest) in
     let enough : ltb (length (samples_text v.kind v.samples ++ rest)) (width_of v.kind * point_count v.grid) ≡ false = le-ltb _ _ (omega (arith, all)) in

@@ -11,31 +11,32 @@ use Rattle.iso_base.specs.declared.kind.SampleKind.TheVariants.{I8, U8, I16, U16
 use Rattle.iso_base.specs.Samples.{IsOfKind}
 use Rattle.std.proofs.lemmas.Int.{ints}
 use Rattle.std.specs.Int.{w64}
-use Rattle.nrrd.specs.Writing.{bits_of, sample_text, samples_text}
+use Rattle.nrrd_text.specs.Samples.{bits_of, sample_bytes}
+use Rattle.nrrd.specs.Writing.{samples_text}
 
 pub two_parts : (kind : SampleKind) (rest piece after : List ℤ) (n : ℕ) → piece ≡ take n rest → after ≡ drop n rest → samples_text kind rest ≡ samples_text kind piece ++ samples_text kind after
 two_parts kind rest piece after n front back =
-    rw (front, back) (ap (samples_text kind) (sym (take-append-drop n rest)) ∙ flat_map-append (sample_text kind) (take n rest) (drop n rest))
+    rw (front, back) (ap (samples_text kind) (sym (take-append-drop n rest)) ∙ flat_map-append (sample_bytes kind) (take n rest) (drop n rest))
 
 pub all_behind : (P : ℤ → Type 0) (rest after : List ℤ) (n : ℕ) → after ≡ drop n rest → All P rest → All P after
 all_behind P rest after n back each = rw back (λ k d lt. let at = get_or-drop n rest k d in rw at (each (n + k) d (omega (arith, length-drop n rest))))
 
-pub length_sample : (kind : SampleKind) (v : ℤ) → length (sample_text kind v) ≡ width_of kind
+pub length_sample : (kind : SampleKind) (v : ℤ) → length (sample_bytes kind v) ≡ width_of kind
 length_sample kind v = length-bytes_low_first 0 (width_of kind) (bits_of kind v)
 
 -- each sample has as many bytes as its kind
 pub length-samples_text : (kind : SampleKind) (xs : List ℤ) → length (samples_text kind xs) ≡ width_of kind * length xs
 length-samples_text kind [] = omega arith
 length-samples_text kind (x ∷ xs) =
-    length-append (sample_text kind x) (samples_text kind xs)
+    length-append (sample_bytes kind x) (samples_text kind xs)
     ∙ (ap (λ n. n + length (samples_text kind xs)) (length_sample kind x) ∙ (ap (λ n. width_of kind + n) (length-samples_text kind xs) ∙ more (width_of kind) (length xs)))
   where
     more : (w n : ℕ) → w + w * n ≡ w * suc n
     more w n = omega arith
 
-one_more : (kind : SampleKind) (piece : List ℤ) (i : ℕ) → i < length piece → samples_text kind (take (i + 1) piece) ≡ samples_text kind (take i piece) ++ sample_text kind (get_or piece i (pos 0))
+one_more : (kind : SampleKind) (piece : List ℤ) (i : ℕ) → i < length piece → samples_text kind (take (i + 1) piece) ≡ samples_text kind (take i piece) ++ sample_bytes kind (get_or piece i (pos 0))
 one_more kind piece i lt =
-    let f = sample_text kind in
+    let f = sample_bytes kind in
     let x = get_or piece i (pos 0) in
     ap (samples_text kind) (take_at_read piece i (pos 0) lt).1
     ∙ flat_map-append f (take i piece) (x ∷ [])
@@ -46,14 +47,14 @@ placed front bytes more n e =
     let k : n ≡ length (front ++ bytes) = omega (arith, length-append front bytes) in
     rw (k, ← append_assoc front bytes more) (take-append_seam (front ++ bytes) more)
 
-pub stepped : (kind : SampleKind) (piece : List ℤ) (room buf rest post : List ℕ) (i n a : ℕ) (v : ℤ) → i < length piece → v ≡ get_or piece i (pos 0) → a ≤ length room → n ≡ a + width_of kind → buf ≡ sample_text kind v ++ rest
+pub stepped : (kind : SampleKind) (piece : List ℤ) (room buf rest post : List ℕ) (i n a : ℕ) (v : ℤ) → i < length piece → v ≡ get_or piece i (pos 0) → a ≤ length room → n ≡ a + width_of kind → buf ≡ sample_bytes kind v ++ rest
     → take a room ≡ samples_text kind (take i piece) → take n (take a room ++ (buf ++ post)) ≡ samples_text kind (take (i + 1) piece)
 stepped kind piece room buf rest post i n a v lt here within e made so_far =
-    let regrouped : take a room ++ (buf ++ post) ≡ take a room ++ (sample_text kind v ++ (rest ++ post)) = ap (λ (l : List ℕ). take a room ++ l) (ap (λ (l : List ℕ). l ++ post) made ∙ append_assoc (sample_text kind v) rest post) in
+    let regrouped : take a room ++ (buf ++ post) ≡ take a room ++ (sample_bytes kind v ++ (rest ++ post)) = ap (λ (l : List ℕ). take a room ++ l) (ap (λ (l : List ℕ). l ++ post) made ∙ append_assoc (sample_bytes kind v) rest post) in
     ap (take n) regrouped
-    ∙ placed (take a room) (sample_text kind v) (rest ++ post) n (omega (arith, length-take-le a room within, length_sample kind v))
-    ∙ ap (λ (l : List ℕ). l ++ sample_text kind v) so_far
-    ∙ ap (λ (x : ℤ). samples_text kind (take i piece) ++ sample_text kind x) here
+    ∙ placed (take a room) (sample_bytes kind v) (rest ++ post) n (omega (arith, length-take-le a room within, length_sample kind v))
+    ∙ ap (λ (l : List ℕ). l ++ sample_bytes kind v) so_far
+    ∙ ap (λ (x : ℤ). samples_text kind (take i piece) ++ sample_bytes kind x) here
     ∙ sym (one_more kind piece i lt)
 
 -- a sample fits in 64 bits

@@ -2,19 +2,23 @@
 use Rattle.std.specs.Prelude.{ℕ, zero, Bool, true, false, ◌==◌, ◌||◌, List, ℤ, pos, Option, Some, None, Result, Ok, Err, ok_or, option_and_then, if◌then◌else◌, codes, ⊤}
 use Rattle.iso_defs.specs.Grid.{Grid}
 use Rattle.iso_base.specs.Sizing.{sized}
-use Rattle.iso_base.specs.Samples.{width_of}
 use Rattle.iso_base.specs.declared.kind.SampleKind.{SampleKind}
 use Rattle.iso_base.specs.declared.kind.SampleKind.TheVariants.{I8, U8, I16, U16, I32, U32}
 use Rattle.iso_base.specs.declared.sizes.SizeFault.{SizeFault}
 use Rattle.nrrd.specs.declared.fault.Field.{Field}
-use Rattle.nrrd.specs.declared.fault.Field.TheVariants.{Dimension, Kind, Sizes, Encoding, Endian, LineSkip, ByteSkip}
+use Rattle.nrrd.specs.declared.fault.Field.TheVariants.{Dimension, Kind, Sizes, Endian, LineSkip, ByteSkip}
+use Rattle.nrrd.specs.declared.fault.Field.TheVariants as fields
 use Rattle.nrrd.specs.declared.fault.EncodingWord.{EncodingWord}
-use Rattle.nrrd.specs.declared.fault.EncodingWord.TheVariants.{Text, Hex, Gzip, Bzip2, Unknown}
+use Rattle.nrrd.specs.declared.fault.EncodingWord.TheVariants.{Gzip, Bzip2, Unknown}
+use Rattle.nrrd.specs.declared.encoding.Encoding.{Encoding}
+use Rattle.nrrd.specs.declared.encoding.Encoding.TheVariants.{Raw, Text, Hex}
+use Rattle.nrrd.specs.declared.layout.Layout.{Layout}
 use Rattle.nrrd.specs.declared.fault.NrrdFault.{NrrdFault}
 use Rattle.nrrd.specs.declared.fault.NrrdFault.TheVariants.{MissingField, BadValue, NotThreeAxes, UnsupportedKind, UnsupportedEncoding, SkipUnsupported, Size, NoEndian}
 use Rattle.text_lines.specs.Words.{is_word, words_of, three_in}
 use Rattle.text_lines.specs.Numbers.{number_of, whole_of}
 use Rattle.text_lines.specs.Refusals.{◌>>=◌}
+use Rattle.nrrd.specs.Encodings.{has_order}
 use Rattle.nrrd.specs.Fields.{Fields}
 
 -- the value, as it is seen
@@ -62,17 +66,19 @@ kind_named w =
     Err UnsupportedKind
 
 -- the encodings that are not read
-unfoldable pub encoding_named : List ℕ → EncodingWord
-encoding_named w =
-    if is_word w (codes "txt") || is_word w (codes "text") || is_word w (codes "ascii") then Text else
-    if is_word w (codes "hex") then Hex else
+unfoldable pub unread_encoding : List ℕ → EncodingWord
+unread_encoding w =
     if is_word w (codes "gz") || is_word w (codes "gzip") then Gzip else
     if is_word w (codes "bz2") || is_word w (codes "bzip2") then Bzip2 else
     Unknown
 
--- the one encoding that is read
-unfoldable pub raw_alone : List ℕ → Result ⊤ NrrdFault
-raw_alone w = if is_word w (codes "raw") then Ok tt else Err (UnsupportedEncoding (encoding_named w))
+-- the encoding of a name
+unfoldable pub encoding_named : List ℕ → Result Encoding NrrdFault
+encoding_named w =
+    if is_word w (codes "raw") then Ok Raw else
+    if is_word w (codes "txt") || is_word w (codes "text") || is_word w (codes "ascii") then Ok Text else
+    if is_word w (codes "hex") then Ok Hex else
+    Err (UnsupportedEncoding (unread_encoding w))
 
 -- a skip of 0
 abbrev pub skip_number : Field → Option ℤ → Result ⊤ NrrdFault
@@ -113,22 +119,22 @@ abbrev pub order_given : Option (List ℕ) → Result Bool NrrdFault
 order_given None = Err NoEndian
 order_given (Some w) = order_named w
 
--- whether the high bytes come first, which is asked of kinds wider than one byte alone
-abbrev pub big_first : SampleKind → Option (List ℕ) → Result Bool NrrdFault
-big_first kind value = if width_of kind == 1 then Ok false else order_given value
+-- whether the high bytes come first, which is asked of samples that have an order alone
+abbrev pub big_first : Bool → Option (List ℕ) → Result Bool NrrdFault
+big_first ordered value = if ordered then order_given value else Ok false
 
--- the sizes, the kind and the order, or the first refusal
-unfoldable pub layout_of : Fields → Result (Grid × SampleKind × Bool) NrrdFault
+-- the layout of the samples, or the first refusal
+unfoldable pub layout_of : Fields → Result Layout NrrdFault
 layout_of h = do
   dimension ← needed h.dimension Dimension
   kind ← needed h.kind Kind
   sizes ← needed h.sizes Sizes
-  encoding ← needed h.encoding Encoding
+  encoding ← needed h.encoding fields.Encoding
   axes ← three_axes (whole_of dimension)
   kind ← kind_named kind
-  raw ← raw_alone encoding
+  encoding ← encoding_named encoding
   lines ← no_skip h.line_skip LineSkip
   bytes ← no_skip h.byte_skip ByteSkip
   grid ← grid_of sizes
-  big ← big_first kind h.endian
-  Ok (grid, kind, big)
+  big ← big_first (has_order encoding kind) h.endian
+  Ok (record { sizes = grid; kind = kind; encoding = encoding; big = big })

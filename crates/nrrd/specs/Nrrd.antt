@@ -1,17 +1,25 @@
 -- The volume that the bytes of a file give, or the first refusal.
-use Rattle.std.specs.Prelude.{◌≡◌, ℕ, ◌-◌, ◌*◌, Bool, true, false, ◌||◌, nat_lt, List, [], ◌∷◌, length, bytes_eq, Option, Some, None, Result, Ok, Err, if◌then◌else◌, codes}
+use Rattle.std.specs.Prelude.{ℕ, ◌-◌, ◌*◌, Bool, true, false, ◌||◌, nat_lt, ℤ, List, [], ◌∷◌, length, bytes_eq, Result, Ok, Err, if◌then◌else◌, codes}
 use Rattle.iso_defs.specs.Grid.{Grid, point_count}
 use Rattle.iso_base.specs.Samples.{width_of}
 use Rattle.iso_base.specs.Volume.{Voxels}
 use Rattle.iso_base.specs.declared.kind.SampleKind.{SampleKind}
 use Rattle.nrrd.specs.declared.fault.NrrdFault.{NrrdFault}
-use Rattle.nrrd.specs.declared.fault.NrrdFault.TheVariants.{NotNrrd, HeaderTooLong, ShortSamples, Memory}
+use Rattle.nrrd.specs.declared.fault.NrrdFault.TheVariants.{NotNrrd, HeaderTooLong, Memory}
 use Rattle.text_lines.specs.Lines.{Line, lines_of}
 use Rattle.text_lines.specs.Refusals.{◌>>=◌, unless_fault, AnswersBut, FailsBut}
 use Rattle.nrrd.specs.HeaderLines.{header_texts, sample_bytes}
 use Rattle.nrrd.specs.Fields.{Fields, fields_in, first_fault, meanings}
 use Rattle.nrrd.specs.Checks.{layout_of}
-use Rattle.nrrd.specs.Samples.{samples_in}
+use Rattle.nrrd.specs.Faults.{fault_of}
+use Rattle.nrrd.specs.declared.encoding.Encoding.{Encoding}
+use Rattle.nrrd.specs.declared.encoding.Encoding.TheVariants.{Raw, Text, Hex}
+use Rattle.nrrd.specs.declared.layout.Layout.{Layout}
+use Rattle.nrrd_text.specs.declared.fault.SampleFault.{SampleFault}
+use Rattle.nrrd_text.specs.declared.fault.SampleFault.TheVariants.{Short}
+use Rattle.nrrd_text.specs.Samples.{samples_in}
+use Rattle.nrrd_text.specs.Text.{text_samples}
+use Rattle.nrrd_text.specs.Hex.{hex_samples}
 
 -- the first line, of any of the five versions
 unfoldable pub is_first : List ℕ → Bool
@@ -32,18 +40,33 @@ by_lines bytes (first ∷ lines) = if is_first first.text then header_of (bytes 
 unfoldable pub split_of : List ℕ → Result (Fields × List ℕ) NrrdFault
 split_of bytes = by_lines (length bytes) (lines_of bytes)
 
+-- raw samples, so many, and how many bytes stand after them
+abbrev pub raw_samples : SampleKind → Bool → ℕ → List ℕ → Result (List ℤ × ℕ) SampleFault
+raw_samples kind big count body =
+    if nat_lt (length body) (width_of kind * count) then Err (Short (width_of kind * count) (length body)) else
+    Ok (samples_in kind big body count, length body - width_of kind * count)
+
+-- samples in any encoding
+abbrev pub samples_by : Encoding → SampleKind → Bool → ℕ → List ℕ → Result (List ℤ × ℕ) SampleFault
+samples_by Raw kind big count body = raw_samples kind big count body
+samples_by Text kind big count body = text_samples kind count body
+samples_by Hex kind big count body = hex_samples kind big count body
+
+-- the volume of these samples
+abbrev pub volume_of : Grid → SampleKind → Result (List ℤ × ℕ) SampleFault → Result (Voxels × ℕ) NrrdFault
+volume_of e kind (Ok read) = Ok (record { grid = e; kind = kind; samples = read.0 }, read.1)
+volume_of e kind (Err fault) = Err (fault_of fault)
+
 -- the volume in these bytes, and how many bytes stand after it
-abbrev pub measured : Grid → SampleKind → Bool → List ℕ → Result (Voxels × ℕ) NrrdFault
-measured e kind big body =
-    if nat_lt (length body) (width_of kind * point_count e) then Err (ShortSamples (width_of kind * point_count e) (length body)) else
-    Ok (record { grid = e; kind = kind; samples = samples_in kind big body (point_count e) }, length body - width_of kind * point_count e)
+abbrev pub measured : Layout → List ℕ → Result (Voxels × ℕ) NrrdFault
+measured l body = volume_of l.sizes l.kind (samples_by l.encoding l.kind l.big (point_count l.sizes) body)
 
 -- the volume in a file, and how many bytes stand after it, or the first refusal
 unfoldable pub nrrd_of : List ℕ → Result (Voxels × ℕ) NrrdFault
 nrrd_of bytes = do
   parts ← split_of bytes
   layout ← layout_of parts.0
-  measured layout.0 layout.1 layout.2 parts.1
+  measured layout parts.1
 
 -- whether memory was wanting
 abbrev pub is_memory : NrrdFault → Bool

@@ -1,12 +1,15 @@
--- Volumes in print: one head, and the samples in little order.
-use Rattle.std.specs.Prelude.{ℕ, ◌==◌, List, [], ◌++◌, flat_map, ℤ, decimal, codes, if◌then◌else◌}
-use Rattle.std.specs.Int.{cast_unsigned, w8, w16, w32}
-use Rattle.byteorder.specs.Endian.{little_bytes}
+-- Volumes in print: one head, and the samples as raw bytes in little order, as numbers or as hex digits.
+use Rattle.std.specs.Prelude.{ℕ, ◌*◌, Bool, true, false, List, [], ◌++◌, flat_map, map, take, drop, ℤ, decimal, codes, if◌then◌else◌}
+use Rattle.iso_defs.specs.Lists.{below}
 use Rattle.iso_defs.specs.Grid.{Grid}
-use Rattle.iso_base.specs.Samples.{width_of}
 use Rattle.iso_base.specs.Volume.{Voxels}
 use Rattle.iso_base.specs.declared.kind.SampleKind.{SampleKind}
 use Rattle.iso_base.specs.declared.kind.SampleKind.TheVariants.{I8, U8, I16, U16, I32, U32}
+use Rattle.nrrd_text.specs.Samples.{sample_bytes}
+use Rattle.nrrd_text.specs.Writing.{hex_line, text_line}
+use Rattle.nrrd.specs.declared.encoding.Encoding.{Encoding}
+use Rattle.nrrd.specs.declared.encoding.Encoding.TheVariants.{Raw, Text, Hex}
+use Rattle.nrrd.specs.Encodings.{has_order}
 
 -- the name of a kind
 unfoldable pub kind_text : SampleKind → List ℕ
@@ -17,36 +20,62 @@ kind_text U16 = codes "uint16"
 kind_text I32 = codes "int32"
 kind_text U32 = codes "uint32"
 
--- the line of the byte order, for kinds wider than one byte
-unfoldable pub order_text : SampleKind → List ℕ
-order_text kind = if width_of kind == 1 then [] else codes "\nendian: little"
+-- the line of the byte order, where there is one
+abbrev pub order_text : Bool → List ℕ
+order_text ordered = if ordered then codes "\nendian: little" else []
 
 -- the three sizes
 unfoldable pub sizes_text : Grid → List ℕ
 sizes_text e = decimal e.nx ++ codes " " ++ decimal e.ny ++ codes " " ++ decimal e.nz
 
--- the head
-unfoldable pub head_text : Grid → SampleKind → List ℕ
-head_text e kind =
-    codes "NRRD0004\ntype: " ++ kind_text kind ++ codes "\ndimension: 3\nsizes: " ++ sizes_text e ++ order_text kind ++ codes "\nencoding: raw\n\n"
+-- the name of an encoding
+unfoldable pub encoding_text : Encoding → List ℕ
+encoding_text Raw = codes "raw"
+encoding_text Text = codes "text"
+encoding_text Hex = codes "hex"
 
--- the bits of a sample as a number
-abbrev pub bits_of : SampleKind → ℤ → ℕ
-bits_of I8 v = cast_unsigned w8 v
-bits_of U8 v = cast_unsigned w8 v
-bits_of I16 v = cast_unsigned w16 v
-bits_of U16 v = cast_unsigned w16 v
-bits_of I32 v = cast_unsigned w32 v
-bits_of U32 v = cast_unsigned w32 v
+-- the head of an encoding
+unfoldable pub head_in : Encoding → Grid → SampleKind → List ℕ
+head_in encoding e kind =
+    codes "NRRD0004\ntype: " ++ kind_text kind ++ codes "\ndimension: 3\nsizes: " ++ sizes_text e
+    ++ order_text (has_order encoding kind) ++ codes "\nencoding: " ++ encoding_text encoding ++ codes "\n\n"
 
--- the bytes of a sample
-abbrev pub sample_text : SampleKind → ℤ → List ℕ
-sample_text kind v = little_bytes (width_of kind) (bits_of kind v)
+-- the head of raw samples, and that of samples in print
+abbrev pub head_text : Grid → SampleKind → List ℕ
+head_text e kind = head_in Raw e kind
+
+abbrev pub coded_by : Bool → Encoding
+coded_by hex = if hex then Hex else Text
+
+abbrev pub coded_head_text : Grid → SampleKind → Bool → List ℕ
+coded_head_text e kind hex = head_in (coded_by hex) e kind
 
 -- the bytes of samples
 abbrev pub samples_text : SampleKind → List ℤ → List ℕ
-samples_text kind values = flat_map (sample_text kind) values
+samples_text kind values = flat_map (sample_bytes kind) values
 
--- a whole volume in print
+-- a whole volume, raw
 abbrev pub save_text : Voxels → List ℕ
 save_text v = head_text v.grid v.kind ++ samples_text v.kind v.samples
+
+-- the samples of a row, and all rows, in order of index
+abbrev pub row_of : Voxels → ℕ → List ℤ
+row_of v j = take v.grid.nx (drop (j * v.grid.nx) v.samples)
+
+abbrev pub rows_of : Voxels → List (List ℤ)
+rows_of v = map (row_of v) (below (v.grid.ny * v.grid.nz))
+
+-- the line of a row, of numbers or of hex digits
+abbrev pub coded_line : Bool → SampleKind → List ℤ → List ℕ
+coded_line hex kind values = if hex then hex_line kind values else text_line values
+
+-- a whole volume in print, a row in a line
+abbrev pub coded_save : Bool → Voxels → List ℕ
+coded_save hex v = coded_head_text v.grid v.kind hex ++ flat_map (coded_line hex v.kind) (rows_of v)
+
+-- as lines of numbers, and as lines of hex digits
+abbrev pub text_save : Voxels → List ℕ
+text_save v = coded_save false v
+
+abbrev pub hex_save : Voxels → List ℕ
+hex_save v = coded_save true v

@@ -5,6 +5,7 @@ ghost use Rattle.text_lines.specs.Numbers.{whole_of, number_of};
 ghost use Rattle.nrrd.specs.Checks as checks;
 ghost use Rattle.nrrd.specs.Checks.{map_ok};
 
+use crate::encoding::Encoding;
 use crate::fault::{EncodingWord, Field, NrrdFault};
 use iso_base::{SampleKind, Sizes};
 use text_lines::{number, same_word, three_words, whole};
@@ -117,17 +118,11 @@ pub fn kind_of(word: &[u8]) -> Result<SampleKind, NrrdFault>
     Err(NrrdFault::UnsupportedKind)
 }
 
-/// The encoding that is not read.
-#[tactic(auto, unfolding(crate::specs::Checks::encoding_named))]
-fn encoding_word(word: &[u8]) -> EncodingWord
-    ensures { result ≡ checks.encoding_named word.now }
+/// The word of an encoding that is not read.
+#[tactic(auto, unfolding(crate::specs::Checks::unread_encoding))]
+fn unread_encoding(word: &[u8]) -> EncodingWord
+    ensures { result ≡ checks.unread_encoding word.now }
 {
-    if same_word(word, b"txt") || same_word(word, b"text") || same_word(word, b"ascii") {
-        return EncodingWord::Text;
-    }
-    if same_word(word, b"hex") {
-        return EncodingWord::Hex;
-    }
     if same_word(word, b"gz") || same_word(word, b"gzip") {
         return EncodingWord::Gzip;
     }
@@ -137,16 +132,22 @@ fn encoding_word(word: &[u8]) -> EncodingWord
     EncodingWord::Unknown
 }
 
-/// The samples are raw.
-#[tactic(auto, unfolding(crate::specs::Checks::raw_alone))]
-pub fn ask_encoding(word: &[u8]) -> Result<(), NrrdFault>
-    ensures { result ≡ checks.raw_alone word.now }
+/// The encoding of a name, in any of its spellings.
+#[tactic(auto, unfolding(crate::specs::Checks::encoding_named))]
+pub fn encoding_of(word: &[u8]) -> Result<Encoding, NrrdFault>
+    ensures { result ≡ checks.encoding_named word.now }
 {
     if same_word(word, b"raw") {
-        return Ok(());
+        return Ok(Encoding::Raw);
+    }
+    if same_word(word, b"txt") || same_word(word, b"text") || same_word(word, b"ascii") {
+        return Ok(Encoding::Text);
+    }
+    if same_word(word, b"hex") {
+        return Ok(Encoding::Hex);
     }
     Err(NrrdFault::UnsupportedEncoding {
-        word: encoding_word(word),
+        word: unread_encoding(word),
     })
 }
 
@@ -190,12 +191,12 @@ pub fn sizes_of(text: &[u8]) -> Result<Sizes, NrrdFault>
     }
 }
 
-/// Whether the high bytes come first. It is asked only of kinds wider than one byte.
+/// Whether the high bytes come first. It is asked only of samples that have a byte order.
 #[tactic(auto, unfolding(crate::specs::Checks::order_named))]
-pub fn big_first(kind: SampleKind, value: Option<&[u8]>) -> Result<bool, NrrdFault>
-    ensures { result ≡ checks.big_first kind (option_map (λ x. x.now) value.entry) }
+pub fn big_first(ordered: bool, value: Option<&[u8]>) -> Result<bool, NrrdFault>
+    ensures { result ≡ checks.big_first ordered (option_map (λ x. x.now) value.entry) }
 {
-    if kind.width() == 1 {
+    if !ordered {
         return Ok(false);
     }
     let Some(word) = value else {

@@ -3,7 +3,7 @@ ghost use Rattle.std.specs.Prelude.{◌≡◌, ◌+◌, ◌*◌, ◌≤◌, leng
 ghost use Rattle.std.specs.List.{range_with_len};
 ghost use Rattle.std.specs.Int.{cast_signed, w8, w16, w32};
 ghost use Rattle.iso_base.specs.Samples.{width_of, IsOfKind};
-ghost use Rattle.nrrd.specs.Samples.{sample_of, samples_in};
+ghost use Rattle.nrrd_text.specs.Samples.{sample_of, samples_in};
 
 use byteorder::{BigEndian, ByteOrder, LittleEndian};
 use iso_base::SampleKind;

@@ -1,16 +1,22 @@
 //! The whole reader.
-ghost use Rattle.std.specs.Prelude.{◌≡◌, length};
+ghost use Rattle.std.specs.Prelude.{◌≡◌, length, IfOk};
+ghost use Rattle.iso_defs.specs.Grid.{point_count};
+ghost use Rattle.nrrd_text.specs.Text.{text_samples};
+ghost use Rattle.nrrd_text.specs.Hex.{hex_samples};
 ghost use Rattle.nrrd.specs.declared.fault.NrrdFault.TheVariants.{ShortSamples};
 ghost use Rattle.nrrd.specs.Scanning.{seen_fields};
-ghost use Rattle.nrrd.specs.Checks.{map_ok, layout_of};
-ghost use Rattle.nrrd.specs.Nrrd.{is_first, split_of, nrrd_of, Answers};
+ghost use Rattle.nrrd.specs.Checks.{map_ok};
+ghost use Rattle.nrrd.specs.Files.{file_voxels, seen_volume};
+ghost use Rattle.nrrd.specs.Nrrd.{is_first, split_of, measured, nrrd_of, raw_samples, volume_of, Answers};
 
-use crate::checks::{ask_dimension, ask_encoding, ask_skip, big_first, kind_of, needed, sizes_of};
-use crate::fault::{Field, NrrdFault};
+use crate::encoding::Encoding;
+use crate::fault::NrrdFault;
 use crate::header::{Header, behind_header, read_fields};
+use crate::layout::{Layout, read_layout};
 use crate::raw::RawVolume;
-use iso_base::{SampleKind, Sizes, VoxelData};
-use std::alloc::Global;
+use iso_base::VoxelData;
+use nrrd_text::{read_hex, read_text};
+use std::alloc::{AllocError, Global};
 use text_lines::next_line;
 
 /// The most bytes that a header may have.
@@ -51,25 +57,6 @@ fn split(bytes: &[u8]) -> Result<(Header<'_>, &[u8]), NrrdFault>
     Ok((header, samples))
 }
 
-/// What the fields say of the samples.
-#[tactic(auto, unfolding(crate::specs::Checks::layout_of))]
-fn layout(header: &Header<'_>) -> Result<(Sizes, SampleKind, bool), NrrdFault>
-    ensures { result ≡ layout_of (seen_fields header.now) }
-{
-    let dimension = needed(header.dimension, Field::Dimension)?;
-    let kind = needed(header.kind, Field::Kind)?;
-    let sizes = needed(header.sizes, Field::Sizes)?;
-    let encoding = needed(header.encoding, Field::Encoding)?;
-    ask_dimension(dimension)?;
-    let kind = kind_of(kind)?;
-    ask_encoding(encoding)?;
-    ask_skip(header.line_skip, Field::LineSkip)?;
-    ask_skip(header.byte_skip, Field::ByteSkip)?;
-    let sizes = sizes_of(sizes)?;
-    let big = big_first(kind, header.endian)?;
-    Ok((sizes, kind, big))
-}
-
 /// Fewer bytes are there than needed.
 fn short_samples(needed: usize, body: &[u8]) -> NrrdFault
     ensures { result ≡ ShortSamples needed (length body.now) }
@@ -80,35 +67,104 @@ fn short_samples(needed: usize, body: &[u8]) -> NrrdFault
     }
 }
 
-/// The volume in the bytes of a file, whose samples stay there, and the number of bytes after its samples, which are not
+/// The volume whose raw samples these bytes begin with, and the number of bytes after them.
+fn raw_volume(layout: Layout, body: &[u8]) -> Result<(RawVolume<'_>, u64), NrrdFault>
+    ensures { result ≡ volume_of layout.sizes layout.kind (raw_samples layout.kind layout.big (point_count layout.sizes) body.now) }
+{
+    let needed = layout.kind.width() as usize * layout.sizes.count() as usize;
+    if body.len() < needed {
+        return Err(short_samples(needed, body));
+    }
+    let surplus = (body.len() - needed) as u64;
+    let volume = RawVolume::new(layout.sizes, layout.kind, layout.big, body);
+    Ok((volume, surplus))
+}
+
+/// The volume whose samples these bytes say as numbers, and the number of bytes after them.
+fn text_volume(alloc: Global, layout: Layout, body: &[u8]) -> Result<(VoxelData, u64), NrrdFault>
+    ensures { Answers result (volume_of layout.sizes layout.kind (text_samples layout.kind (point_count layout.sizes) body.now)) }
+{
+    let count = u64::from(layout.sizes.count());
+    let (samples, surplus) = read_text(alloc, body, layout.kind, count)?;
+    Ok((VoxelData::new(layout.sizes, layout.kind, samples), surplus))
+}
+
+/// The volume whose samples stand in these bytes as hex digits, and the number of bytes after them.
+fn hex_volume(alloc: Global, layout: Layout, body: &[u8]) -> Result<(VoxelData, u64), NrrdFault>
+    ensures { Answers result (volume_of layout.sizes layout.kind (hex_samples layout.kind layout.big (point_count layout.sizes) body.now)) }
+{
+    let count = u64::from(layout.sizes.count());
+    let (samples, surplus) = read_hex(alloc, body, layout.kind, layout.big, count)?;
+    Ok((VoxelData::new(layout.sizes, layout.kind, samples), surplus))
+}
+
+/// A volume as its file holds it.
+#[derive(Debug, Drop)]
+pub enum FileVolume<'a> {
+    /// The samples are raw, and stay in the bytes of the file.
+    Raw(RawVolume<'a>),
+    /// The samples stood in print, and were read.
+    Read(VoxelData),
+}
+
+/// The volume of a layout in the bytes of its samples, and the number of bytes after them.
+fn measured(alloc: Global, layout: Layout, body: &[u8]) -> Result<(FileVolume<'_>, u64), NrrdFault>
+    ensures { Answers (map_ok seen_volume result) (measured layout body.now) }
+{
+    match layout.encoding {
+        Encoding::Raw => {
+            let (volume, surplus) = raw_volume(layout, body)?;
+            Ok((FileVolume::Raw(volume), surplus))
+        }
+        Encoding::Text => {
+            let (volume, surplus) = text_volume(alloc, layout, body)?;
+            Ok((FileVolume::Read(volume), surplus))
+        }
+        Encoding::Hex => {
+            let (volume, surplus) = hex_volume(alloc, layout, body)?;
+            Ok((FileVolume::Read(volume), surplus))
+        }
+    }
+}
+
+/// The volume in the bytes of a file, where raw samples stay, and the number of bytes after its samples, which are not
 /// read. Samples are listed with x fastest and z slowest.
 ///
 /// The first of these decides. `NotNrrd` and `HeaderTooLong`; then, line by line, `BadLine`, `RepeatedField` and `Detached`;
 /// then `MissingField`, in the order dimension, type, sizes, encoding; then the value of the dimension (`BadValue`,
 /// `NotThreeAxes`), of the type (`UnsupportedKind`), of the encoding (`UnsupportedEncoding`), of the two skips (`BadValue`,
-/// `SkipUnsupported`), of the sizes (`BadValue`, `Size`) and, for samples of more than one byte, of the byte order
-/// (`NoEndian`, `BadValue`); and last `ShortSamples`.
+/// `SkipUnsupported`), of the sizes (`BadValue`, `Size`) and, for samples of more than one byte that are raw or hex digits,
+/// of the byte order (`NoEndian`, `BadValue`); then, for samples in print, `BadSample`; then `ShortSamples`; and last
+/// `Memory`, which is asked for once, for samples in print alone.
 #[tactic(auto, unfolding(crate::specs::Nrrd::nrrd_of))]
-pub fn read_raw_volume(bytes: &[u8]) -> Result<(RawVolume<'_>, u64), NrrdFault>
-    ensures { result ≡ nrrd_of bytes.now }
+pub fn read_file_volume(alloc: Global, bytes: &[u8]) -> Result<(FileVolume<'_>, u64), NrrdFault>
+    ensures { Answers (map_ok seen_volume result) (nrrd_of bytes.now) }
 {
     let (header, body) = split(bytes)?;
-    let (sizes, kind, big) = layout(&header)?;
-    let needed = kind.width() as usize * sizes.count() as usize;
-    if body.len() < needed {
-        return Err(short_samples(needed, body));
+    let layout = read_layout(&header)?;
+    measured(alloc, layout, body)
+}
+
+/// The volume with its samples in memory.
+fn loaded(alloc: Global, volume: FileVolume<'_>) -> Result<VoxelData, AllocError>
+    ensures { IfOk result (λ v. v ≡ file_voxels volume.entry) }
+{
+    match volume {
+        FileVolume::Read(volume) => Ok(volume),
+        FileVolume::Raw(raw) => {
+            let sizes = raw.sizes();
+            let samples = raw.part(alloc, 0, sizes.count())?;
+            Ok(VoxelData::new(sizes, raw.kind(), samples))
+        }
     }
-    let surplus = (body.len() - needed) as u64;
-    Ok((RawVolume::new(sizes, kind, big, body), surplus))
 }
 
 /// Reads a volume from the bytes of a file, and gives the number of bytes after its samples, which are not read.
-/// The refusals are those of `read_raw_volume`, and last `Memory`, which is asked for once, for the samples.
+/// The refusals are those of `read_file_volume`; `Memory` is asked for once, for the samples.
 pub fn read_volume(alloc: Global, bytes: &[u8]) -> Result<(VoxelData, u64), NrrdFault>
     ensures { Answers result (nrrd_of bytes.now) }
 {
-    let (raw, surplus) = read_raw_volume(bytes)?;
-    let sizes = raw.sizes();
-    let samples = raw.part(alloc, 0, sizes.count())?;
-    Ok((VoxelData::new(sizes, raw.kind(), samples), surplus))
+    let (volume, surplus) = read_file_volume(alloc, bytes)?;
+    let volume = loaded(alloc, volume)?;
+    Ok((volume, surplus))
 }

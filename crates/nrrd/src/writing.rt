@@ -4,8 +4,9 @@ ghost use Rattle.arrayvec.specs.ArrayString.{array_string_len};
 ghost use Rattle.iso_io.specs.Seen.{Puts};
 ghost use Rattle.iso_defs.specs.Grid.{point_count};
 ghost use Rattle.iso_base.specs.Samples.{width_of, IsOfKind};
-ghost use Rattle.nrrd.specs.Writing.{kind_text, order_text, sizes_text, head_text, samples_text, save_text};
+ghost use Rattle.nrrd.specs.Writing.{coded_by, coded_head_text, encoding_text, head_in, head_text, kind_text, order_text, samples_text, save_text, sizes_text};
 
+use crate::encoding::Encoding;
 use arrayvec::ArrayString;
 use byteorder::{ByteOrder, LittleEndian};
 use iso_base::{SampleKind, Sizes};
@@ -28,16 +29,25 @@ fn kind_name(kind: SampleKind) -> &'static str
     }
 }
 
-/// The line of the byte order, behind its line feed, where the kind has one.
-#[tactic(auto, unfolding(crate::specs::Writing::order_text))]
-fn order_name(kind: SampleKind) -> &'static str
-    ensures text { result.now ≡ order_text kind }
+/// The line of the byte order, behind its line feed, where there is one.
+fn order_name(ordered: bool) -> &'static str
+    ensures text { result.now ≡ order_text ordered }
     ensures short { length result.now ≤ 15 }
 {
-    if kind.width() == 1 {
-        return "";
+    if ordered { "\nendian: little" } else { "" }
+}
+
+/// The name of an encoding in print.
+#[tactic(auto, unfolding(crate::specs::Writing::encoding_text))]
+fn encoding_name(encoding: Encoding) -> &'static str
+    ensures text { result.now ≡ encoding_text encoding }
+    ensures short { length result.now ≤ 4 }
+{
+    match encoding {
+        Encoding::Raw => "raw",
+        Encoding::Text => "text",
+        Encoding::Hex => "hex",
     }
-    "\nendian: little"
 }
 
 /// One size in print.
@@ -67,9 +77,9 @@ fn made_sizes(sizes: &Sizes) -> ArrayString<16>
 }
 
 /// The whole head.
-#[tactic(auto, unfolding(crate::specs::Writing::head_text))]
-fn made_head(sizes: &Sizes, kind: SampleKind) -> ArrayString<128>
-    ensures { result.bytes ≡ head_text sizes.now kind }
+#[tactic(auto, unfolding(crate::specs::Writing::head_in))]
+fn made_head(encoding: Encoding, sizes: &Sizes, kind: SampleKind) -> ArrayString<128>
+    ensures { result.bytes ≡ head_in encoding sizes.now kind }
 {
     let sizes = made_sizes(sizes);
     let mut text = ArrayString::new();
@@ -77,8 +87,10 @@ fn made_head(sizes: &Sizes, kind: SampleKind) -> ArrayString<128>
     text.push_str(kind_name(kind));
     text.push_str("\ndimension: 3\nsizes: ");
     text.push_str(sizes.as_str());
-    text.push_str(order_name(kind));
-    text.push_str("\nencoding: raw\n\n");
+    text.push_str(order_name(encoding.has_order(kind)));
+    text.push_str("\nencoding: ");
+    text.push_str(encoding_name(encoding));
+    text.push_str("\n\n");
     text
 }
 
@@ -87,8 +99,37 @@ fn made_head(sizes: &Sizes, kind: SampleKind) -> ArrayString<128>
 pub fn put_nrrd_head<K: Sink>(sink: &mut K, sizes: &Sizes, kind: SampleKind) -> Result<(), Failed>
     ensures { Puts (K.seen sink.old) (K.seen sink.new) result (head_text sizes.now kind) }
 {
-    let text = made_head(sizes, kind);
+    let text = made_head(Encoding::Raw, sizes, kind);
     write_all_of(sink, text.as_bytes())
+}
+
+/// The encoding of samples in print.
+fn printed(hex: bool) -> Encoding
+    ensures { result ≡ coded_by hex }
+{
+    if hex { Encoding::Hex } else { Encoding::Text }
+}
+
+/// Appends the head of a volume whose samples follow in print to a sink, as hex digits or as numbers: these have no byte
+/// order. `Failed` comes as for `put_nrrd_head`. No memory is taken.
+pub fn put_coded_head<K: Sink>(
+    sink: &mut K,
+    sizes: &Sizes,
+    kind: SampleKind,
+    hex: bool,
+) -> Result<(), Failed>
+    ensures { Puts (K.seen sink.old) (K.seen sink.new) result (coded_head_text sizes.now kind hex) }
+{
+    let text = made_head(printed(hex), sizes, kind);
+    write_all_of(sink, text.as_bytes())
+}
+
+/// The number of bytes of that head.
+pub fn coded_head_bytes(sizes: &Sizes, kind: SampleKind, hex: bool) -> u64
+    ensures bytes { result ≡ length (coded_head_text sizes.now kind hex) }
+    ensures few { result ≤ 128 }
+{
+    made_head(printed(hex), sizes, kind).len() as u64
 }
 
 #[inline]
@@ -276,6 +317,6 @@ pub fn put_samples<K: Sink>(sink: &mut K, kind: SampleKind, values: &[i64]) -> R
 pub fn volume_bytes(sizes: &Sizes, kind: SampleKind) -> u64
     ensures { (samples : List ℤ) → length samples ≡ point_count sizes.now → result ≡ length (save_text (record { grid = sizes.now; kind = kind; samples = samples })) }
 {
-    let head = made_head(sizes, kind).len() as u64;
+    let head = made_head(Encoding::Raw, sizes, kind).len() as u64;
     head + u64::from(kind.width()) * u64::from(sizes.count())
 }

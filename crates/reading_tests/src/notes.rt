@@ -28,6 +28,7 @@ fn notes_are_written(rt: HostRuntime) -> Result<(), Fail> {
         VolumeFault::Nrrd(NrrdFault::Detached { line: 5 }),
         VolumeFault::Nrrd(NrrdFault::NotNrrd),
         VolumeFault::Nrrd(NrrdFault::Memory),
+        VolumeFault::Nrrd(NrrdFault::BadSample { place: 2 }),
     ] {
         put_note(&mut notes, &Answer::BadVolume(fault));
     }
@@ -40,7 +41,7 @@ fn notes_are_written(rt: HostRuntime) -> Result<(), Fail> {
         put_note(&mut notes, &answer);
     }
     let want =
-        "isobench: volume 17 level not above pad 0 0\nisobench: volume 17 level not above pad -1.001 -1\nisobench: volume 16 pad size axis 0 1027\nisobench: volume 8 unsupported encoding gzip\nisobench: volume 14 short samples 54 53\nisobench: volume 12 size thin 0 1\nisobench: volume 9 detached 5\nisobench: volume 1 not nrrd\nisobench: memory\nisobench: mesh 5 not triangle 14\nisobench: bad words\n";
+        "isobench: volume 17 level not above pad 0 0\nisobench: volume 17 level not above pad -1.001 -1\nisobench: volume 16 pad size axis 0 1027\nisobench: volume 8 unsupported encoding gzip\nisobench: volume 14 short samples 54 53\nisobench: volume 12 size thin 0 1\nisobench: volume 9 detached 5\nisobench: volume 1 not nrrd\nisobench: memory\nisobench: volume 19 bad sample 2\nisobench: mesh 5 not triangle 14\nisobench: bad words\n";
     assert_eq!(rt; notes.bytes(), want.as_bytes());
     Ok(())
 }

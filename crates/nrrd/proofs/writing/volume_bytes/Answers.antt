@@ -1,4 +1,4 @@
-use Rattle.std.proofs.Common.{◌≡◌, ◌+◌, ◌*◌, ◌∙◌, length, sym, ap, arith, length-append}
+use Rattle.std.proofs.Common.{◌≡◌, ◌*◌, ◌∙◌, length, sym, ap, arith, length-append}
 use Rattle.iso_base.specs.Samples.{width_of}
 use Rattle.nrrd.specs.Writing.{head_text, samples_text}
 use Rattle.nrrd.proofs.Texts.{length-samples_text}

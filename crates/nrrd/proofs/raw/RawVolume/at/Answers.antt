@@ -3,7 +3,7 @@ use Rattle.std.proofs.lemmas.Int.{to_z-of_z}
 use Rattle.iso_defs.specs.Grid.{point_count}
 use Rattle.iso_base.specs.Samples.{width_of}
 use Rattle.iso_base.specs.Volume.{sample}
-use Rattle.nrrd.specs.Samples.{sample_of}
+use Rattle.nrrd_text.specs.Samples.{sample_of}
 use Rattle.nrrd.proofs.SampleLaws.{length_samples}
 use Rattle.nrrd.proofs.Parts.{one_sample, room_for}
 use Rattle.nrrd.proofs.raw.RawVolume.at.Goals as goal

@@ -1,6 +1,6 @@
 use Rattle.std.proofs.Common.{refl, arith}
 use Rattle.iso_defs.specs.Grid.{point_count}
-use Rattle.nrrd.specs.Samples.{samples_in}
+use Rattle.nrrd_text.specs.Samples.{samples_in}
 use Rattle.nrrd.proofs.SampleLaws.{each_in_kind, length_samples}
 use Rattle.nrrd.proofs.raw.RawVolume.new.Goals as goal
 

@@ -3,7 +3,7 @@ use Rattle.std.proofs.lemmas.List.{length-drop}
 use Rattle.std.proofs.lemmas.Result.{IfOk-weaker}
 use Rattle.iso_defs.specs.Grid.{point_count}
 use Rattle.iso_base.specs.Samples.{width_of}
-use Rattle.nrrd.specs.Samples.{samples_in}
+use Rattle.nrrd_text.specs.Samples.{samples_in}
 use Rattle.nrrd.proofs.SampleLaws.{length_samples}
 use Rattle.nrrd.proofs.Parts.{room_for, run_is}
 use Rattle.nrrd.proofs.raw.RawVolume.part.Goals as goal

@@ -1,0 +1,156 @@
+//! A volume without its pad in print, as a file of a shelf: a row of samples in a line.
+
+ghost use Rattle.std.specs.Prelude.{◌≡◌, ◌+◌, ◌*◌, ◌≤◌, length, flat_map, All, Ok, IfOk};
+ghost use Rattle.iso_base.specs.Volume.{inner_grid};
+ghost use Rattle.iso_base.specs.Samples.{IsOfKind};
+ghost use Rattle.iso_io.specs.Seen.{Puts, Stages};
+ghost use Rattle.iso_io.specs.Shelves.{Stores, file_tape};
+ghost use Rattle.nrrd.specs.Nrrd.{nrrd_of};
+ghost use Rattle.nrrd.specs.Writing.{coded_line, rows_of};
+ghost use Rattle.inner_volume.specs.Unpadded.{inner_voxels, saved_as_hex, saved_as_text, saved_in_print};
+
+use crate::places::inner_sizes;
+use crate::saved::copy_row;
+use arrayvec::ArrayString;
+use brick_store::BrickStore;
+use iso_base::{SampleKind, Sizes};
+use iso_io::{Failed, LINES, Shelf, ShelfFile, Sink, write_all_of};
+use nrrd::{coded_head_bytes, put_coded_head};
+use nrrd_text::{gather_hex, gather_text};
+
+/// The most samples in a row.
+const MOST: usize = 1_026;
+
+/// Puts the line of a row behind what waits, and says how many bytes it has.
+fn gather_row<K: Sink>(
+    sink: &mut K,
+    waiting: &mut ArrayString<LINES>,
+    kind: SampleKind,
+    hex: bool,
+    row: &[i64],
+) -> Result<u64, Failed>
+    requires each { All (IsOfKind kind) row.now }
+    requires few { length row.now ≤ 1026 }
+    ensures line { Stages (K.seen sink.old) (K.seen sink.new) waiting.old.bytes waiting.new.bytes result (coded_line hex kind row.now) }
+    ensures bytes { IfOk result (λ n. n ≡ length (coded_line hex kind row.now)) }
+    ensures bound { IfOk result (λ n. n ≤ 25000) }
+{
+    if hex {
+        gather_hex(sink, waiting, kind, row)
+    } else {
+        gather_text(sink, waiting, row)
+    }
+}
+
+/// Puts the lines of all rows off the pad's layer behind what waits, and says how many bytes they have.
+fn gather_rows<K: Sink>(
+    sink: &mut K,
+    waiting: &mut ArrayString<LINES>,
+    store: &BrickStore,
+    sizes: &Sizes,
+    hex: bool,
+    row: &mut [i64],
+) -> Result<u64, Failed>
+    requires sizes { sizes.now ≡ inner_grid store.now }
+    requires room { length row.old ≡ sizes.now.nx }
+    ensures lines { Stages (K.seen sink.old) (K.seen sink.new) waiting.old.bytes waiting.new.bytes result (flat_map (coded_line hex store.now.kind) (rows_of (inner_voxels store.now))) }
+    ensures bytes { IfOk result (λ n. n ≡ length (flat_map (coded_line hex store.now.kind) (rows_of (inner_voxels store.now)))) }
+    ensures bound { IfOk result (λ n. n ≤ 25000 * (sizes.now.ny * sizes.now.nz)) }
+{
+    let kind = store.kind();
+    let mut bytes = 0u64;
+    for number in 0..sizes.ny() * sizes.nz() {
+        copy_row(store, sizes, number, row);
+        bytes += gather_row(sink, waiting, kind, hex, row)?;
+    }
+    Ok(bytes)
+}
+
+/// Writes the lines of all rows off the pad's layer, and says how many bytes they have.
+fn put_rows<K: Sink>(
+    sink: &mut K,
+    store: &BrickStore,
+    sizes: &Sizes,
+    hex: bool,
+) -> Result<u64, Failed>
+    requires { sizes.now ≡ inner_grid store.now }
+    ensures lines { Puts (K.seen sink.old) (K.seen sink.new) result (flat_map (coded_line hex store.now.kind) (rows_of (inner_voxels store.now))) }
+    ensures bytes { IfOk result (λ n. n ≡ length (flat_map (coded_line hex store.now.kind) (rows_of (inner_voxels store.now)))) }
+    ensures bound { IfOk result (λ n. n ≤ 25000 * (sizes.now.ny * sizes.now.nz)) }
+{
+    let mut samples = [0; MOST];
+    let mut waiting = ArrayString::new();
+    let row = &mut samples[..sizes.nx() as usize];
+    let bytes = gather_rows(sink, &mut waiting, store, sizes, hex, row)?;
+    write_all_of(sink, waiting.as_str().as_bytes())?;
+    Ok(bytes)
+}
+
+/// Writes the volume without its pad in print, a head and its rows, and says how many bytes they have.
+fn put_printed<K: Sink>(
+    sink: &mut K,
+    store: &BrickStore,
+    sizes: &Sizes,
+    hex: bool,
+) -> Result<u64, Failed>
+    requires { sizes.now ≡ inner_grid store.now }
+    ensures text { Puts (K.seen sink.old) (K.seen sink.new) result (saved_in_print hex store.now) }
+    ensures bytes { IfOk result (λ n. n ≡ length (saved_in_print hex store.now)) }
+{
+    let _ = sizes.nx();
+    let kind = store.kind();
+    put_coded_head(sink, sizes, kind, hex)?;
+    let bytes = put_rows(sink, store, sizes, hex)?;
+    Ok(coded_head_bytes(sizes, kind, hex) + bytes)
+}
+
+// Apart, so that its caller learns that it is the same shelf afterwards.
+fn fill_file<H: Shelf>(
+    file: &mut ShelfFile<H>,
+    store: &BrickStore,
+    hex: bool,
+) -> Result<u64, Failed>
+    ensures text { Puts (file_tape file.old.shelf.ghost_name (H.seen file.old.shelf.now) file.old.name.now) (file_tape file.new.shelf.ghost_name (H.seen file.new.shelf.now) file.new.name.now) result (saved_in_print hex store.now) }
+    ensures bytes { IfOk result (λ n. n ≡ length (saved_in_print hex store.now)) }
+    ensures same_reference { file.new.shelf.ghost_name ≡ file.old.shelf.ghost_name }
+{
+    let sizes = inner_sizes(store);
+    put_printed(file, store, &sizes, hex)
+}
+
+/// Makes the name's file the volume without its pad in print, and says how many bytes it has.
+fn write_printed<H: Shelf>(
+    shelf: &mut H,
+    name: &str,
+    store: &BrickStore,
+    hex: bool,
+) -> Result<u64, Failed>
+    ensures file { Stores (H.seen shelf.old) (H.seen shelf.new) result name.now (saved_in_print hex store.now) }
+    ensures bytes { IfOk result (λ n. n ≡ length (saved_in_print hex store.now)) }
+    ensures read_again { nrrd_of (saved_in_print hex store.now) ≡ Ok (inner_voxels store.now, 1) }
+{
+    let _ = store.sizes();
+    shelf.start(name)?;
+    let mut file = ShelfFile::new(shelf, name);
+    fill_file(&mut file, store, hex)
+}
+
+/// Makes the name's file the volume without its pad as lines of numbers, and says how many bytes it has. `Failed` comes
+/// only where the shelf's count rose; the file is then as before or a front of the text, and all other files are as
+/// before. No memory is taken.
+pub fn write_text<H: Shelf>(shelf: &mut H, name: &str, store: &BrickStore) -> Result<u64, Failed>
+    ensures file { Stores (H.seen shelf.old) (H.seen shelf.new) result name.now (saved_as_text store.now) }
+    ensures bytes { IfOk result (λ n. n ≡ length (saved_as_text store.now)) }
+    ensures read_again { nrrd_of (saved_as_text store.now) ≡ Ok (inner_voxels store.now, 1) }
+{
+    write_printed(shelf, name, store, false)
+}
+
+/// Makes the name's file the volume without its pad as lines of hex digits, as `write_text` does.
+pub fn write_hex<H: Shelf>(shelf: &mut H, name: &str, store: &BrickStore) -> Result<u64, Failed>
+    ensures file { Stores (H.seen shelf.old) (H.seen shelf.new) result name.now (saved_as_hex store.now) }
+    ensures bytes { IfOk result (λ n. n ≡ length (saved_as_hex store.now)) }
+    ensures read_again { nrrd_of (saved_as_hex store.now) ≡ Ok (inner_voxels store.now, 1) }
+{
+    write_printed(shelf, name, store, true)
+}
