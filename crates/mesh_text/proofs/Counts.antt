@@ -14,8 +14,8 @@ two_digits n lo hi = more_digits n 1 lo (omega arith) (one_digit (n / 10) (omega
 pub three_digits_of : (n : ℕ) → 100 ≤ n → n < 1000 → length (decimal n) ≡ 3
 three_digits_of n lo hi = more_digits n 2 (omega arith) (omega arith) (two_digits (n / 10) (omega arith) (omega arith))
 
-pub four_digits : (n : ℕ) → 1000 ≤ n → n < 10000 → length (decimal n) ≡ 4
-four_digits n lo hi = more_digits n 3 (omega arith) (omega arith) (three_digits_of (n / 10) (omega arith) (omega arith))
+pub four_digits_of : (n : ℕ) → 1000 ≤ n → n < 10000 → length (decimal n) ≡ 4
+four_digits_of n lo hi = more_digits n 3 (omega arith) (omega arith) (three_digits_of (n / 10) (omega arith) (omega arith))
 
 -- a number of more than four digits has four more than its ten thousandths
 pub four_more : (n k : ℕ) → 10000 ≤ n → n < 2 ^ 64 → k ≡ length (decimal (n / 10000)) → k + 4 ≡ length (decimal n)

@@ -1,3 +1,4 @@
 pub mod Chain
 pub mod Counts
 pub mod Heads
+pub mod Tables

@@ -36,8 +36,8 @@ fn put_three_digits(n: u64, room: &mut [u8], at: usize) -> usize
 
 /// How many digits a number below 10,000 has.
 #[inline(always)]
-#[tactic(auto, using(crate::proofs::Counts::one_digit, crate::proofs::Counts::two_digits, crate::proofs::Counts::three_digits_of, crate::proofs::Counts::four_digits))]
-fn count_short(n: u64) -> usize
+#[tactic(auto, using(crate::proofs::Counts::one_digit, crate::proofs::Counts::two_digits, crate::proofs::Counts::three_digits_of, crate::proofs::Counts::four_digits_of))]
+pub fn count_short(n: u64) -> usize
     requires { n < 10000 }
     ensures value { result ≡ length (decimal n) }
     ensures bound { result ≤ 4 }

@@ -4,6 +4,7 @@
 
 mod digits;
 mod format;
+mod fours;
 mod head;
 mod line;
 mod lines;

@@ -1,30 +1,33 @@
 ghost use Rattle.std.specs.Prelude.{◌≡◌, ◌+◌, ◌<◌, ◌≤◌, ◌^◌, ◌++◌, [], IsTrue, length, unsigned_abs};
 ghost use Rattle.mesh_text.specs.Lines.{along, obj_face_line, obj_vertex_line, ply_face_line, ply_vertex_line};
 
-use crate::obj::{write_obj_face, write_obj_vertex};
-use crate::ply::{write_ply_face, write_ply_vertex};
+use crate::fours::{FOURS, put_face, write_fours};
+use crate::obj::write_obj_vertex;
+use crate::ply::write_ply_vertex;
 use iso_base::Thousandth;
 use std::marker::Model;
 
 /// The bytes of some lines.
 const PAGE: usize = 4096;
 
-/// Lines one behind another, each written where it stays until all are taken. Contracts see their bytes, which are at
-/// most 4,096.
+/// Lines one behind another, each written where it stays until all are taken, and a table of digits, four to a number.
+/// Contracts see the bytes of the lines, which are at most 4,096.
 #[derive(Drop)]
 pub struct Lines {
     bytes: [u8; PAGE],
     end: usize,
+    fours: [u8; FOURS],
 }
 
 impl Model for Lines {
     ghost use Rattle.std.specs.Prelude.{ℕ, List, take, ◌≤◌};
+    ghost use Rattle.mesh_text.specs.Fours.{AreFours};
 
     ghost Value = { List ℕ };
 
     ghost view = { λ l. take l.end l.bytes };
 
-    ghost invariant = { λ l. l.end ≤ 4096 };
+    ghost invariant = { λ l. (l.end ≤ 4096) × AreFours l.fours };
 }
 
 impl Lines {
@@ -32,9 +35,12 @@ impl Lines {
     pub fn new() -> Lines
         ensures { result ≡ [] }
     {
+        let mut fours = [0; FOURS];
+        write_fours(&mut fours);
         Lines {
             bytes: [0; PAGE],
             end: 0,
+            fours,
         }
     }
 
@@ -104,7 +110,7 @@ impl Lines {
         ensures line { self.new ≡ self.old ++ ply_face_line corners.now }
         ensures few { length self.new ≤ length self.old + 64 }
     {
-        self.end = write_ply_face(corners, &mut self.bytes, self.end);
+        self.end = put_face(&self.fours, b'3', 0, corners, &mut self.bytes, self.end);
     }
 
     /// Puts the line of a face in OBJ behind the others. Its corners are handed in counted from 0.
@@ -114,6 +120,6 @@ impl Lines {
         ensures line { self.new ≡ self.old ++ obj_face_line corners.now }
         ensures few { length self.new ≤ length self.old + 64 }
     {
-        self.end = write_obj_face(corners, &mut self.bytes, self.end);
+        self.end = put_face(&self.fours, b'f', 1, corners, &mut self.bytes, self.end);
     }
 }

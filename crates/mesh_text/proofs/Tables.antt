@@ -1,0 +1,111 @@
+-- Numbers out of a table of four digits each.
+use Rattle.std.proofs.Common.{◌≡◌, ℕ, ◌+◌, ◌-◌, ◌*◌, ◌/◌, ◌%◌, ◌<◌, ◌≤◌, ◌^◌, List, [], ◌∷◌, ◌++◌, length, take, drop, decimal, sym, ap, subst, ◌∙◌, append_assoc, arith, inl, inr, eq-zero-or-pos, length-append}
+use Rattle.std.proofs.lemmas.Fmt.{decimal_digit, decimal_step}
+use Rattle.std.proofs.lemmas.List.{take-take, take-append-le, take-append-drop, take_at, drop_at, drop-take, length-take-le, drop-drop}
+use Rattle.mesh_text.specs.Fours.{AreFours, four_digits}
+use Rattle.mesh_text.proofs.Counts.{one_digit, two_digits, three_digits_of, four_digits_of}
+
+-- a number of more than four digits ends with the four of its rest
+pub four_last : (n : ℕ) → 10000 ≤ n → n < 2 ^ 64 → decimal n ≡ decimal (n / 10000) ++ four_digits (n % 10000)
+four_last n lo hi =
+    let a : n / 10 / 10 / 10 / 10 ≡ n / 10000 = omega arith in
+    let b : n / 10 / 10 / 10 % 10 ≡ n % 10000 / 1000 = omega arith in
+    let c : n / 10 / 10 % 10 ≡ n % 10000 / 100 % 10 = omega arith in
+    let d : n / 10 % 10 ≡ n % 10000 / 10 % 10 = omega arith in
+    let e : n % 10 ≡ n % 10000 % 10 = omega arith in
+    rw (
+      decimal_step n (omega arith) hi,
+      decimal_step (n / 10) (omega arith) (omega arith),
+      decimal_step (n / 10 / 10) (omega arith) (omega arith),
+      decimal_step (n / 10 / 10 / 10) (omega arith) (omega arith),
+      append_assoc,
+      append_assoc,
+      append_assoc,
+      a,
+      b,
+      c,
+      d,
+      ← e,
+    )
+
+-- a number of less than five digits is the end of its four
+short_one : (n : ℕ) → n < 10 → drop 3 (four_digits n) ≡ decimal n
+short_one n h = let e : n % 10 ≡ n = omega arith in ap (λ (d : ℕ). (48 + d) ∷ []) e ∙ sym (decimal_digit n h)
+
+short_two : (n : ℕ) → 10 ≤ n → n < 100 → drop 2 (four_digits n) ≡ decimal n
+short_two n lo hi =
+    let e : n / 10 % 10 ≡ n / 10 = omega arith in
+    rw (decimal_step n lo (omega arith), decimal_digit (n / 10) (omega arith), e)
+
+short_three : (n : ℕ) → 100 ≤ n → n < 1000 → drop 1 (four_digits n) ≡ decimal n
+short_three n lo hi =
+    let a : n / 10 / 10 ≡ n / 100 = omega arith in
+    let b : n / 100 % 10 ≡ n / 100 = omega arith in
+    rw (decimal_step n (omega arith) (omega arith), decimal_step (n / 10) (omega arith) (omega arith), a, decimal_digit (n / 100) (omega arith), b)
+
+short_four : (n : ℕ) → 1000 ≤ n → n < 10000 → four_digits n ≡ decimal n
+short_four n lo hi =
+    let a : n / 10 / 10 / 10 ≡ n / 1000 = omega arith in
+    let b : n / 10 / 10 % 10 ≡ n / 100 % 10 = omega arith in
+    rw (
+      decimal_step n (omega arith) (omega arith),
+      decimal_step (n / 10) (omega arith) (omega arith),
+      decimal_step (n / 10 / 10) (omega arith) (omega arith),
+      a,
+      b,
+      decimal_digit (n / 1000) (omega arith),
+    )
+
+end_of : (n c : ℕ) → n < 10000 → c ≡ length (decimal n) → drop (4 - c) (four_digits n) ≡ decimal n
+end_of n c low count =
+    elim (eq-zero-or-pos (10 - n)) [
+      | inr g ↦ ap (λ (k : ℕ). drop (4 - k) (four_digits n)) (count ∙ one_digit n (omega arith)) ∙ short_one n (omega arith)
+      | inl z ↦ elim (eq-zero-or-pos (100 - n)) [
+        | inr g ↦ ap (λ (k : ℕ). drop (4 - k) (four_digits n)) (count ∙ two_digits n (omega arith) (omega arith)) ∙ short_two n (omega arith) (omega arith)
+        | inl y ↦ elim (eq-zero-or-pos (1000 - n)) [
+          | inr g ↦ ap (λ (k : ℕ). drop (4 - k) (four_digits n)) (count ∙ three_digits_of n (omega arith) (omega arith)) ∙ short_three n (omega arith) (omega arith)
+          | inl x ↦ ap (λ (k : ℕ). drop (4 - k) (four_digits n)) (count ∙ four_digits_of n (omega arith) low) ∙ short_four n (omega arith) low
+        ]
+      ]
+    ]
+
+-- the end of a number's four digits, and what stands behind them, hold its text at their front
+pub short_written : (t old new : List ℕ) (n at c : ℕ) → AreFours t → n < 10000 → c ≡ length (decimal n) → c ≤ 4 → at ≤ length old
+    → take (at + 4) new ≡ take at old ++ take 4 (drop (4 * n + (4 - c)) t) → take (at + c) new ≡ take at old ++ decimal n
+short_written t old new n at c h low count few le w =
+    let bytes : List ℕ = take 4 (drop (4 * n + (4 - c)) t) in
+    let sum : (4 - c) + c ≡ 4 = omega (arith, few) in
+    let number : take c bytes ≡ decimal n =
+    take-take c 4 (drop (4 * n + (4 - c)) t) few
+    ∙ (ap (take c) (sym (drop-drop (4 - c) (4 * n) t))
+    ∙ (sym (drop-take (4 - c) c (drop (4 * n) t))
+    ∙ (ap (λ (m : ℕ). drop (4 - c) (take m (drop (4 * n) t))) sum
+    ∙ (ap (drop (4 - c)) (h.each n low) ∙ end_of n c low count)))) in
+    let whole : take at old ++ bytes ≡ (take at old ++ decimal n) ++ drop c bytes =
+    ap (λ (l : List ℕ). take at old ++ l) (sym (take-append-drop c bytes) ∙ ap (λ (l : List ℕ). l ++ drop c bytes) number)
+    ∙ sym (append_assoc (take at old) (decimal n) (drop c bytes)) in
+    let long : length (take at old ++ decimal n) ≡ at + c = length-append (take at old) (decimal n) ∙ omega (arith, length-take-le at old le, count) in
+    sym (take-take (at + c) (at + 4) new (omega (arith, few))) ∙ (ap (take (at + c)) (w ∙ whole) ∙ take_at (take at old ++ decimal n) (drop c bytes) (at + c) long)
+
+-- the fours of one more number
+pub fours_more : (old new : List ℕ) (n : ℕ) → 4 * n ≤ length old → take (4 * n + 4) new ≡ take (4 * n) old ++ four_digits n
+    → ((j : ℕ) → j < n → take 4 (drop (4 * j) old) ≡ four_digits j) → (j : ℕ) → j < n + 1 → take 4 (drop (4 * j) new) ≡ four_digits j
+fours_more old new n le w each j low =
+    elim (eq-zero-or-pos (n - j)) [
+      | inl z ↦ let e : j ≡ n = omega (arith, low) in
+          subst (λ (k : ℕ). take 4 (drop (4 * k) new) ≡ four_digits k) (sym e)
+          (sym (drop-take (4 * n) 4 new) ∙ (ap (drop (4 * n)) w ∙ drop_at (take (4 * n) old) (four_digits n) (4 * n) (length-take-le (4 * n) old le)))
+      | inr g ↦
+          let same : take (4 * j + 4) new ≡ take (4 * j + 4) old =
+          sym (take-take (4 * j + 4) (4 * n + 4) new (omega arith))
+          ∙ (ap (take (4 * j + 4)) w
+          ∙ (take-append-le (4 * j + 4) (take (4 * n) old) (four_digits n) (omega (arith, length-take-le (4 * n) old le))
+          ∙ take-take (4 * j + 4) (4 * n) old (omega arith))) in
+          sym (drop-take (4 * j) 4 new) ∙ (ap (drop (4 * j)) same ∙ (drop-take (4 * j) 4 old ∙ each j (omega arith)))
+    ]
+
+-- a number's front, and the four digits of its rest behind it
+pub long_written : (front middle whole : List ℕ) (n : ℕ) → 10000 ≤ n → n < 2 ^ 64 → middle ≡ front ++ decimal (n / 10000) → whole ≡ middle ++ four_digits (n % 10000)
+    → whole ≡ front ++ decimal n
+long_written front middle whole n lo hi e w =
+    w ∙ (ap (λ (l : List ℕ). l ++ four_digits (n % 10000)) e ∙ (append_assoc front (decimal (n / 10000)) (four_digits (n % 10000)) ∙ ap (λ (l : List ℕ). front ++ l) (sym (four_last n lo hi))))

@@ -1,0 +1,170 @@
+//! The digits of the numbers below 10,000, four to a number.
+
+ghost use Rattle.std.specs.Prelude.{◌≡◌, ◌+◌, ◌*◌, ◌≤◌, ◌<◌, ◌^◌, ◌∷◌, ◌++◌, take, drop, length, decimal};
+ghost use Rattle.iso_defs.specs.Texts.{line, numbers_text};
+ghost use Rattle.iso_base.specs.Triangles.{triangle_of};
+ghost use Rattle.mesh_text.specs.Fours.{AreFours, four_digits};
+
+use crate::digits::{count_short, put_byte, put_letter};
+
+/// The bytes of a table of four digits a number. Behind the last number's stand four bytes more, so that four are there
+/// from each place of a number on.
+pub const FOURS: usize = 40_004;
+
+/// Writes the four digits of a number.
+#[inline(always)]
+fn put_four_digits(n: u32, room: &mut [u8], at: usize) -> usize
+    requires bound { n < 10000 }
+    requires space { at + 4 ≤ length room.old }
+    ensures end { result ≡ at + 4 }
+    ensures written { take result room.new ≡ take at room.old ++ four_digits n }
+{
+    let at = put_byte(b'0' + (n / 1000) as u8, room, at);
+    let at = put_byte(b'0' + (n / 100 % 10) as u8, room, at);
+    let at = put_byte(b'0' + (n / 10 % 10) as u8, room, at);
+    put_byte(b'0' + (n % 10) as u8, room, at)
+}
+
+/// Writes the table.
+pub fn write_fours(room: &mut [u8])
+    requires { length room.old ≡ 40004 }
+    ensures { AreFours room.new }
+{
+    let mut at = 0;
+    for n in 0..10_000 {
+        at = put_four_digits(n, room, at);
+    }
+}
+
+/// Writes four bytes.
+#[inline(always)]
+fn put_four_bytes(bytes: &[u8], from: usize, room: &mut [u8], at: usize)
+    requires from { from + 4 ≤ length bytes.now }
+    requires space { at + 4 ≤ length room.old }
+    ensures { take (at + 4) room.new ≡ take at room.old ++ take 4 (drop from bytes.now) }
+{
+    room[at..at + 4].copy_from_slice(&bytes[from..from + 4]);
+}
+
+/// Writes the four digits of a number, out of the table.
+#[inline(always)]
+fn put_four(fours: &[u8], n: u64, room: &mut [u8], at: usize) -> usize
+    requires table { AreFours fours.now }
+    requires bound { n < 10000 }
+    requires space { at + 4 ≤ length room.old }
+    ensures end { result ≡ at + 4 }
+    ensures written { take result room.new ≡ take at room.old ++ four_digits n }
+{
+    put_four_bytes(fours, 4 * n as usize, room, at);
+    at + 4
+}
+
+/// Writes a number below 10,000, out of the table.
+#[inline(always)]
+fn put_short(fours: &[u8], n: u64, room: &mut [u8], at: usize) -> usize
+    requires table { AreFours fours.now }
+    requires bound { n < 10000 }
+    requires space { at + 4 ≤ length room.old }
+    ensures end { result ≤ at + 4 }
+    ensures behind { at ≤ result }
+    ensures written { take result room.new ≡ take at room.old ++ decimal n }
+{
+    let count = count_short(n);
+    put_four_bytes(fours, 4 * n as usize + (4 - count), room, at);
+    at + count
+}
+
+/// Writes a number of more than four digits.
+#[inline(always)]
+fn put_long(fours: &[u8], n: u64, room: &mut [u8], at: usize) -> usize
+    requires table { AreFours fours.now }
+    requires least { 10000 ≤ n }
+    requires bound { n < 100000000 }
+    requires space { at + 8 ≤ length room.old }
+    ensures end { result ≤ at + 8 }
+    ensures behind { at ≤ result }
+    ensures written { take result room.new ≡ take at room.old ++ decimal n }
+{
+    let at = put_short(fours, n / 10_000, room, at);
+    put_four(fours, n % 10_000, room, at)
+}
+
+/// Writes a number, out of the table.
+#[inline(always)]
+pub fn put_number(fours: &[u8], n: u64, room: &mut [u8], at: usize) -> usize
+    requires table { AreFours fours.now }
+    requires bound { n < 10 ^ 11 }
+    requires space { at + 12 ≤ length room.old }
+    ensures end { result ≤ at + 12 }
+    ensures behind { at ≤ result }
+    ensures written { take result room.new ≡ take at room.old ++ decimal n }
+{
+    if n < 10_000 {
+        put_short(fours, n, room, at)
+    } else if n < 100_000_000 {
+        put_long(fours, n, room, at)
+    } else {
+        put_longest(fours, n, room, at)
+    }
+}
+
+/// Writes a number of more than eight digits.
+fn put_longest(fours: &[u8], n: u64, room: &mut [u8], at: usize) -> usize
+    requires table { AreFours fours.now }
+    requires least { 100000000 ≤ n }
+    requires bound { n < 10 ^ 11 }
+    requires space { at + 12 ≤ length room.old }
+    ensures end { result ≤ at + 12 }
+    ensures behind { at ≤ result }
+    ensures written { take result room.new ≡ take at room.old ++ decimal n }
+{
+    let at = put_long(fours, n / 10_000, room, at);
+    put_four(fours, n % 10_000, room, at)
+}
+
+#[inline(always)]
+fn put_three(fours: &[u8], a: u64, b: u64, c: u64, room: &mut [u8], at: usize) -> usize
+    requires table { AreFours fours.now }
+    requires a { a < 10 ^ 11 }
+    requires b { b < 10 ^ 11 }
+    requires c { c < 10 ^ 11 }
+    requires space { at + 39 ≤ length room.old }
+    ensures end { result ≤ at + 39 }
+    ensures behind { at ≤ result }
+    ensures written { take result room.new ≡ take at room.old ++ line (decimal a ++ 32 ∷ (decimal b ++ 32 ∷ decimal c)) }
+{
+    let at = put_number(fours, a, room, at);
+    let at = put_byte(b' ', room, at);
+    let at = put_number(fours, b, room, at);
+    let at = put_byte(b' ', room, at);
+    let at = put_number(fours, c, room, at);
+    put_byte(b'\n', room, at)
+}
+
+/// Writes a letter, three numbers, each raised by `first`, and the end of their line, out of the table.
+#[inline(always)]
+pub fn put_face(
+    fours: &[u8],
+    letter: u8,
+    first: u64,
+    corners: &[u32; 3],
+    room: &mut [u8],
+    at: usize,
+) -> usize
+    requires table { AreFours fours.now }
+    requires first { first ≤ 1 }
+    requires space { at + 41 ≤ length room.old }
+    ensures end { result ≤ at + 41 }
+    ensures behind { at ≤ result }
+    ensures written { take result room.new ≡ take at room.old ++ line (letter ∷ 32 ∷ numbers_text first (triangle_of corners.now)) }
+{
+    let at = put_letter(letter, room, at);
+    put_three(
+        fours,
+        first + u64::from(corners[0]),
+        first + u64::from(corners[1]),
+        first + u64::from(corners[2]),
+        room,
+        at,
+    )
+}
