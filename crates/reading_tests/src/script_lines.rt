@@ -1,7 +1,10 @@
-use iso_base::{BenchFault, Written};
+use iso_base::{BenchFault, MeshFormat, Written};
 use iso_io::MemSink;
+use measure::Share;
 use mesh_report::Part;
-use script::{Command, FileName, LineFault, Reply, put_reply, put_report, read_line};
+use script::{
+    Command, FileName, LineFault, Reply, put_measures, put_reply, put_report, read_line,
+};
 use std::test::Fail;
 
 fn set(line: &[u8]) -> Option<([i64; 3], i64)> {
@@ -40,24 +43,36 @@ fn is_redo(line: &[u8]) -> bool {
     }
 }
 
-fn ply(line: &[u8], name: &str) -> bool {
+fn is_measure(line: &[u8]) -> bool {
     match read_line(line) {
-        Ok(Some(Command::Ply { name: read })) => read.as_str() == name,
+        Ok(Some(Command::Measure)) => true,
         _ => false,
     }
 }
 
-fn obj(line: &[u8], name: &str) -> bool {
+// Whether a line is one of this word with this name.
+fn writes(line: &[u8], word: &str, name: &str) -> bool {
     match read_line(line) {
-        Ok(Some(Command::Obj { name: read })) => read.as_str() == name,
+        Ok(Some(Command::Ply { name: read })) => word == "ply" && read.as_str() == name,
+        Ok(Some(Command::Obj { name: read })) => word == "obj" && read.as_str() == name,
+        Ok(Some(Command::Save { name: read })) => word == "save" && read.as_str() == name,
+        Ok(Some(Command::SaveText { name: read })) => {
+            word == "savetext" && read.as_str() == name
+        }
+        Ok(Some(Command::SaveHex { name: read })) => word == "savehex" && read.as_str() == name,
         _ => false,
     }
 }
 
-fn save(line: &[u8], name: &str) -> bool {
+// The corners and the format of a window that goes to the file `a`.
+fn window(line: &[u8]) -> Option<([i64; 6], MeshFormat)> {
     match read_line(line) {
-        Ok(Some(Command::Save { name: read })) => read.as_str() == name,
-        _ => false,
+        Ok(Some(Command::Window {
+            corners,
+            format,
+            name,
+        })) if name.as_str() == "a" => Some((corners, format)),
+        _ => None,
     }
 }
 
@@ -92,14 +107,50 @@ fn lines_are_read(rt: HostRuntime) {
     );
     assert_eq!(rt; work(b"work 999999999"), Some(999_999_999));
     assert!(rt; is_redo(b"\tredo "));
-    assert!(rt; ply(b"ply a/b-1._Z", "a/b-1._Z"));
-    assert!(rt; obj(b"obj a", "a") && save(b" save b.nrrd", "b.nrrd"));
+    assert!(rt; is_measure(b" measure"));
     assert_eq!(rt; contour(b"contour -1"), Some(-1));
     for line in [b"".as_slice(), b" \t ", b"# c", b"\t#set"] {
         assert!(rt; is_nothing(line));
     }
     for line in [b"undo ".as_slice(), b"quit", b"report\t"] {
         assert!(rt; fault(line).is_none() && !is_nothing(line));
+    }
+}
+
+#[test]
+fn lines_that_write_are_read(rt: HostRuntime) {
+    for (line, word, name) in [
+        (b"ply a/b-1._Z".as_slice(), "ply", "a/b-1._Z"),
+        (b"obj a", "obj", "a"),
+        (b" save b.nrrd", "save", "b.nrrd"),
+        (b"savetext t", "savetext", "t"),
+        (b"savehex\th ", "savehex", "h"),
+    ] {
+        assert!(rt; writes(line, word, name));
+    }
+    for (line, corners, format) in [
+        (
+            b"window 1 1 1 2 2 2 ply a".as_slice(),
+            [1, 1, 1, 2, 2, 2],
+            MeshFormat::Ply,
+        ),
+        (
+            b"window 5 4 3 2 1 -0 obj a",
+            [5, 4, 3, 2, 1, 0],
+            MeshFormat::Obj,
+        ),
+        (
+            b"window 1 1 1 0 0 0 off a",
+            [1, 1, 1, 0, 0, 0],
+            MeshFormat::Off,
+        ),
+        (
+            b"\twindow 0 -1 0 1 1 1 vtk a",
+            [0, -1, 0, 1, 1, 1],
+            MeshFormat::Vtk,
+        ),
+    ] {
+        assert_eq!(rt; window(line), Some((corners, format)));
     }
 }
 
@@ -167,6 +218,15 @@ fn other_lines_are_refused(rt: HostRuntime) {
         b"obj a b",
         b"save -a",
         b"Save a",
+        b"savetext",
+        b"savehex a b",
+        b"window 0 0 0 1 1 ply a",
+        b"window 0 0 0 1 1 1 1 ply a",
+        b"window 0 0 0 1 1 1 stl a",
+        b"window 0 0 0 1 1 1 PLY a",
+        b"window 0 0 0 1 1 1 ply",
+        b"window 0 0 0 1 1 1 ply a b",
+        b"measure 1",
         b"contour",
         b"contour 1 2",
         b"contour k",
@@ -225,11 +285,12 @@ fn replies_are_written(rt: HostRuntime) -> Result<(), Fail> {
         Reply::Line(LineFault::LineTooLong { n: 4097 }),
         Reply::Refused(BenchFault::NoSuchPlane { k: -2 }),
         Reply::Refused(BenchFault::NothingToRedo),
+        Reply::Refused(BenchFault::WindowThin { axis: 2, n: 1 }),
     ] {
         assert!(rt; put_reply(&mut sink, &reply).is_ok());
     }
     let want =
-        "ok\nok vertices 6 faces 8 bytes 326\nok bytes 89\nerror 1 memory\nerror 2 syntax\nerror 3 outside\nerror 4 value 0 255\nerror 5 level\nerror 6 pad -0.500 0\nerror 6 pad -3 -2\nerror 7 nothing to undo\nerror 8 fill 2097152\nerror 9 shelf\nerror 10 line 4097\nerror 11 plane -2\nerror 12 nothing to redo\n";
+        "ok\nok vertices 6 faces 8 bytes 326\nok bytes 89\nerror 1 memory\nerror 2 syntax\nerror 3 outside\nerror 4 value 0 255\nerror 5 level\nerror 6 pad -0.500 0\nerror 6 pad -3 -2\nerror 7 nothing to undo\nerror 8 fill 2097152\nerror 9 shelf\nerror 10 line 4097\nerror 11 plane -2\nerror 12 nothing to redo\nerror 13 window 2 1\n";
     assert_eq!(rt; sink.bytes(), want.as_bytes());
     Ok(())
 }
@@ -279,5 +340,30 @@ fn a_long_report_is_written_in_blocks(rt: HostRuntime) -> Result<(), Fail> {
         .ok_or("memory")?;
     assert!(rt; put_report(&mut sink, &part, &parts).is_err());
     assert_eq!(rt; sink.bytes().len(), 8_168);
+    Ok(())
+}
+
+#[test]
+fn measures_are_written(rt: HostRuntime) -> Result<(), Fail> {
+    let triangle = Share {
+        least: 0,
+        six: 125_000_000,
+        area: [250_000; 3],
+        border: 3,
+    };
+    let turned_in = Share {
+        least: 4_294_967_295,
+        six: -170_141_183_460_469_231_731_687_303_715_884_105_728,
+        area: [-1, 0, 170_141_183_460_469_231_731_687_303_715_884_105_727],
+        border: 18_446_744_073_709_551_615,
+    };
+    let mut sink = MemSink::new(rt.alloc(), 1000, Vec::new(rt.alloc()))
+        .ok()
+        .ok_or("memory")?;
+    assert!(rt; put_measures(&mut sink, &[]).is_ok());
+    assert!(rt; put_measures(&mut sink, &[triangle, turned_in]).is_ok());
+    let want =
+        "measure parts 0\nmeasure parts 2\npart 0 six 125000000 area 250000 250000 250000 border 3\npart 4294967295 six -170141183460469231731687303715884105728 area -1 0 170141183460469231731687303715884105727 border 18446744073709551615\n";
+    assert_eq!(rt; sink.bytes(), want.as_bytes());
     Ok(())
 }

@@ -11,3 +11,5 @@ mod scripts;
 mod sessions;
 #[cfg(test)]
 mod texts;
+#[cfg(test)]
+mod writings;

@@ -5,16 +5,16 @@ use Rattle.iso_base.specs.declared.fault.BenchFault.{BenchFault}
 use Rattle.iso_base.specs.declared.fault.BenchFault.TheVariants as faults
 use Rattle.iso_io.specs.Files.{Files}
 use Rattle.bench_core.specs.Machine.{State}
-use Rattle.bench_core.specs.Texts.{contour_of, report_of}
+use Rattle.bench_core.specs.Texts.{contour_of}
 use Rattle.script.specs.declared.command.Command.{Command}
-use Rattle.script.specs.declared.command.Command.TheVariants.{Set, Fill, Level, Undo, Redo, Work, Ply, Obj, Save, Contour, Report, Quit}
+use Rattle.script.specs.declared.command.Command.TheVariants.{Contour}
 use Rattle.script.specs.Commands.{read_of}
 use Rattle.iso_defs.specs.Texts.{line}
 use Rattle.script.specs.Replies.{fault_text, written_text, saved_text}
 use Rattle.session.specs.Lines.{Saying}
 use Rattle.session.specs.Table.{step_of, writes_of, says_of, Turn, after_writing}
 use Rattle.session.specs.Following.{LineTurn, Followed}
-use Rattle.session.proofs.Running.{contours_apart, report_apart}
+use Rattle.session.proofs.Running.{contours_apart}
 
 -- the state after a command, by the machine's step and by whether memory was wanted
 abbrev by_step : State → Result State BenchFault → Bool → State
@@ -27,18 +27,8 @@ wants reply = bytes_eq reply (codes "error 1 memory\n")
 
 says_no_want : (s : State) (c : Command) → wants (says_of s c) ≡ false
 unfolding written_text saved_text
-says_no_want s (Set at value) = refl
-says_no_want s (Fill corners value) = refl
-says_no_want s (Level value) = refl
-says_no_want s Undo = refl
-says_no_want s Redo = refl
-says_no_want s (Work n) = refl
-says_no_want s (Ply name) = refl
-says_no_want s (Obj name) = refl
-says_no_want s (Save name) = refl
 says_no_want s (Contour k) = contours_apart (is_some s.volume.pad) (contour_of s k) (codes "rror 1 memory\n")
-says_no_want s Report = report_apart (report_of s) (codes "rror 1 memory\n")
-says_no_want s Quit = refl
+says_no_want s command = refl
 
 memory_wants : wants (line (fault_text faults.Memory)) ≡ true
 unfolding fault_text

@@ -54,18 +54,10 @@ refreshed w v bricks most r = record {
 }
 
 command_steady : (w v : Scene) (c : Command) (reply : List ℕ) → CommandKeeps w c reply v → IsSteady w v
-command_steady w v (commands.Set at value) reply h = changed w v (commands.Set at value) reply h.0 h.1
-command_steady w v (commands.Fill corners value) reply h = changed w v (commands.Fill corners value) reply h.0 h.1
-command_steady w v (commands.Level value) reply h = changed w v (commands.Level value) reply h.0 h.1
-command_steady w v commands.Undo reply h = changed w v commands.Undo reply h.0 h.1
-command_steady w v commands.Redo reply h = changed w v commands.Redo reply h.0 h.1
 command_steady w v (commands.Work n) reply h = refreshed w v _ _ h
 command_steady w v (commands.Ply name) reply h = refreshed w v _ _ h
 command_steady w v (commands.Obj name) reply h = refreshed w v _ _ h
-command_steady w v (commands.Save name) reply h = changed w v (commands.Save name) reply h.0 h.1
-command_steady w v (commands.Contour k) reply h = changed w v (commands.Contour k) reply h.0 h.1
-command_steady w v commands.Report reply h = changed w v commands.Report reply h.0 h.1
-command_steady w v commands.Quit reply h = changed w v commands.Quit reply h.0 h.1
+command_steady w v command reply h = changed w v command reply h.0 h.1
 
 line_steady : (w v : Scene) (says : Saying) (replies : List (List ℕ)) → LineKeeps w says replies v → IsSteady w v
 line_steady w v (Ok None) replies h = still w v h.0 h.1

@@ -12,8 +12,9 @@ use Rattle.iso_base.specs.declared.fault.Written.{Written}
 use Rattle.iso_defs.specs.Texts.{line}
 use Rattle.plane_contour.specs.Points.{DrawnLine}
 use Rattle.plane_contour.specs.Texts.{contours_text, points_text}
+use Rattle.measure.specs.declared.share.Share.{Share}
 use Rattle.mesh_report.specs.Report.{Summary}
-use Rattle.session.specs.Table.{contour_reply, report_reply}
+use Rattle.session.specs.Table.{contour_reply, measures_reply, report_reply}
 use Rattle.script.specs.Replies.{fault_text, line_fault_text, written_text, saved_text}
 use Rattle.script.specs.Commands.{read_of}
 use Rattle.session.specs.Lines.{Saying, is_quit, has_no_quit}
@@ -201,16 +202,8 @@ line_no_error (LineTooLong n) = refl
 
 pub fault_no_error : (fault : BenchFault) → (fault ≡ faults.ShelfFailed → ⊥) → shelf_errors (line (fault_text fault) ∷ []) ≡ 0
 unfolding fault_text
-fault_no_error faults.Memory ne = refl
-fault_no_error faults.Outside ne = refl
-fault_no_error (faults.ValueOutside least greatest) ne = refl
-fault_no_error faults.LevelOutside ne = refl
-fault_no_error (faults.LevelNotAbovePad level pad) ne = refl
-fault_no_error faults.NothingToUndo ne = refl
-fault_no_error faults.NothingToRedo ne = refl
-fault_no_error (faults.FillTooLarge n) ne = refl
 fault_no_error faults.ShelfFailed ne = absurd (ne refl)
-fault_no_error (faults.NoSuchPlane k) ne = refl
+fault_no_error fault ne = refl
 
 one_or_none : (b : Bool) → cond b 1 0 + 0 ≤ 1
 one_or_none true = omega arith
@@ -240,8 +233,8 @@ contours_apart padded (l ∷ ls) more = line_apart l.0 (decimal (length l.1)) (p
 pub contours_no_error : (padded : Bool) (ls : List DrawnLine) → shelf_errors (contour_reply padded ls ∷ []) ≡ 0
 contours_no_error padded ls = ap (λ (b : Bool). cond b 1 0 + 0) (contours_apart padded ls (codes "rror 9 shelf\n"))
 
-pub report_apart : (r : Summary) (more : List ℕ) → bytes_eq (report_reply r) (101 ∷ more) ≡ false
-report_apart r more = refl
-
 pub report_no_error : (r : Summary) → shelf_errors (report_reply r ∷ []) ≡ 0
 report_no_error r = refl
+
+pub measures_no_error : (shares : List Share) → shelf_errors (measures_reply shares ∷ []) ≡ 0
+measures_no_error shares = refl

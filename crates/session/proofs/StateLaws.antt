@@ -21,6 +21,7 @@ use Rattle.edit_log.proofs.Replacing.{length-replaced, sample-replaced}
 use Rattle.inner_volume.specs.Places.{IsInside, place_of, plane_of, point_by, stored}
 use Rattle.inner_volume.proofs.Insides.{free, inside_area, inside_is_inner}
 use Rattle.bench_core.specs.Machine.{Entry, IsAbovePad, IsState, State, area_by, changed, checked_level, contour_by, contour_step, fill_at, fill_step, is_of_kind, level_by, level_step, pad_fault, redo_by, redo_step, set_at, set_step, undo_by, undo_step, unless_fault, value_fault, with_sample}
+use Rattle.bench_core.specs.Windows.{stays_unless, window_area, window_fault, window_step}
 use Rattle.bench_core.proofs.States.{changed_state, redone_state, undone_state}
 
 -- ---- where a step leads
@@ -243,6 +244,14 @@ contour_to s s' k (Some plane) is e = subst IsState (same_ok e) is
 
 pub contour_state : (s s' : State) (k : ℤ) → IsState s → contour_step s k ≡ Ok s' → IsState s'
 contour_state s s' k is e = contour_to s s' k (plane_of s.volume k) is e
+
+-- a window leaves the state
+left_state : (s s' : State) (fault : Option BenchFault) → IsState s → stays_unless s fault ≡ Ok s' → IsState s'
+left_state s s' None is e = subst IsState (same_ok e) is
+left_state s s' (Some fault) is e = absurd (no_fault e)
+
+pub window_state : (s s' : State) → IsState s → (corners : List ℤ) → window_step s corners ≡ Ok s' → IsState s'
+window_state s s' is corners e = left_state s s' (window_fault (window_area s.volume corners)) is e
 
 pub same_state : (s s' : State) → IsState s → leads_to s ≡ leads_to s' → IsState s'
 same_state s s' is e = subst IsState (same_ok e) is

@@ -7,11 +7,11 @@ use Rattle.iso_io.specs.Files.{Files}
 use Rattle.bench_core.specs.Machine.{IsState, State}
 use Rattle.bench_core.specs.Surface.{IsWatertight}
 use Rattle.bench_core.proofs.Surfaces.{watertight_of}
-use Rattle.session.proofs.StateLaws.{contour_state, fill_state, level_state, redo_state, same_state, set_state, undo_state}
+use Rattle.session.proofs.StateLaws.{contour_state, fill_state, level_state, redo_state, same_state, set_state, undo_state, window_state}
 use Rattle.script.specs.Commands.{read_of}
 use Rattle.script.specs.Replies.{fault_text}
 use Rattle.script.specs.declared.command.Command.{Command}
-use Rattle.script.specs.declared.command.Command.TheVariants.{Set, Fill, Level, Undo, Redo, Work, Ply, Obj, Save, Contour, Report, Quit}
+use Rattle.script.specs.declared.command.Command.TheVariants.{Set, Fill, Level, Undo, Redo, Contour, Window}
 use Rattle.session.specs.Following.{Followed, LineTurn}
 use Rattle.session.specs.Lines.{Saying}
 use Rattle.session.specs.Table.{Turn, after_writing, at_place, says_of, step_of, writes_of}
@@ -22,13 +22,9 @@ step_state s s' (Fill corners value) is e = fill_state s s' is (at_place corners
 step_state s s' (Level value) is e = level_state s s' is value e
 step_state s s' Undo is e = undo_state s s' is e
 step_state s s' Redo is e = redo_state s s' is e
-step_state s s' (Work n) is e = same_state s s' is e
-step_state s s' (Ply name) is e = same_state s s' is e
-step_state s s' (Obj name) is e = same_state s s' is e
-step_state s s' (Save name) is e = same_state s s' is e
 step_state s s' (Contour k) is e = contour_state s s' k is e
-step_state s s' Report is e = same_state s s' is e
-step_state s s' Quit is e = same_state s s' is e
+step_state s s' (Window corners format name) is e = window_state s s' is corners e
+step_state s s' command is e = same_state s s' is e
 
 taken_state : (s s' : State) (f f' : Option Files) (c : Command) (reply : List ℕ) (step : Result State BenchFault) → IsState s → step_of s c ≡ step
     → MatchResult step (λ next. (s' ≡ next) × (reply ≡ says_of s c) × (f' ≡ after_writing (writes_of s c) f)) (λ fault. (s' ≡ s) × (reply ≡ line (fault_text fault)) × (f' ≡ f)) → IsState s'

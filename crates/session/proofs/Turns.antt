@@ -1,29 +1,34 @@
 -- The turns of single commands.
 use Rattle.std.proofs.Common.{◌≡◌, ◌⊎◌, inl, inr, ℕ, ◌≤◌, Bool, true, false, List, [], ◌∷◌, Result, Ok, Err, MatchResult, refl, ap, sym, subst, ◌∙◌, codes, length, take, arith}
 use Rattle.std.specs.Prelude.{Option, None, Some, IfOk, is_some, if◌then◌else◌, ℤ}
+use Rattle.iso_defs.specs.Grid.{Grid}
 use Rattle.iso_defs.specs.Texts.{line}
+use Rattle.voxel_list.specs.Areas.{Area}
 use Rattle.iso_io.specs.Files.{Files}
 use Rattle.iso_io.specs.Shelves.{Store}
 use Rattle.iso_base.specs.declared.fault.BenchFault.{BenchFault}
 use Rattle.iso_base.specs.declared.fault.BenchFault.TheVariants as faults
 use Rattle.iso_base.specs.declared.fault.Written.{Written}
+use Rattle.iso_base.specs.declared.format.MeshFormat.{MeshFormat}
 use Rattle.plane_contour.specs.Points.{DrawnLine}
+use Rattle.measure.specs.declared.share.Share.{Share}
 use Rattle.mesh_report.specs.Report.{Summary}
 use Rattle.bench_core.specs.Keeping.{Keeps, Refreshes, Workbench, turn_steps, waiting_bricks, write_steps}
 use Rattle.bench_core.specs.Machine.{State, IsStep, IsSureStep}
-use Rattle.bench_core.specs.Texts.{ply_text, ply_written, obj_text, obj_written, save_text, contour_of, report_of, WritesFile, FailsToWrite}
+use Rattle.bench_core.specs.Texts.{ply_text, ply_written, obj_text, obj_written, save_text, text_save, hex_save, contour_of, report_of, measure_of, WritesFile, FailsToWrite}
+use Rattle.bench_core.specs.Windows.{FailsAsWindow, WritesWindow, stays_unless, thin_fault, window_area, window_fault, window_text, window_written}
 use Rattle.script.specs.Replies.{reply_text, fault_text, written_text, saved_text}
 use Rattle.script.specs.declared.command.Command.{Command}
-use Rattle.script.specs.declared.command.Command.TheVariants.{Ply, Obj, Save, Contour, Report, Work}
+use Rattle.script.specs.declared.command.Command.TheVariants.{Ply, Obj, Save, SaveText, SaveHex, Window, Contour, Report, Measure, Work}
 use Rattle.script.specs.declared.reply.Reply.TheVariants.{Done}
 use Rattle.session.specs.declared.response.Response.{Response}
 use Rattle.session.specs.declared.response.Response.TheVariants.{Line}
 use Rattle.session.specs.Responses.{response_text}
-use Rattle.session.specs.Table.{Turn, contour_reply, report_reply, reply_to_change, reply_to_mesh, reply_to_save, step_of, says_of, writes_of, may_want_memory, after_writing}
+use Rattle.session.specs.Table.{Turn, contour_reply, measures_reply, report_reply, reply_to_change, reply_to_mesh, reply_to_save, step_of, says_of, writes_of, may_want_memory, after_writing}
 use Rattle.session.specs.Kept.{CommandKeeps, area_of, cache_after, is_done}
 use Rattle.session.specs.Worlds.{CountsBy, scene, shelf_errors}
 use Rattle.session.specs.Loop.{TakesTurn}
-use Rattle.session.proofs.Running.{written_no_error, saved_no_error, contours_no_error, report_no_error, fault_no_error, one_error}
+use Rattle.session.proofs.Running.{written_no_error, saved_no_error, contours_no_error, measures_no_error, report_no_error, fault_no_error, one_error}
 
 -- what is answered, by whether a call did what was asked
 abbrev pub reply_by : {T : Type 0} → (T → List ℕ) → Result T BenchFault → List ℕ
@@ -99,6 +104,11 @@ report_turn : (s : State) (store : Store) (made : Result Summary BenchFault) →
     → Turned s store Report (reply_by report_reply made) s store
 report_turn s store made h r shelf = stepped s s store Report report_reply made h shelf refl refl (told_by report_reply made (report_of s) r) report_no_error
 
+-- measures, or none
+measure_turn : (s : State) (store : Store) (made : Result (List Share) BenchFault) → IsStep s s made (step_of s Measure) → IfOk made (λ m. m ≡ measure_of s) → (made ≡ Err faults.ShelfFailed → ⊥)
+    → Turned s store Measure (reply_by measures_reply made) s store
+measure_turn s store made h m shelf = stepped s s store Measure measures_reply made h shelf refl refl (told_by measures_reply made (measure_of s) m) measures_no_error
+
 -- ---- commands that write a file
 
 apart : faults.Memory ≡ faults.ShelfFailed → ⊥
@@ -145,15 +155,7 @@ save_reply (Err fault) = refl
 fault_not_done : (fault : BenchFault) → is_done (line (fault_text fault)) ≡ false
 unfolding fault_text
 fault_not_done faults.Memory = refl
-fault_not_done faults.Outside = refl
-fault_not_done (faults.ValueOutside least greatest) = refl
-fault_not_done faults.LevelOutside = refl
-fault_not_done (faults.LevelNotAbovePad level pad) = refl
-fault_not_done faults.NothingToUndo = refl
-fault_not_done faults.NothingToRedo = refl
-fault_not_done (faults.FillTooLarge n) = refl
-fault_not_done faults.ShelfFailed = refl
-fault_not_done (faults.NoSuchPlane k) = refl
+fault_not_done fault = refl
 
 -- the cache after a change, by its reply
 change_keeps : (old new : Workbench) (c : Command) (made : Result (Unit {0}) BenchFault) → Keeps old new made (area_of old.state c) → new.cache ≡ cache_after old c (reply_text (reply_to_change made))
@@ -213,7 +215,7 @@ pub change_by : (old new : Workbench) (n : ℕ) (store : Store) (c d : Command) 
 change_by old new n store c d made response e a step shelf writes says keeps kept =
     changed_by old new n store c d made response e a (changed old.state new.state store d made step shelf writes says) keeps kept
 
--- contour lines and reports
+-- contour lines, reports and measures
 pub contour_by : (b : Workbench) (n : ℕ) (store : Store) (k : ℤ) (made : Result (List DrawnLine) BenchFault) → IsStep b.state b.state made (step_of b.state (Contour k)) → IfOk made (λ ls. ls ≡ contour_of b.state k) → (made ≡ Err faults.ShelfFailed → ⊥)
     → TakesTurn b n store (Contour k) (reply_by (contour_reply (is_some b.state.volume.pad)) made) b n store
 contour_by b n store k made h ls shelf = with_keeps b b n n store store (Contour k) _ (contour_turn b.state store k made h ls shelf) (no_area_keeps b (Contour k) (reply_by (contour_reply (is_some b.state.volume.pad)) made) refl, refl)
@@ -221,6 +223,10 @@ contour_by b n store k made h ls shelf = with_keeps b b n n store store (Contour
 pub report_by : (b : Workbench) (n : ℕ) (store : Store) (made : Result Summary BenchFault) → IsStep b.state b.state made (step_of b.state Report) → IfOk made (λ r. r ≡ report_of b.state) → (made ≡ Err faults.ShelfFailed → ⊥)
     → TakesTurn b n store Report (reply_by report_reply made) b n store
 report_by b n store made h r shelf = with_keeps b b n n store store Report _ (report_turn b.state store made h r shelf) (no_area_keeps b Report (reply_by report_reply made) refl, refl)
+
+pub measure_by : (b : Workbench) (n : ℕ) (store : Store) (made : Result (List Share) BenchFault) → IsStep b.state b.state made (step_of b.state Measure) → IfOk made (λ m. m ≡ measure_of b.state) → (made ≡ Err faults.ShelfFailed → ⊥)
+    → TakesTurn b n store Measure (reply_by measures_reply made) b n store
+measure_by b n store made h m shelf = with_keeps b b n n store store Measure _ (measure_turn b.state store made h m shelf) (no_area_keeps b Measure (reply_by measures_reply made) refl, refl)
 
 -- a refresh turn
 pub work_by : (old new : Workbench) (n m : ℕ) (store : Store) (c : Command) (count : ℕ) → c ≡ Work count → Refreshes old new (take count (waiting_bricks old)) turn_steps n m
@@ -256,10 +262,62 @@ obj_by old new n m shelf after name made response a never refreshed file =
     (wrote old.state shelf after (Obj name) name (obj_text old.state) (obj_written old.state) (λ (w : Written). line (written_text w)) made refl refl refl (λ e. absurd (never e)) written_no_error file))
     refreshed)
 
+-- a volume is written in one of its texts: `keeps` says what it means for this command that nothing becomes of the cache
+saved_by : (b : Workbench) (n : ℕ) (shelf after : Store) (c : Command) (name text : List ℕ) (made : Result ℕ BenchFault) (response : Response) → response ≡ Line (reply_to_save made) → (made ≡ Err faults.Memory → ⊥)
+    → WritesFile shelf after made name text (length text) → step_of b.state c ≡ Ok b.state → writes_of b.state c ≡ Some (name, text) → line (saved_text (length text)) ≡ says_of b.state c → area_of b.state c ≡ None
+    → ((reply : List ℕ) → b.cache ≡ cache_after b c reply → CommandKeeps (scene b n shelf) c reply (scene b n after)) → TakesTurn b n shelf c (response_text response) b n after
+saved_by b n shelf after c name text made response a never file step writes says none keeps =
+    said_by b b n n shelf after c _ (response_text response) (save_reply made ∙ ap response_text (sym a))
+    (with_keeps b b n n shelf after c _
+    (wrote b.state shelf after c name text (length text) (λ (k : ℕ). line (saved_text k)) made step writes says (λ e. absurd (never e)) saved_no_error file)
+    (keeps _ (no_area_keeps b c (reply_by (λ (k : ℕ). line (saved_text k)) made) none)))
+
 pub save_by : (b : Workbench) (n : ℕ) (shelf after : Store) (name : List ℕ) (made : Result ℕ BenchFault) (response : Response) → response ≡ Line (reply_to_save made) → (made ≡ Err faults.Memory → ⊥)
     → WritesFile shelf after made name (save_text b.state) (length (save_text b.state)) → TakesTurn b n shelf (Save name) (response_text response) b n after
 save_by b n shelf after name made response a never file =
-    said_by b b n n shelf after (Save name) _ (response_text response) (save_reply made ∙ ap response_text (sym a))
-    (with_keeps b b n n shelf after (Save name) _
-    (wrote b.state shelf after (Save name) name (save_text b.state) (length (save_text b.state)) (λ (k : ℕ). line (saved_text k)) made refl refl refl (λ e. absurd (never e)) saved_no_error file)
-    (no_area_keeps b (Save name) (reply_by (λ (k : ℕ). line (saved_text k)) made) refl, refl))
+    saved_by b n shelf after (Save name) name (save_text b.state) made response a never file refl refl refl refl (λ reply same. (same, refl))
+
+pub savetext_by : (b : Workbench) (n : ℕ) (shelf after : Store) (name : List ℕ) (made : Result ℕ BenchFault) (response : Response) → response ≡ Line (reply_to_save made) → (made ≡ Err faults.Memory → ⊥)
+    → WritesFile shelf after made name (text_save b.state) (length (text_save b.state)) → TakesTurn b n shelf (SaveText name) (response_text response) b n after
+savetext_by b n shelf after name made response a never file =
+    saved_by b n shelf after (SaveText name) name (text_save b.state) made response a never file refl refl refl refl (λ reply same. (same, refl))
+
+pub savehex_by : (b : Workbench) (n : ℕ) (shelf after : Store) (name : List ℕ) (made : Result ℕ BenchFault) (response : Response) → response ≡ Line (reply_to_save made) → (made ≡ Err faults.Memory → ⊥)
+    → WritesFile shelf after made name (hex_save b.state) (length (hex_save b.state)) → TakesTurn b n shelf (SaveHex name) (response_text response) b n after
+savehex_by b n shelf after name made response a never file =
+    saved_by b n shelf after (SaveHex name) name (hex_save b.state) made response a never file refl refl refl refl (λ reply same. (same, refl))
+
+-- no window is refused by the shelf
+thin_apart : (g : Grid) (axis : Option ℕ) (fault : BenchFault) → thin_fault g axis ≡ Some fault → fault ≡ faults.ShelfFailed → ⊥
+thin_apart g None fault e shelf = absurd cc
+thin_apart g (Some axis) fault e shelf = absurd cc
+
+window_apart : (box : Option Area) (fault : BenchFault) → window_fault box ≡ Some fault → fault ≡ faults.ShelfFailed → ⊥
+window_apart None fault e shelf = absurd cc
+window_apart (Some a) fault e shelf = thin_apart _ _ fault e shelf
+
+module _ (s : State) (old new : Store) (corners : List ℤ) (format : MeshFormat) (name : List ℕ) where
+  -- a window, by the box of its corners
+  window_wrote : (made : Result Written BenchFault) → window_fault (window_area s.volume corners) ≡ None
+      → WritesFile old new made name (window_text s.volume s.level (window_area s.volume corners) format) (window_written s.volume s.level (window_area s.volume corners) format)
+      → Turned s old (Window corners format name) (reply_by (λ (w : Written). line (written_text w)) made) s new
+  window_wrote made e file = wrote s old new (Window corners format name) name _ _ (λ (w : Written). line (written_text w)) made (ap (stays_unless s) e) refl refl (λ _. refl) written_no_error file
+
+  window_not : (fault : BenchFault) → FailsAsWindow (window_area s.volume corners) (window_text s.volume s.level (window_area s.volume corners) format) old new fault name → old.faults ≤ new.faults
+      → Turned s old (Window corners format name) (line (fault_text fault)) s new
+  window_not fault (inl h) later =
+      subst (λ (store : Store). Turned s old (Window corners format name) (line (fault_text fault)) s store) (sym h.1)
+      (did_not s s old (Window corners format name) fault (refused s s old.files (Window corners format name) fault refl (ap (stays_unless s) h.0)) (window_apart (window_area s.volume corners) fault h.0))
+  window_not fault (inr h) later = window_wrote (Err fault) h.0 (record { numbers = record {}; file = record {}; fault = h.1; later = later })
+
+  window_turn : (made : Result Written BenchFault) → WritesWindow s.volume s.level (window_area s.volume corners) format old new made name
+      → Turned s old (Window corners format name) (reply_by (λ (w : Written). line (written_text w)) made) s new
+  window_turn (Ok w) h = window_wrote (Ok w) h.window (record { numbers = h.numbers; file = h.file; fault = record {}; later = h.later })
+  window_turn (Err fault) h = window_not fault h.fault h.later
+
+pub window_by : (b : Workbench) (n : ℕ) (shelf after : Store) (corners : List ℤ) (format : MeshFormat) (name : List ℕ) (made : Result Written BenchFault) (response : Response) → response ≡ Line (reply_to_mesh made)
+    → WritesWindow b.state.volume b.state.level (window_area b.state.volume corners) format shelf after made name → TakesTurn b n shelf (Window corners format name) (response_text response) b n after
+window_by b n shelf after corners format name made response a h =
+    said_by b b n n shelf after (Window corners format name) _ (response_text response) (mesh_reply made ∙ ap response_text (sym a))
+    (with_keeps b b n n shelf after (Window corners format name) _ (window_turn b.state shelf after corners format name made h)
+    (no_area_keeps b (Window corners format name) (reply_by (λ (w : Written). line (written_text w)) made) refl, refl))

@@ -5,18 +5,21 @@ use Rattle.iso_base.specs.declared.fault.BenchFault.TheVariants as faults
 use Rattle.iso_io.specs.Files.{Files}
 use Rattle.iso_io.specs.Shelves.{with_file, FilesCut}
 use Rattle.bench_core.specs.Machine.{State, set_step, fill_step, level_step, undo_step, redo_step, contour_step}
-use Rattle.bench_core.specs.Texts.{ply_text, ply_written, obj_text, obj_written, save_text, contour_of, report_of}
+use Rattle.bench_core.specs.Texts.{ply_text, ply_written, obj_text, obj_written, save_text, text_save, hex_save, contour_of, report_of, measure_of}
+use Rattle.bench_core.specs.Windows.{window_area, window_step, window_text, window_written}
 use Rattle.plane_contour.specs.Points.{DrawnLine}
 use Rattle.plane_contour.specs.Texts.{contours_text}
 use Rattle.mesh_report.specs.Report.{Summary}
+use Rattle.measure.specs.declared.share.Share.{Share}
 use Rattle.script.specs.declared.command.Command.{Command}
-use Rattle.script.specs.declared.command.Command.TheVariants.{Set, Fill, Level, Undo, Redo, Ply, Obj, Save, Contour, Report}
+use Rattle.script.specs.declared.command.Command.TheVariants.{Set, Fill, Level, Undo, Redo, Ply, Obj, Save, SaveText, SaveHex, Window, Contour, Report, Measure}
 use Rattle.iso_base.specs.declared.fault.Written.{Written}
 use Rattle.script.specs.declared.reply.Reply.{Reply}
 use Rattle.script.specs.declared.reply.Reply.TheVariants.{Done, Meshed, Saved, Refused}
 use Rattle.iso_defs.specs.Texts.{line}
 use Rattle.script.specs.Replies.{fault_text, written_text, saved_text}
 use Rattle.script.specs.Reports.{report_text}
+use Rattle.script.specs.Measures.{measures_text}
 
 -- three numbers of a list, from this place on
 abbrev pub at_place : List ℤ → ℕ → ℕ → ℕ → ℤ × ℤ × ℤ
@@ -30,6 +33,7 @@ step_of s (Level value) = level_step s value
 step_of s Undo = undo_step s
 step_of s Redo = redo_step s
 step_of s (Contour k) = contour_step s k
+step_of s (Window corners format name) = window_step s corners
 step_of s command = Ok s
 
 -- the file that a command writes, and its text
@@ -37,6 +41,9 @@ abbrev pub writes_of : State → Command → Option (List ℕ × List ℕ)
 writes_of s (Ply name) = Some (name, ply_text s)
 writes_of s (Obj name) = Some (name, obj_text s)
 writes_of s (Save name) = Some (name, save_text s)
+writes_of s (SaveText name) = Some (name, text_save s)
+writes_of s (SaveHex name) = Some (name, hex_save s)
+writes_of s (Window corners format name) = Some (name, window_text s.volume s.level (window_area s.volume corners) format)
 writes_of s command = None
 
 -- contour lines, and then `ok`
@@ -47,13 +54,21 @@ contour_reply padded lines = contours_text padded lines ++ line (codes "ok")
 abbrev pub report_reply : Summary → List ℕ
 report_reply report = report_text report.total report.parts ++ line (codes "ok")
 
+-- the lines of measures, and then `ok`
+abbrev pub measures_reply : List Share → List ℕ
+measures_reply shares = measures_text shares ++ line (codes "ok")
+
 -- the reply to a command that is not refused
 abbrev pub says_of : State → Command → List ℕ
 says_of s (Ply name) = line (written_text (ply_written s))
 says_of s (Obj name) = line (written_text (obj_written s))
 says_of s (Save name) = line (saved_text (length (save_text s)))
+says_of s (SaveText name) = line (saved_text (length (text_save s)))
+says_of s (SaveHex name) = line (saved_text (length (hex_save s)))
+says_of s (Window corners format name) = line (written_text (window_written s.volume s.level (window_area s.volume corners) format))
 says_of s (Contour k) = contour_reply (is_some s.volume.pad) (contour_of s k)
 says_of s Report = report_reply (report_of s)
+says_of s Measure = measures_reply (measure_of s)
 says_of s command = line (codes "ok")
 
 -- the asking lines: those that may be answered that memory is wanting
@@ -61,6 +76,8 @@ abbrev pub may_want_memory : Command → Bool
 may_want_memory (Fill corners value) = true
 may_want_memory (Contour k) = true
 may_want_memory Report = true
+may_want_memory Measure = true
+may_want_memory (Window corners format name) = true
 may_want_memory command = false
 
 -- the files after a command

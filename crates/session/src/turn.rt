@@ -9,7 +9,7 @@ ghost use Rattle.session.specs.Worlds.{world};
 use crate::after::After;
 use crate::response::{Response, put_response};
 use bench_core::{Bench, BenchFault, Written};
-use iso_base::Steps;
+use iso_base::{MeshFormat, Steps};
 use iso_io::{Failed, Shelf, Sink};
 use script::{Command, LineFault, Reply};
 use std::sync::ledger::Ledger;
@@ -68,11 +68,38 @@ fn run_obj<H: Shelf, L: Ledger>(
     meshed(bench.write_obj(shelf, name, steps))
 }
 
-/// Writes the volume to a file.
+/// Writes the volume to a file, with raw samples.
 fn run_save<H: Shelf>(bench: &Bench, shelf: &mut H, name: &str) -> Response
     ensures { (steps : ℕ) → TakesTurn bench.now steps (H.seen shelf.old) (Command.Save name.now) (response_text result) bench.now steps (H.seen shelf.new) }
 {
     saved(bench.save(shelf, name))
+}
+
+/// Writes the volume to a file, with its samples in decimal numbers.
+fn run_savetext<H: Shelf>(bench: &Bench, shelf: &mut H, name: &str) -> Response
+    ensures { (steps : ℕ) → TakesTurn bench.now steps (H.seen shelf.old) (Command.SaveText name.now) (response_text result) bench.now steps (H.seen shelf.new) }
+{
+    saved(bench.save_text(shelf, name))
+}
+
+/// Writes the volume to a file, with its samples in hex digits.
+fn run_savehex<H: Shelf>(bench: &Bench, shelf: &mut H, name: &str) -> Response
+    ensures { (steps : ℕ) → TakesTurn bench.now steps (H.seen shelf.old) (Command.SaveHex name.now) (response_text result) bench.now steps (H.seen shelf.new) }
+{
+    saved(bench.save_hex(shelf, name))
+}
+
+/// Writes the mesh of a box of points to a file.
+fn run_window<H: Shelf>(
+    bench: &Bench,
+    shelf: &mut H,
+    name: &str,
+    corners: [i64; 6],
+    format: MeshFormat,
+) -> Response
+    ensures { (steps : ℕ) → TakesTurn bench.now steps (H.seen shelf.old) (Command.Window corners format name.now) (response_text result) bench.now steps (H.seen shelf.new) }
+{
+    meshed(bench.window(shelf, name, corners, format))
 }
 
 /// Draws the contour lines of a plane.
@@ -94,6 +121,16 @@ fn run_report(bench: &Bench) -> Response
 {
     match bench.report() {
         Ok(report) => Response::Report(report),
+        Err(fault) => Response::Line(Reply::Refused(fault)),
+    }
+}
+
+/// Measures the parts of the mesh.
+fn run_measure(bench: &Bench) -> Response
+    ensures { (steps : ℕ) (store : Store) → TakesTurn bench.now steps store Command.Measure (response_text result) bench.now steps store }
+{
+    match bench.measure() {
+        Ok(measures) => Response::Measures(measures),
         Err(fault) => Response::Line(Reply::Refused(fault)),
     }
 }
@@ -120,8 +157,16 @@ fn run_command<H: Shelf, L: Ledger>(
         Command::Ply { name } => run_ply(bench, shelf, steps, name.as_str()),
         Command::Obj { name } => run_obj(bench, shelf, steps, name.as_str()),
         Command::Save { name } => run_save(bench, shelf, name.as_str()),
+        Command::SaveText { name } => run_savetext(bench, shelf, name.as_str()),
+        Command::SaveHex { name } => run_savehex(bench, shelf, name.as_str()),
+        Command::Window {
+            corners,
+            format,
+            name,
+        } => run_window(bench, shelf, name.as_str(), *corners, *format),
         Command::Contour { k } => run_contour(bench, *k),
         Command::Report => run_report(bench),
+        Command::Measure => run_measure(bench),
         Command::Quit => Response::Line(Reply::Done),
     }
 }

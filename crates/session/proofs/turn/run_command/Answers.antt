@@ -1,7 +1,7 @@
 use Rattle.std.proofs.Common.{refl, rules}
 use Rattle.bench_core.specs.Keeping.{Keeps, fill_area, set_area}
 use Rattle.bench_core.specs.Machine.{IsStep, IsSureStep, set_step, fill_step, level_step}
-use Rattle.script.specs.declared.command.Command.TheVariants.{Set, Fill, Level, Undo, Redo, Save, Contour, Report}
+use Rattle.script.specs.declared.command.Command.TheVariants.{Set, Fill, Level, Undo, Redo, Save, SaveText, SaveHex, Window, Contour, Report, Measure}
 use Rattle.session.specs.Responses.{response_text}
 use Rattle.session.specs.Table.{at_place}
 use Rattle.session.specs.Loop.{TakesTurn}
@@ -44,8 +44,30 @@ returns-in-Contour g c =
 pub returns-in-Report : goal.returns-in-Report
 returns-in-Report g c = turn_by _ _ _ _ _ _ _ Report _ c.in-Report.is (c.run_report.ensures _ _)
 
+pub returns-in-Measure : goal.returns-in-Measure
+returns-in-Measure g c = turn_by _ _ _ _ _ _ _ Measure _ c.in-Measure.is (c.run_measure.ensures _ _)
+
 pub returns-in-Save : goal.returns-in-Save
 returns-in-Save g c =
     let steps = c.args.steps.now in
     let turn : TakesTurn c.args.bench.now steps (g.H.Shelf.seen c.args.shelf.now) (Save c.in-Save.name) (response_text c.run_save.result) c.args.bench.now steps (g.H.Shelf.seen c.run_save.new.shelf) = search (rules, c.run_save.ensures steps) in
     turn_by _ _ _ _ _ _ _ (Save c.in-Save.name) _ c.in-Save.is turn
+
+pub returns-in-SaveText : goal.returns-in-SaveText
+returns-in-SaveText g c =
+    let steps = c.args.steps.now in
+    let turn : TakesTurn c.args.bench.now steps (g.H.Shelf.seen c.args.shelf.now) (SaveText c.in-SaveText.name) (response_text c.run_savetext.result) c.args.bench.now steps (g.H.Shelf.seen c.run_savetext.new.shelf) = search (rules, c.run_savetext.ensures steps) in
+    turn_by _ _ _ _ _ _ _ (SaveText c.in-SaveText.name) _ c.in-SaveText.is turn
+
+pub returns-in-SaveHex : goal.returns-in-SaveHex
+returns-in-SaveHex g c =
+    let steps = c.args.steps.now in
+    let turn : TakesTurn c.args.bench.now steps (g.H.Shelf.seen c.args.shelf.now) (SaveHex c.in-SaveHex.name) (response_text c.run_savehex.result) c.args.bench.now steps (g.H.Shelf.seen c.run_savehex.new.shelf) = search (rules, c.run_savehex.ensures steps) in
+    turn_by _ _ _ _ _ _ _ (SaveHex c.in-SaveHex.name) _ c.in-SaveHex.is turn
+
+pub returns-in-Window : goal.returns-in-Window
+returns-in-Window g c =
+    let steps = c.args.steps.now in
+    let command = Window c.in-Window.corners c.in-Window.format c.in-Window.name in
+    let turn : TakesTurn c.args.bench.now steps (g.H.Shelf.seen c.args.shelf.now) command (response_text c.run_window.result) c.args.bench.now steps (g.H.Shelf.seen c.run_window.new.shelf) = search (rules, c.run_window.ensures steps) in
+    turn_by _ _ _ _ _ _ _ command _ c.in-Window.is turn

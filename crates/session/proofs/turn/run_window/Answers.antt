@@ -1,0 +1,5 @@
+use Rattle.session.proofs.Turns.{window_by}
+use Rattle.session.proofs.turn.run_window.Goals as goal
+
+pub returns : goal.returns
+returns g c = λ steps. window_by _ steps _ _ c.args.corners c.args.format _ _ _ c.meshed.ensures c.window.ensures.window
