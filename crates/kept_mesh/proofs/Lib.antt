@@ -2,3 +2,4 @@ pub mod EntryRuns
 pub mod RowCases
 pub mod Waits
 pub mod Scanning
+pub mod Filled

@@ -1,9 +1,10 @@
 -- The cases that are named for the cells of a volume by what is kept of its bricks.
-use Rattle.std.specs.Prelude.{ℕ, ◌/◌, ◌%◌, ◌*◌, ◌==◌, Bool, nat_lt, if◌then◌else◌, List, [], ◌∷◌, Option, Some, None, ℤ}
+use Rattle.std.specs.Prelude.{ℕ, ◌-◌, ◌/◌, ◌%◌, ◌*◌, ◌==◌, Bool, nat_lt, if◌then◌else◌, List, [], ◌∷◌, Option, Some, None, ℤ}
 use Rattle.iso_defs.specs.Bricks.{row_cases}
 use Rattle.iso_base.specs.Shifted.{field}
 use Rattle.iso_base.specs.Volume.{Volume}
 use Rattle.brick_mesh.specs.Block.{BrickAt}
+use Rattle.brick_mesh.specs.Entries.{entries_from}
 use Rattle.mesh_cache.specs.Cache.{Cache}
 use Rattle.mesh_cache.specs.Economy.{is_fresh}
 use Rattle.stitch_rows.specs.Named.{Named}
@@ -25,6 +26,10 @@ named_by k = record {
 -- a brick of the volume at a level
 abbrev pub brick_in : Volume → ℤ → ℕ → BrickAt
 brick_in v level brick = record { grid = v.grid; samples = v.samples; brick = brick; level = level }
+
+-- its entries from a cell on
+abbrev pub left_from : Volume → ℤ → ℕ → ℕ → List ℕ
+left_from v level brick cell = entries_from (brick_in v level brick) cell (512 - cell)
 
 -- the case of the first of these entries, where it is that of a cell
 abbrev pub case_in : List ℕ → ℕ → Option ℕ

@@ -1,7 +1,9 @@
 //! The mesh of a volume in bricks, by what is kept of it.
 #![tactic(auto)]
 
+mod entries;
 mod files;
+mod planes;
 mod rows;
 mod spanned;
 

@@ -1,14 +1,15 @@
 //! The cases of the cells of a volume in bricks: those of a kept brick by its entries, others by its samples.
 
-ghost use Rattle.std.specs.Prelude.{◌≡◌, ◌+◌, ◌*◌, ◌<◌, ◌≤◌, Some, IfSome, drop, length};
+ghost use Rattle.std.specs.Prelude.{◌≡◌, [], ◌+◌, ◌*◌, ◌<◌, ◌≤◌, Some, All, false, slice_index_or, take, true};
 ghost use Rattle.std.specs.Bool.{OnTrue};
-ghost use Rattle.iso_defs.specs.Bricks.{entries as entries_of_brick, row_cases};
-ghost use Rattle.iso_base.specs.Shifted.{field};
+ghost use Rattle.iso_defs.specs.Bricks.{brick_count, in_brick};
 ghost use Rattle.mesh_cache.specs.Cache.{kept_at};
 ghost use Rattle.mesh_cache.specs.Economy.{IsRight, is_fresh};
 ghost use Rattle.stitch_rows.specs.Named.{IsCellRow};
-ghost use Rattle.kept_mesh.specs.Kept.{case_in, from_least, named_by, unmixed_case};
+ghost use Rattle.kept_mesh.specs.Kept.{named_by};
+ghost use Rattle.kept_mesh.specs.Planes.{IsHeld, IsPlane, IsPlaneAt};
 
+use crate::planes::{PLANES, Plane, no_planes, plane_of};
 use arrayvec::ArrayVec;
 use brick_mesh::extract_row;
 use brick_store::{BrickId, BrickStore};
@@ -18,114 +19,104 @@ use std::marker::Model;
 use std::sync::ledger::Ledger;
 use stitch::CellRows;
 
-/// The place of the first entry that is not less than a number; those before it are all less.
-fn first_from(entries: &[u32], least: u32) -> usize
-    ensures within { result ≤ length entries.now }
-    ensures found { drop result entries.now ≡ from_least least entries.now }
-{
-    let mut at = 0;
-    while at < entries.len() && entries[at] < least {
-        at += 1;
-    }
-    at
-}
-
-/// The case of the entry at a place, where there is one and it is that of a cell.
-fn case_at(entries: &[u32], at: usize, cell: u32) -> Option<u16>
-    requires { at ≤ length entries.now }
-    ensures value { result ≡ case_in (drop at entries.now) cell }
-    ensures within { IfSome result (λ _. at < length entries.now) }
-{
-    if at < entries.len() && entries[at] / 1024 == cell {
-        Some((entries[at] % 1024) as u16)
-    } else {
-        None
-    }
-}
-
-/// The case of a cell whose corners are all above, or all not.
-fn unmixed_case(above: bool) -> u16
-    ensures { result ≡ unmixed_case above }
-{
-    if above { 655 } else { 0 }
-}
-
-/// Replaces the rows by the cases of a row of a brick, whose entries are these: a cell without one has its corners alike.
-fn row_of_entries(
-    store: &BrickStore,
-    brick: BrickId,
-    y: u8,
-    z: u8,
-    level: Level,
-    entries: &[u32],
-    rows: &mut ArrayVec<u16, 8>,
-)
-    requires row { IsCellRow store.now.grid brick.0 y z }
-    requires entries { entries.now ≡ entries_of_brick store.now.grid (field store.now.samples level) brick.0 }
-    ensures { rows.new.items ≡ row_cases store.now.grid (field store.now.samples level) brick.0 y z }
-{
-    let _ = store.sizes();
-    let samples = store.row(brick, y, z);
-    let least_above = level.least_above();
-    let first = 8 * (u32::from(y) + 8 * u32::from(z));
-    let mut at = first_from(entries, 1024 * first);
-    rows.clear();
-    for x in 0..samples.len() - 1 {
-        let case = case_at(entries, at, first + x as u32);
-        at += usize::from(case.is_some());
-        rows.push(case.unwrap_or(unmixed_case(samples[x] >= least_above)));
-    }
-}
-
-/// Takes the entries of a brick, where the cache keeps them at a level; says whether it does. `held` is the brick whose entries
-/// these are, if there is one.
-fn hold(
+/// Takes the entries of a brick, where the cache keeps them at a level; says whether it does.
+fn take_entries(
     cache: &MeshCache,
     level: Level,
     brick: BrickId,
-    held: &mut Option<BrickId>,
     entries: &mut ArrayVec<u32, 512>,
 ) -> bool
-    requires { IfSome held.old (λ brick. kept_at brick.0 level cache.now.items ≡ Some entries.old.items) }
-    ensures held { IfSome held.new (λ brick. kept_at brick.0 level cache.now.items ≡ Some entries.new.items) }
     ensures kept { result ≡ is_fresh brick.0 level cache.now.items }
     ensures here { OnTrue result (kept_at brick.0 level cache.now.items ≡ Some entries.new.items) }
 {
-    if let Some(other) = *held
-        && other == brick
-    {
-        return true;
-    }
     if cache.kept(brick, level).is_none() {
         return false;
     }
     cache.copy_to(brick, entries);
-    *held = Some(brick);
     true
 }
 
-/// The cases of the rows of a volume's bricks at a level: of a brick that the cache keeps at the level by its entries, which
-/// are taken from the cache when the brick is asked for after another.
+/// Whether a plane is that plane of that brick.
+#[inline(always)]
+fn is_plane(plane: &Plane, brick: BrickId, z: u8) -> bool
+    ensures { OnTrue result (IsPlaneAt brick.0 z plane.now) }
+{
+    plane.brick == brick.0 && plane.z == z
+}
+
+/// Makes one of some planes that of a brick, where the cache keeps the brick's entries at a level; says whether it is. `entries` is a
+/// buffer.
+fn hold(
+    store: &BrickStore,
+    cache: &MeshCache,
+    level: Level,
+    brick: BrickId,
+    z: u8,
+    planes: &mut [Plane; PLANES as usize],
+    entries: &mut ArrayVec<u32, 512>,
+) -> bool
+    requires items { IsRight store.now.grid store.now.samples cache.now.items }
+    requires brick { brick.0 < brick_count store.now.grid }
+    requires z { z < 8 }
+    requires there { in_brick store.now.grid brick.0 1 1 (z + 1) ≡ true }
+    requires planes { All (IsPlane store.now level) planes.old }
+    ensures planes { All (IsPlane store.now level) planes.new }
+    ensures here { OnTrue result (IsHeld brick.0 z planes.new) }
+    ensures kept { result ≡ false → is_fresh brick.0 level cache.now.items ≡ false }
+{
+    let at = (brick.0 % PLANES) as usize;
+    if is_plane(&planes[at], brick, z) {
+        return true;
+    }
+    if take_entries(cache, level, brick, entries) {
+        planes[at] = plane_of(store, brick, z, level, entries.as_slice());
+        return true;
+    }
+    false
+}
+
+/// Replaces the rows by the first cases of a row.
+#[inline(always)]
+fn put_cases(row: &[u16; 8], width: u8, rows: &mut ArrayVec<u16, 8>)
+    requires { width ≤ 8 }
+    ensures { rows.new.items ≡ take width row.now }
+{
+    rows.clear();
+    rows.try_extend_from_slice(&row[..width as usize]).unwrap();
+}
+
+/// Replaces the rows by the cases of a row of a plane.
+#[inline(always)]
+fn put_row(plane: &Plane, y: u8, rows: &mut ArrayVec<u16, 8>)
+    requires y { y < 8 }
+    requires narrow { plane.now.width ≤ 8 }
+    ensures { rows.new.items ≡ take plane.now.width (slice_index_or plane.now.rows y []) }
+{
+    put_cases(&plane.rows[y as usize], plane.width, rows);
+}
+
+/// The cases of the rows of a volume's bricks at a level: of a brick that the cache keeps at the level by its entries. These are
+/// taken from the cache once for all rows of a plane across z, since a walk asks for the rows of neighbours in between.
 #[derive(Drop)]
 pub struct KeptRows<'a> {
     store: &'a BrickStore,
     cache: &'a MeshCache,
     level: Level,
-    held: Option<BrickId>,
+    planes: [Plane; PLANES as usize],
     entries: ArrayVec<u32, 512>,
 }
 
 impl<'a> Model for KeptRows<'a> {
-    ghost use Rattle.std.specs.Prelude.{◌≡◌, Some, IfSome};
-    ghost use Rattle.mesh_cache.specs.Cache.{kept_at};
+    ghost use Rattle.std.specs.Prelude.{All};
     ghost use Rattle.mesh_cache.specs.Economy.{IsRight};
     ghost use Rattle.kept_mesh.specs.Kept.{Kept};
+    ghost use Rattle.kept_mesh.specs.Planes.{IsPlane};
 
     ghost Value = { Kept };
 
     ghost view = { λ r. record { volume = r.store.now; level = r.level; cache = r.cache.now } };
 
-    ghost invariant = { λ r. IsRight r.store.now.grid r.store.now.samples r.cache.now.items × IfSome r.held (λ brick. kept_at brick.0 r.level r.cache.now.items ≡ Some r.entries.items) };
+    ghost invariant = { λ r. IsRight r.store.now.grid r.store.now.samples r.cache.now.items × All (IsPlane r.store.now r.level) r.planes };
 }
 
 impl<'a> KeptRows<'a> {
@@ -134,11 +125,12 @@ impl<'a> KeptRows<'a> {
         requires { IsRight store.now.grid store.now.samples cache.now.items }
         ensures { result ≡ record { volume = store.now; level = level; cache = cache.now } }
     {
+        let _ = store.sizes();
         KeptRows {
             store,
             cache,
             level,
-            held: None,
+            planes: no_planes(),
             entries: ArrayVec::new(),
         }
     }
@@ -155,10 +147,10 @@ impl<'a> CellRows for KeptRows<'a> {
         rows: &mut ArrayVec<u16, 8>,
         steps: &mut Steps<L>,
     ) {
-        let (store, level) = (self.store, self.level);
-        if hold(self.cache, level, brick, &mut self.held, &mut self.entries) {
-            let entries = self.entries.as_slice();
-            row_of_entries(store, brick, y, z, level, entries, rows);
+        let (store, cache, level) = (self.store, self.cache, self.level);
+        let (planes, entries) = (&mut self.planes, &mut self.entries);
+        if hold(store, cache, level, brick, z, planes, entries) {
+            put_row(&self.planes[(brick.0 % PLANES) as usize], y, rows);
             return;
         }
         extract_row(store, brick, y, z, level, rows, steps);

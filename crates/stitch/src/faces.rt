@@ -13,7 +13,7 @@ ghost use Rattle.stitch_rows.specs.Rows.{IsCaseOf};
 ghost use Rattle.stitch.specs.Blocks.{Adds, IsBehind};
 ghost use Rattle.stitch.specs.Numbers.{AreRowRanks, IsCaseRow, asked_before, asked_in_row};
 ghost use Rattle.stitch.specs.Spans.{all_faces_text, face_lines, faces_text, row_faces_text};
-ghost use Rattle.stitch.specs.FourRows.{AreCorners, HasNumber};
+ghost use Rattle.stitch.specs.FourRows.{AreCorners, HasNumber, IsReady};
 
 use crate::block::Block;
 use crate::corners::{Corners, edge_numbers, rank_corners};
@@ -27,7 +27,7 @@ use flat_mesh::Cell;
 use iso_base::{Point, Steps};
 use iso_io::{Failed, Sink};
 use std::sync::ledger::Ledger;
-use stitch_rows::{ActiveRow, CellRows, Field, ROW, RankedRow};
+use stitch_rows::{ActiveRow, CellRows, Field, ROW};
 
 /// The number of a vertex of a loop.
 #[inline(always)]
@@ -220,10 +220,12 @@ fn write_row<R: CellRows, K: Sink, L: Ledger>(
     requires ranks { AreRowRanks field.now ranks.now total }
     requires row { row < row_count field.now.grid }
     requires cases { length cases.old ≡ field.now.grid.nx }
+    requires ready { IsReady field.now corners.old }
     requires next { HasNumber field.now total (field.now.grid.nx * row) next }
     ensures adds { Adds (K.seen sink.old) (K.seen sink.new) block.old block.new result (row_faces_text style field.now row) }
     ensures next { IfOk result (λ n. HasNumber field.now total (field.now.grid.nx * (row + 1)) n) }
     ensures marked { AreMarked field.now active.new }
+    ensures ready { IsReady field.now corners.new }
     ensures same { R.named rows.new ≡ R.named rows.old }
     ensures least { steps.old ≤ steps.new }
     ensures most { steps.new ≤ steps.old + 8 * asked_in_row field.now (R.named rows.old) row }
@@ -232,18 +234,9 @@ fn write_row<R: CellRows, K: Sink, L: Ledger>(
     if !next_cases(field, active, rows, ranks, total, row, cases, steps) {
         return Ok(next);
     }
-    rank_corners(field, active, ranks, total, row, corners);
+    rank_corners(field, ranks, total, row, corners);
     let next = write_cells(field, style, corners, total, row, cases, next, block, sink)?;
     Ok(next)
-}
-
-fn no_corners() -> Corners {
-    Corners {
-        near: RankedRow::new(),
-        up: RankedRow::new(),
-        far: RankedRow::new(),
-        both: RankedRow::new(),
-    }
 }
 
 /// Puts the lines of all triangles behind the others.
@@ -269,7 +262,7 @@ pub fn write_faces<R: CellRows, K: Sink, L: Ledger>(
     let mut cases = [0; ROW];
     let cases = &mut cases[..sizes.nx() as usize];
     let mut active = ActiveRow::new();
-    let mut corners = no_corners();
+    let mut corners = Corners::new();
     let mut next = total;
     for row in 0..sizes.ny() * sizes.nz() {
         next = write_row(

@@ -5,7 +5,9 @@ ghost use Rattle.iso_base.specs.Triangles.{triangle_of};
 ghost use Rattle.mesh_write.specs.Mesh.{face_line, vertex_line};
 
 use iso_base::Thousandth;
-use mesh_text::{Line, TwoWayFormat, obj_face_text, obj_vertex_text, ply_face_text, ply_vertex_text};
+use mesh_text::{
+    Line, TwoWayFormat, obj_face_text, obj_vertex_text, ply_face_text, ply_vertex_text,
+};
 
 /// A pad's layer along an axis, in thousandths.
 const LAYER: i64 = 1000;

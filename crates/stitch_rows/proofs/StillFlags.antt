@@ -1,6 +1,7 @@
 -- No edge from a point of a brick that is not active is crossing.
-use Rattle.std.proofs.Common.{◌≡◌, ℕ, ◌+◌, ◌-◌, ◌*◌, ◌/◌, ◌%◌, ◌<◌, ◌≤◌, false, List, cond, get_or, inl, inr, min, refl, sym, ◌∙◌, ap, arith, eq-eqb}
+use Rattle.std.proofs.Common.{◌≡◌, ℕ, ◌+◌, ◌-◌, ◌*◌, ◌/◌, ◌%◌, ◌<◌, ◌≤◌, false, List, cond, get_or, inl, inr, length, min, set, refl, sym, ◌∙◌, ap, arith, eq-eqb}
 use Rattle.std.proofs.lemmas.Bool.{cases_lt}
+use Rattle.std.proofs.lemmas.List.{get_or-set_other, get_or-set_same, length-set}
 use Rattle.iso_defs.specs.Grid.{index}
 use Rattle.iso_defs.specs.Cell.{cell_signs, corner_point}
 use Rattle.iso_defs.specs.Bricks.{bricks_along, is_active, is_mixed}
@@ -10,7 +11,7 @@ use Rattle.flat_mesh.specs.Lattice.{IsLeveled, Leveled, heights}
 use Rattle.flat_mesh.specs.Rows.{row_start, sign_bit}
 use Rattle.stitch_rows.specs.declared.bricks.BrickRow.{BrickRow}
 use Rattle.stitch_rows.specs.Bricks.{HoldRow, brick_at, next_at}
-use Rattle.stitch_rows.specs.Rows.{AreFlagsTo, HasMoreFlags}
+use Rattle.stitch_rows.specs.Rows.{AreFlagsTo, AreZerosFrom, HasMoreFlags}
 use Rattle.stitch_rows.proofs.FlagRows.{point_flags}
 use Rattle.stitch_rows.proofs.Places.{point_is, row_there}
 use Rattle.stitch_rows.proofs.QuietBricks.{corner_alike, unmixed_cell}
@@ -98,3 +99,24 @@ module _ (v : Leveled) (is : IsLeveled v) (x y z : ℕ) (hx : 8 * x + 1 < v.grid
         | inr here ↦ inside k (omega arith) (omega arith) ∙ still_flags k in_row here near
       ] in
       record { first = λ k in_row low. one k in_row (omega arith) (omega arith); all = λ last k in_row. one k in_row (omega arith) (omega arith) }
+
+-- a zero before zeros
+pub record IsZeroPut (start end : ℕ) (old new : List ℕ) : Type 0 where
+  pub inside : (k : ℕ) → start ≤ k → k < end → get_or new k 0 ≡ 0
+  pub before : (k : ℕ) → k < start → get_or new k 0 ≡ get_or old k 0
+
+pub zero_put : (start end : ℕ) (old new : List ℕ) → start < length old → end ≤ length old → new ≡ set old start 0 → AreZerosFrom (start + 1) old → IsZeroPut start end old new
+zero_put start end old new low room put zeros = record {
+  inside = λ k from within. elim (cases_lt start k) [
+    | inl behind ↦ ap (λ l. get_or l k 0) put ∙ (get_or-set_other old start k 0 0 (λ e. omega arith) ∙ zeros k (omega arith) (omega arith))
+    | inr here ↦ (
+        let same : start ≡ k = omega arith in
+        ap (λ l. get_or l k 0) put ∙ (sym (ap (λ n. get_or (set old start 0) n 0) same) ∙ get_or-set_same old start 0 0 low))
+  ];
+  before = λ k earlier. ap (λ l. get_or l k 0) put ∙ get_or-set_other old start k 0 0 (λ e. omega arith);
+}
+
+pub zero_behind : (start : ℕ) (old new : List ℕ) → new ≡ set old start 0 → AreZerosFrom (start + 1) old → AreZerosFrom (start + 9) new
+zero_behind start old new put zeros k from low =
+    let long : length new ≡ length old = ap length put ∙ length-set old start 0 in
+    ap (λ l. get_or l k 0) put ∙ (get_or-set_other old start k 0 0 (λ e. omega arith) ∙ zeros k (omega arith) (omega arith))

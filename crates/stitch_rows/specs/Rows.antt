@@ -1,5 +1,5 @@
 -- What is known of the points and the cells of a row of a volume.
-use Rattle.std.specs.Prelude.{◌≡◌, ℕ, ◌+◌, ◌*◌, ◌<◌, ◌≤◌, ℤ, List, slice_index}
+use Rattle.std.specs.Prelude.{◌≡◌, ℕ, ◌+◌, ◌*◌, ◌<◌, ◌≤◌, ℤ, List, length, slice_index}
 use Rattle.iso_defs.specs.Grid.{index}
 use Rattle.iso_base.specs.Volume.{Volume}
 use Rattle.cell_loops.specs.Loops.{row_loops}
@@ -45,3 +45,7 @@ pub record HasMoreFlags (v : Leveled) (y z count : ℕ) (flags : List ℕ) : Typ
 -- the numbers of their first crossing edges, and behind them that of the next row
 abbrev pub AreFirst : Leveled → ℕ → ℕ → List ℕ → Type 0
 AreFirst v y z first = (x : ℕ) → x ≤ v.grid.nx → slice_index first x ≡ rank v.grid (heights v) (3 * (row_start v.grid y z + x))
+
+-- the numbers from a place on are 0
+abbrev pub AreZerosFrom : ℕ → List ℕ → Type 0
+AreZerosFrom start numbers = (k : ℕ) → start ≤ k → k < length numbers → slice_index numbers k ≡ 0

@@ -1,9 +1,9 @@
 //! The cases of the cells of a row, brick by brick.
 ghost use Rattle.std.specs.Prelude.{◌≡◌, ℕ, ◌+◌, ◌*◌, ◌<◌, ◌≤◌, length, slice_index};
 ghost use Rattle.flat_mesh.specs.Lattice.{heights};
-ghost use Rattle.stitch_rows.specs.Bricks.{AreMarked, HoldRow, IsActive, IsStill, first_brick};
+ghost use Rattle.stitch_rows.specs.Bricks.{AreMarked, HoldRow, IsActive, first_brick};
 ghost use Rattle.stitch_rows.specs.Named.{NamesCases, asked_along, asked_among};
-ghost use Rattle.stitch_rows.specs.Rows.{AreCases, AreCasesTo};
+ghost use Rattle.stitch_rows.specs.Rows.{AreCases, AreCasesTo, AreZerosFrom};
 
 use crate::active::ActiveRow;
 use crate::bricks::{BrickRow, count_along};
@@ -15,25 +15,21 @@ use iso_base::Steps;
 use std::sync::ledger::Ledger;
 
 /// Writes a run of numbers from a place on.
+#[inline(always)]
 fn put_run(run: &[u16], start: usize, out: &mut [u16])
     requires { start + length run.now ≤ length out.old }
     ensures inside { (k : ℕ) → k < length run.now → slice_index out.new (start + k) ≡ slice_index run.now k }
     ensures before { (k : ℕ) → k < start → slice_index out.new k ≡ slice_index out.old k }
+    ensures behind { (k : ℕ) → start + length run.now ≤ k → slice_index out.new k ≡ slice_index out.old k }
 {
-    for i in 0..run.len() {
-        out[start + i] = run[i];
-    }
+    out[start..start + run.len()].copy_from_slice(run);
 }
 
-/// Writes 0 from a place to before another.
-fn put_zeros(start: usize, end: usize, out: &mut [u16])
-    requires { end ≤ length out.old }
-    ensures inside { (k : ℕ) → start ≤ k → k < end → slice_index out.new k ≡ 0 }
-    ensures before { (k : ℕ) → k < start → slice_index out.new k ≡ slice_index out.old k }
+/// Writes 0 throughout.
+fn put_zeros(out: &mut [u16])
+    ensures { AreZerosFrom 0 out.new }
 {
-    for i in start..end {
-        out[i] = 0;
-    }
+    out.fill(0);
 }
 
 /// Writes the cases of the cells of a row that an active brick has: those from 8 * x on.
@@ -55,7 +51,9 @@ fn active_cases<R: CellRows, L: Ledger>(
     requires active { IsActive field.now (row.first + x) }
     requires named { NamesCases (R.named rows.old) field.now.grid (heights field.now) }
     requires before { AreCasesTo field.now y z (8 * x) cases.old }
+    requires zeros { AreZerosFrom (8 * x) cases.old }
     ensures cases { AreCasesTo field.now y z (8 * x + 8) cases.new }
+    ensures zeros { AreZerosFrom (8 * x + 8) cases.new }
     ensures same { R.named rows.new ≡ R.named rows.old }
     ensures least { steps.old ≤ steps.new }
     ensures most { steps.new ≤ steps.old + 8 * asked_among field.now.grid (heights field.now) (R.named rows.old) (row.first + x) 1 }
@@ -66,23 +64,8 @@ fn active_cases<R: CellRows, L: Ledger>(
     put_run(run.as_slice(), 8 * x as usize, cases);
 }
 
-/// Writes a case without loops for each cell of a row that a brick which is not active has: those from 8 * x on.
-fn quiet_cases(field: &Field, row: BrickRow, x: u32, y: u32, z: u32, cases: &mut [u16])
-    requires x { 8 * x + 1 < field.now.grid.nx }
-    requires y { y + 1 < field.now.grid.ny }
-    requires z { z + 1 < field.now.grid.nz }
-    requires row { HoldRow field.now.grid y z row }
-    requires cases { length cases.old ≡ field.now.grid.nx }
-    requires still { IsStill field.now (row.first + x) }
-    requires before { AreCasesTo field.now y z (8 * x) cases.old }
-    ensures { AreCasesTo field.now y z (8 * x + 8) cases.new }
-{
-    let nx = field.sizes().nx() as usize;
-    let start = 8 * x as usize;
-    put_zeros(start, (start + 8).min(nx), cases);
-}
-
-/// Writes the cases of the cells of a row that a brick has: those from 8 * x on.
+/// Writes the cases of the cells of a row that a brick has: those from 8 * x on, where zeros stand. A brick that is not active
+/// has no loops, and leaves them.
 fn brick_cases<R: CellRows, L: Ledger>(
     field: &Field,
     active: &ActiveRow,
@@ -103,7 +86,9 @@ fn brick_cases<R: CellRows, L: Ledger>(
     requires cases { length cases.old ≡ field.now.grid.nx }
     requires named { NamesCases (R.named rows.old) field.now.grid (heights field.now) }
     requires before { AreCasesTo field.now y z (8 * x) cases.old }
+    requires zeros { AreZerosFrom (8 * x) cases.old }
     ensures cases { AreCasesTo field.now y z (8 * x + 8) cases.new }
+    ensures zeros { AreZerosFrom (8 * x + 8) cases.new }
     ensures same { R.named rows.new ≡ R.named rows.old }
     ensures least { steps.old ≤ steps.new }
     ensures most { steps.new ≤ steps.old + 8 * asked_among field.now.grid (heights field.now) (R.named rows.old) (row.first + x) 1 }
@@ -111,8 +96,6 @@ fn brick_cases<R: CellRows, L: Ledger>(
     let _ = field.sizes();
     if active.is_active(x) {
         active_cases(field, rows, row, x, y, z, cases, steps);
-    } else {
-        quiet_cases(field, row, x, y, z, cases);
     }
 }
 
@@ -140,6 +123,7 @@ pub fn case_row<R: CellRows, L: Ledger>(
 {
     let sizes = field.sizes();
     let row = BrickRow::of(&sizes, y, z);
+    put_zeros(cases);
     for x in 0..count_along(sizes.nx()) {
         brick_cases(field, active, rows, row, x, y, z, cases, steps);
     }

@@ -1,11 +1,11 @@
 //! The points of a row: their flags, and the numbers of their crossing edges.
-ghost use Rattle.std.specs.Prelude.{◌≡◌, ℕ, ◌+◌, ◌-◌, ◌*◌, ◌<◌, ◌≤◌, length, slice_index};
+ghost use Rattle.std.specs.Prelude.{◌≡◌, ℕ, ◌+◌, ◌-◌, ◌*◌, ◌<◌, ◌≤◌, length, slice_index, slice_set};
 ghost use Rattle.crossing_edges.specs.Flags.{flags_from, rank};
 ghost use Rattle.flat_mesh.specs.Lattice.{heights};
 ghost use Rattle.flat_mesh.specs.Rows.{row_start};
 ghost use Rattle.crossing_edges.specs.Signs.{flag_of, right_of};
 ghost use Rattle.stitch_rows.specs.Bricks.{AreMarked, HoldRow, HoldRows, IsStill, first_brick, next_at};
-ghost use Rattle.stitch_rows.specs.Rows.{AreFirst, AreFlags, AreFlagsTo, AreRunSigns, HasMoreFlags};
+ghost use Rattle.stitch_rows.specs.Rows.{AreFirst, AreFlags, AreFlagsTo, AreRunSigns, AreZerosFrom, HasMoreFlags};
 
 use crate::active::ActiveRow;
 use crate::bricks::{BrickRow, count_along};
@@ -77,6 +77,7 @@ fn put_flags(here: &[u8], up: &[u8], far: &[u8], start: usize, flags: &mut [u8])
     ensures inside { (i : ℕ) → i < length here.now → slice_index flags.new (start + i)
         ≡ flag_of (slice_index here.now i) (right_of here.now (length here.now) i) (slice_index up.now i) (slice_index far.now i) }
     ensures before { (k : ℕ) → k < start → slice_index flags.new k ≡ slice_index flags.old k }
+    ensures behind { (k : ℕ) → start + length here.now ≤ k → slice_index flags.new k ≡ slice_index flags.old k }
 {
     crossing_edges::flag_row(here, up, far, &mut flags[start..start + here.len()]);
 }
@@ -89,7 +90,9 @@ fn active_flags(field: &Field, rows: Rows, x: u32, y: u32, z: u32, flags: &mut [
     requires rows { HoldRows field.now.grid y z rows }
     requires flags { length flags.old ≡ field.now.grid.nx }
     requires before { AreFlagsTo field.now y z (8 * x) flags.old }
-    ensures { HasMoreFlags field.now y z (8 * x + 8) flags.new }
+    requires zeros { AreZerosFrom (8 * x + 1) flags.old }
+    ensures flags { HasMoreFlags field.now y z (8 * x + 8) flags.new }
+    ensures zeros { AreZerosFrom (8 * x + 9) flags.new }
 {
     let sizes = field.sizes();
     let (mut here, mut up, mut far) = ([0; RUN], [0; RUN], [0; RUN]);
@@ -101,17 +104,24 @@ fn active_flags(field: &Field, rows: Rows, x: u32, y: u32, z: u32, flags: &mut [
     put_flags(&here[..count], &up[..count], &far[..count], start, flags);
 }
 
-/// Writes 0 from a place to before another.
-fn put_zeros(start: usize, end: usize, flags: &mut [u8])
-    requires start { start ≤ end }
-    requires end { end ≤ length flags.old }
-    ensures inside { (k : ℕ) → start ≤ k → k < end → slice_index flags.new k ≡ 0 }
-    ensures before { (k : ℕ) → k < start → slice_index flags.new k ≡ slice_index flags.old k }
+/// Writes 0 throughout.
+fn put_zeros(flags: &mut [u8])
+    ensures { AreZerosFrom 0 flags.new }
 {
-    flags[start..end].fill(0);
+    flags.fill(0);
 }
 
-/// Writes the flags of the points of a row that a brick holds which is not active: those from 8 * x on.
+/// Writes 0 at a place.
+#[inline(always)]
+fn put_zero(at: usize, flags: &mut [u8])
+    requires { at < length flags.old }
+    ensures { flags.new ≡ slice_set flags.old at 0 }
+{
+    flags[at] = 0;
+}
+
+/// Writes the flags of the points of a row that a brick holds which is not active: those from 8 * x on. Zeros stand behind the
+/// first of them.
 fn quiet_flags(field: &Field, row: BrickRow, x: u32, y: u32, z: u32, flags: &mut [u8])
     requires x { 8 * x + 1 < field.now.grid.nx }
     requires y { y < field.now.grid.ny }
@@ -120,11 +130,12 @@ fn quiet_flags(field: &Field, row: BrickRow, x: u32, y: u32, z: u32, flags: &mut
     requires still { IsStill field.now (row.first + x) }
     requires flags { length flags.old ≡ field.now.grid.nx }
     requires before { AreFlagsTo field.now y z (8 * x) flags.old }
-    ensures { HasMoreFlags field.now y z (8 * x + 8) flags.new }
+    requires zeros { AreZerosFrom (8 * x + 1) flags.old }
+    ensures flags { HasMoreFlags field.now y z (8 * x + 8) flags.new }
+    ensures zeros { AreZerosFrom (8 * x + 9) flags.new }
 {
-    let nx = field.sizes().nx() as usize;
-    let start = 8 * x as usize;
-    put_zeros(start, (start + RUN).min(nx), flags);
+    let _ = field.sizes();
+    put_zero(8 * x as usize, flags);
 }
 
 /// Writes the flags of the points of a row that a brick holds: those from 8 * x on.
@@ -145,7 +156,9 @@ fn brick_flags(
     requires rows { HoldRows field.now.grid y z rows }
     requires flags { length flags.old ≡ field.now.grid.nx }
     requires before { AreFlagsTo field.now y z (8 * x) flags.old }
-    ensures { HasMoreFlags field.now y z (8 * x + 8) flags.new }
+    requires zeros { AreZerosFrom (8 * x + 1) flags.old }
+    ensures flags { HasMoreFlags field.now y z (8 * x + 8) flags.new }
+    ensures zeros { AreZerosFrom (8 * x + 9) flags.new }
 {
     let _ = field.sizes();
     if active.is_active(x) {
@@ -167,6 +180,7 @@ pub fn flag_row(field: &Field, active: &ActiveRow, y: u32, z: u32, flags: &mut [
 {
     let sizes = field.sizes();
     let rows = rows_at(&sizes, y, z);
+    put_zeros(flags);
     for x in 0..count_along(sizes.nx()) {
         brick_flags(field, active, rows, x, y, z, flags);
     }

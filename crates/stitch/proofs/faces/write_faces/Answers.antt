@@ -27,6 +27,7 @@ loop-row-init g c =
       least = omega arith;
       most = omega arith;
       marked = c.new-active.ensures v c.sizes-sizes.ensures.leveled.grid;
+      ready = c.new-corners.ensures v c.sizes-sizes.ensures.leveled.grid;
     }
 
 pub write_row-requires-clause-named : goal.write_row-requires-clause-named
@@ -74,6 +75,7 @@ loop-row-preserved g c =
       least = omega (arith, c.loop-row.invariant.least, c.in_ok-next.ensures.least);
       most = omega (arith, asked_next v (g.R.CellRows.named c.args.rows.now) c.loop-row.row, one, c.loop-row.invariant.most);
       marked = c.in_ok-next.ensures.marked;
+      ready = c.in_ok-next.ensures.ready;
     }
 
 pub returns-clause-adds : goal.returns-clause-adds

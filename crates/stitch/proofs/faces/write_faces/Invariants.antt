@@ -1,7 +1,7 @@
 use Rattle.std.proofs.Common.{◌≡◌, ◌+◌, ◌*◌, ◌≤◌, Ok}
 use Rattle.stitch_rows.specs.Bricks.{AreMarked}
 use Rattle.stitch.specs.Blocks.{Adds}
-use Rattle.stitch.specs.FourRows.{HasNumber}
+use Rattle.stitch.specs.FourRows.{HasNumber, IsReady}
 use Rattle.stitch.specs.Numbers.{asked_before}
 use Rattle.stitch.specs.Spans.{faces_text}
 use Rattle.stitch.proofs.faces.write_faces.Given as goal
@@ -15,4 +15,5 @@ invariant-loop-row g l = record {
   least : l.fn.steps ≤ l.steps;
   most : l.steps ≤ l.fn.steps + 8 * asked_before l.field (g.R.CellRows.named l.fn.rows) l.row;
   marked : AreMarked l.field l.active;
+  ready : IsReady l.field l.corners;
 }

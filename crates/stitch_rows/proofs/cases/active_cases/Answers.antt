@@ -38,3 +38,10 @@ returns-clause-most g c =
     let v = c.args.field.now in
     let one = asked_one v.grid (heights v) (g.R.CellRows.named c.args.rows.now) (c.args.row.first + c.args.x) c.requires.active.is in
     omega (arith, one, c.row.ensures.most)
+
+pub returns-clause-zeros : goal.returns-clause-zeros
+returns-clause-zeros g c = λ k from low.
+    let v = c.args.field.now in
+    let len = run_length v c.sizes.ensures.leveled.grid c.args.x c.args.y c.args.z c.requires.x c.requires.y c.requires.z c.args.row c.requires.row
+    (g.R.CellRows.named c.args.rows.now) c.requires.named c.requires.active.is c.as_slice.result.now (c.as_slice.ensures.value ∙ c.row.ensures.cases) in
+    c.put_run.ensures.behind k (omega (arith, len)) ∙ c.requires.zeros k (omega arith) (omega (arith, low))

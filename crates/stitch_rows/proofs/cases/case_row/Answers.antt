@@ -11,6 +11,7 @@ pub loop-x-init : goal.loop-x-init
 loop-x-init g c =
     record {
       cases = λ x in_row low. absurd (omega arith);
+      zeros = λ k from low. c.put_zeros.ensures k (omega arith) low;
       same = refl;
       least = omega arith;
       most = omega arith;
@@ -29,6 +30,7 @@ loop-x-preserved g c =
     let one = subst (λ (names : Named). c.brick_cases.new.steps ≤ c.loop-x.steps + 8 * asked_among v.grid (heights v) names (first + x) 1) same c.brick_cases.ensures.most in
     record {
       cases = λ k in_row low. c.brick_cases.ensures.cases k in_row (omega arith);
+      zeros = λ k from low. c.brick_cases.ensures.zeros k (omega arith) low;
       same = c.brick_cases.ensures.same ∙ same;
       least = omega (arith, c.loop-x.invariant.least, c.brick_cases.ensures.least);
       most = omega (arith, more, one, c.loop-x.invariant.most);

@@ -4,17 +4,26 @@ use Rattle.stitch_rows.specs.Rows.{HasMoreFlags}
 use Rattle.stitch_rows.proofs.FlagRows.{flags_list}
 use Rattle.stitch_rows.proofs.points.flag_row.Goals as goal
 
+pub loop-x-init : goal.loop-x-init
+loop-x-init c = record {
+  flags = record { first = λ k in_row low. absurd (omega arith); all = λ last. absurd (omega (arith, last, c.requires.y, c.sizes-sizes.ensures.leveled.grid.x.least)) };
+  zeros = λ k from low. c.put_zeros.ensures k (omega arith) low;
+}
+
 pub loop-x-preserved : goal.loop-x-preserved
 loop-x-preserved c =
     let next : 8 * c.loop-x.x + 8 ≡ 8 * (c.loop-x.x + 1) = omega arith in
-    subst (λ n. HasMoreFlags c.args.field.now c.args.y c.args.z n c.brick_flags.new.flags) next c.brick_flags.ensures
+    record {
+      flags = subst (λ n. HasMoreFlags c.args.field.now c.args.y c.args.z n c.brick_flags.new.flags) next c.brick_flags.ensures.flags;
+      zeros = λ k from low. c.brick_flags.ensures.zeros k (omega (arith, from)) low;
+    }
 
 pub returns-clause-each : goal.returns-clause-each
 returns-clause-each c =
     let v = c.args.field.now in
     let end : v.grid.nx ≤ 8 * c.loop-x.x + 1
     = omega (arith, c.loop-x-test.false, c.count_along-x-end.ensures.value, c.nx.ensures.value, ap (λ (g : Grid). g.nx) c.sizes-sizes.ensures.value) in
-    c.loop-x.invariant.all end
+    c.loop-x.invariant.flags.all end
 
 pub returns-clause-list : goal.returns-clause-list
-returns-clause-list c = flags_list c.args.field.now c.args.y c.args.z c.loop-x.flags (c.loop-x.auto.flags ∙ c.requires.flags) (returns-clause-each c)
+returns-clause-list c = flags_list c.args.field.now c.args.y c.args.z c.loop-x.flags (omega (arith, c.loop-x.auto.flags, c.requires.flags)) (returns-clause-each c)

@@ -1,7 +1,7 @@
 use Rattle.std.proofs.Common.{◌≡◌, ◌+◌, ◌-◌, ◌≤◌, drop, length}
 use Rattle.brick_mesh.specs.Entries.{entries_from, first_cases}
 use Rattle.kept_mesh.specs.Kept.{brick_in}
-use Rattle.kept_mesh.proofs.rows.row_of_entries.Given as goal
+use Rattle.kept_mesh.proofs.entries.row_of_entries.Given as goal
 
 abbrev pub invariant-loop-x : goal.invariant-loop-x
 invariant-loop-x l = record {

@@ -7,8 +7,8 @@ use Rattle.brick_mesh.specs.Entries.{entries_from, first_cases}
 use Rattle.brick_mesh.proofs.Runs.{first_all, first_long, first_more, first_none}
 use Rattle.kept_mesh.specs.Kept.{brick_in, unmixed_case}
 use Rattle.kept_mesh.proofs.EntryRuns.{case_at}
-use Rattle.kept_mesh.proofs.RowCases.{byte_is, case_by, cell_there, few_entries, from_next, from_row, lowest_sign, row_long, row_there, steps_within}
-use Rattle.kept_mesh.proofs.rows.row_of_entries.Goals as goal
+use Rattle.kept_mesh.proofs.RowCases.{byte_is, case_by, cell_there, from_next, lowest_sign, row_long, row_there, steps_within}
+use Rattle.kept_mesh.proofs.entries.row_of_entries.Goals as goal
 
 pub row-samples-requires-clause-inside : goal.row-samples-requires-clause-inside
 row-samples-requires-clause-inside c = row_there c.args.store.now.grid c.args.brick.0 c.args.y c.args.z c.requires.row
@@ -22,13 +22,11 @@ pub loop-x-init : goal.loop-x-init
 loop-x-init c =
     let b : BrickAt = brick_in c.args.store.now c.args.level c.args.brick.0 in
     let first : ℕ = 8 * (c.from.result + 8 * c.from-2.result) in
-    let few : 8 * (c.from.result + 8 * c.from-2.result) ≤ 512 = omega (arith, c.from.ensures, c.from-2.ensures, c.requires.row.y_low, c.requires.row.z_low) in
-    let start : first + 0 ≡ first = omega arith in
+    let start : 8 * (c.args.y + 8 * c.args.z) ≡ first + 0 = omega (arith, c.from.ensures, c.from-2.ensures) in
     record {
       cases = c.clear.ensures ∙ sym (first_none b c.args.y c.args.z);
-      left = from_row b first c.args.entries.now (drop c.first_from-at.result c.args.entries.now) few c.requires.entries c.first_from-at.ensures.found
-          ∙ ap (λ n. entries_from b n (512 - n)) (sym start);
-      within = c.first_from-at.ensures.within;
+      left = c.requires.left ∙ ap (λ n. entries_from b n (512 - n)) start;
+      within = c.requires.place;
     }
 
 pub overflow_cast-x : goal.overflow_cast-x
@@ -43,9 +41,8 @@ overflow_add-first-in-loop-x c =
 
 pub overflow_add-at : goal.overflow_add-at
 overflow_add-at c =
-    let few = few_entries (brick_in c.args.store.now c.args.level c.args.brick.0) c.args.entries.now c.requires.entries in
     let k : c.from-at.result ≡ cond (is_some c.case_at-case.result) 1 0 = c.from-at.ensures ∙ (byte_is c.is_some.result ∙ ap (λ t. cond {A = ℕ} t 1 0) c.is_some.ensures) in
-    omega (arith, few, steps_within c.loop-x.at (length c.args.entries.now) c.from-at.result c.case_at-case.result c.loop-x.invariant.within c.case_at-case.ensures.within k)
+    omega (arith, c.requires.few, steps_within c.loop-x.at (length c.args.entries.now) c.from-at.result c.case_at-case.result c.loop-x.invariant.within c.case_at-case.ensures.within k)
 
 pub push-requires : goal.push-requires
 push-requires c =
@@ -87,8 +84,16 @@ loop-x-preserved c =
       within = steps_within c.loop-x.at (length c.args.entries.now) c.from-at.result c.case_at-case.result c.loop-x.invariant.within c.case_at-case.ensures.within k;
     }
 
-pub returns : goal.returns
-returns c =
+pub returns-clause-cases : goal.returns-clause-cases
+returns-clause-cases c =
     let b : BrickAt = brick_in c.args.store.now c.args.level c.args.brick.0 in
     let long = row_long c.args.store.now.grid c.args.store.now.samples c.args.brick.0 c.args.y c.args.z c.row-samples.result.now c.requires.row c.row-samples.ensures.value in
     c.loop-x.invariant.cases ∙ first_all b c.args.y c.args.z c.loop-x.x (omega (arith, long.0, long.1, c.loop-x-test.false))
+
+pub returns-clause-left : goal.returns-clause-left
+returns-clause-left c =
+    let b : BrickAt = brick_in c.args.store.now c.args.level c.args.brick.0 in
+    let long = row_long c.args.store.now.grid c.args.store.now.samples c.args.brick.0 c.args.y c.args.z c.row-samples.result.now c.requires.row c.row-samples.ensures.value in
+    let end : 8 * (c.from.result + 8 * c.from-2.result) + c.loop-x.x ≡ 8 * (c.args.y + 8 * c.args.z) + (points_along c.args.store.now.grid c.args.brick.0 0 - 1)
+    = omega (arith, long.0, long.1, c.loop-x-test.false, c.loop-x.auto.x-end, c.from.ensures, c.from-2.ensures) in
+    c.loop-x.invariant.left ∙ ap (λ n. entries_from b n (512 - n)) end

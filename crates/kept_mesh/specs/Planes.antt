@@ -1,0 +1,27 @@
+-- The cases of the cells of a brick that lie in a plane across z.
+use Rattle.std.specs.Prelude.{◌≡◌, ℕ, ◌%◌, ◌<◌, ◌≤◌, ℤ, List, [], length, slice_index_or, take}
+use Rattle.iso_defs.specs.Bricks.{row_cases}
+use Rattle.iso_base.specs.Shifted.{field}
+use Rattle.iso_base.specs.Volume.{Volume}
+use Rattle.stitch_rows.specs.Named.{IsCellRow}
+use Rattle.kept_mesh.specs.declared.planes.Plane.{Plane}
+
+-- these are the cases of a plane of a brick, if the volume has such a brick
+pub record IsPlane (v : Volume) (level : ℤ) (plane : Plane) : Type 0 where
+  pub narrow : plane.width ≤ 8
+  pub rows : (y : ℕ) → IsCellRow v.grid plane.brick y plane.z → take plane.width (slice_index_or plane.rows y []) ≡ row_cases v.grid (field v.samples level) plane.brick y plane.z
+
+-- the first of 129 planes are of no brick
+pub record AreNone (planes : List Plane) (count : ℕ) : Type 0 where
+  pub long : length planes ≡ 129
+  pub brick : (k : ℕ) (none : Plane) → k < count → (slice_index_or planes k none).brick ≡ 4294967295
+  pub narrow : (k : ℕ) (none : Plane) → k < count → (slice_index_or planes k none).width ≤ 8
+
+-- this is that plane of that brick
+pub record IsPlaneAt (brick z : ℕ) (plane : Plane) : Type 0 where
+  pub same_brick : plane.brick ≡ brick
+  pub same_z : plane.z ≡ z
+
+-- of these planes, the one in the brick's place is that plane of that brick
+pub record IsHeld (brick z : ℕ) (planes : List Plane) : Type 0 where
+  pub here : (none : Plane) → IsPlaneAt brick z (slice_index_or planes (brick % 129) none)
