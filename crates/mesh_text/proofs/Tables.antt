@@ -1,7 +1,8 @@
 -- Numbers out of a table of four digits each.
-use Rattle.std.proofs.Common.{◌≡◌, ℕ, ◌+◌, ◌-◌, ◌*◌, ◌/◌, ◌%◌, ◌<◌, ◌≤◌, ◌^◌, List, [], ◌∷◌, ◌++◌, length, take, drop, decimal, sym, ap, subst, ◌∙◌, append_assoc, arith, inl, inr, eq-zero-or-pos, length-append}
+use Rattle.std.proofs.Common.{◌≡◌, ℕ, ◌+◌, ◌-◌, ◌*◌, ◌/◌, ◌%◌, ◌<◌, ◌≤◌, ◌^◌, List, [], ◌∷◌, ◌++◌, length, take, drop, decimal, refl, sym, ap, subst, ◌∙◌, append_assoc, arith, inl, inr, eq-zero-or-pos, length-append}
 use Rattle.std.proofs.lemmas.Fmt.{decimal_digit, decimal_step}
 use Rattle.std.proofs.lemmas.List.{take-take, take-append-le, take-append-drop, take_at, drop_at, drop-take, length-take-le, drop-drop}
+use Rattle.iso_defs.specs.Texts.{three_digits}
 use Rattle.mesh_text.specs.Fours.{AreFours, four_digits}
 use Rattle.mesh_text.proofs.Counts.{one_digit, two_digits, three_digits_of, four_digits_of}
 
@@ -69,23 +70,34 @@ end_of n c low count =
       ]
     ]
 
--- the end of a number's four digits, and what stands behind them, hold its text at their front
-pub short_written : (t old new : List ℕ) (n at c : ℕ) → AreFours t → n < 10000 → c ≡ length (decimal n) → c ≤ 4 → at ≤ length old
-    → take (at + 4) new ≡ take at old ++ take 4 (drop (4 * n + (4 - c)) t) → take (at + c) new ≡ take at old ++ decimal n
-short_written t old new n at c h low count few le w =
+-- the end of a number's four digits, and what stands behind them
+end_written : (t old new text : List ℕ) (n at c : ℕ) → AreFours t → n < 10000 → drop (4 - c) (four_digits n) ≡ text → c ≡ length text → c ≤ 4 → at ≤ length old
+    → take (at + 4) new ≡ take at old ++ take 4 (drop (4 * n + (4 - c)) t) → take (at + c) new ≡ take at old ++ text
+end_written t old new text n at c h low end count few le w =
     let bytes : List ℕ = take 4 (drop (4 * n + (4 - c)) t) in
     let sum : (4 - c) + c ≡ 4 = omega (arith, few) in
-    let number : take c bytes ≡ decimal n =
+    let number : take c bytes ≡ text =
     take-take c 4 (drop (4 * n + (4 - c)) t) few
     ∙ (ap (take c) (sym (drop-drop (4 - c) (4 * n) t))
     ∙ (sym (drop-take (4 - c) c (drop (4 * n) t))
     ∙ (ap (λ (m : ℕ). drop (4 - c) (take m (drop (4 * n) t))) sum
-    ∙ (ap (drop (4 - c)) (h.each n low) ∙ end_of n c low count)))) in
-    let whole : take at old ++ bytes ≡ (take at old ++ decimal n) ++ drop c bytes =
+    ∙ (ap (drop (4 - c)) (h.each n low) ∙ end)))) in
+    let whole : take at old ++ bytes ≡ (take at old ++ text) ++ drop c bytes =
     ap (λ (l : List ℕ). take at old ++ l) (sym (take-append-drop c bytes) ∙ ap (λ (l : List ℕ). l ++ drop c bytes) number)
-    ∙ sym (append_assoc (take at old) (decimal n) (drop c bytes)) in
-    let long : length (take at old ++ decimal n) ≡ at + c = length-append (take at old) (decimal n) ∙ omega (arith, length-take-le at old le, count) in
-    sym (take-take (at + c) (at + 4) new (omega (arith, few))) ∙ (ap (take (at + c)) (w ∙ whole) ∙ take_at (take at old ++ decimal n) (drop c bytes) (at + c) long)
+    ∙ sym (append_assoc (take at old) text (drop c bytes)) in
+    let long : length (take at old ++ text) ≡ at + c = length-append (take at old) text ∙ omega (arith, length-take-le at old le, count) in
+    sym (take-take (at + c) (at + 4) new (omega (arith, few))) ∙ (ap (take (at + c)) (w ∙ whole) ∙ take_at (take at old ++ text) (drop c bytes) (at + c) long)
+
+pub short_written : (t old new : List ℕ) (n at c : ℕ) → AreFours t → n < 10000 → c ≡ length (decimal n) → c ≤ 4 → at ≤ length old
+    → take (at + 4) new ≡ take at old ++ take 4 (drop (4 * n + (4 - c)) t) → take (at + c) new ≡ take at old ++ decimal n
+short_written t old new n at c h low count few le w = end_written t old new (decimal n) n at c h low (end_of n c low count) count few le w
+
+pub three_written : (t old new : List ℕ) (n at : ℕ) → AreFours t → n < 1000 → at ≤ length old
+    → take (at + 4) new ≡ take at old ++ take 4 (drop (4 * n + 1) t) → take (at + 3) new ≡ take at old ++ three_digits n
+three_written t old new n at h low le w =
+    let e : n / 100 % 10 ≡ n / 100 = omega arith in
+    let end : drop 1 (four_digits n) ≡ three_digits n = ap (λ (d : ℕ). (48 + d) ∷ (48 + n / 10 % 10) ∷ (48 + n % 10) ∷ []) e in
+    end_written t old new (three_digits n) n at 3 h (omega arith) end refl (omega arith) le w
 
 -- the fours of one more number
 pub fours_more : (old new : List ℕ) (n : ℕ) → 4 * n ≤ length old → take (4 * n + 4) new ≡ take (4 * n) old ++ four_digits n

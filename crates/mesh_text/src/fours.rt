@@ -1,15 +1,16 @@
 //! The digits of the numbers below 10,000, four to a number.
 
-ghost use Rattle.std.specs.Prelude.{◌≡◌, ◌+◌, ◌*◌, ◌≤◌, ◌<◌, ◌^◌, ◌∷◌, ◌++◌, take, drop, length, decimal};
-ghost use Rattle.iso_defs.specs.Texts.{line, numbers_text};
-ghost use Rattle.iso_base.specs.Triangles.{triangle_of};
+ghost use Rattle.std.specs.Prelude.{◌≡◌, ◌+◌, ◌*◌, ◌≤◌, ◌<◌, ◌^◌, ◌++◌, take, drop, length, decimal};
+ghost use Rattle.iso_defs.specs.Texts.{three_digits};
 ghost use Rattle.mesh_text.specs.Fours.{AreFours, four_digits};
 
-use crate::digits::{count_short, put_byte, put_letter};
+use crate::counted::count_short;
+use crate::digits::{Digits, put_byte};
+use std::marker::Model;
 
 /// The bytes of a table of four digits a number. Behind the last number's stand four bytes more, so that four are there
 /// from each place of a number on.
-pub const FOURS: usize = 40_004;
+const FOURS: usize = 40_004;
 
 /// Writes the four digits of a number.
 #[inline(always)]
@@ -26,7 +27,7 @@ fn put_four_digits(n: u32, room: &mut [u8], at: usize) -> usize
 }
 
 /// Writes the table.
-pub fn write_fours(room: &mut [u8])
+fn write_fours(room: &mut [u8])
     requires { length room.old ≡ 40004 }
     ensures { AreFours room.new }
 {
@@ -91,7 +92,7 @@ fn put_long(fours: &[u8], n: u64, room: &mut [u8], at: usize) -> usize
 
 /// Writes a number, out of the table.
 #[inline(always)]
-pub fn put_number(fours: &[u8], n: u64, room: &mut [u8], at: usize) -> usize
+fn put_any(fours: &[u8], n: u64, room: &mut [u8], at: usize) -> usize
     requires table { AreFours fours.now }
     requires bound { n < 10 ^ 11 }
     requires space { at + 12 ≤ length room.old }
@@ -122,49 +123,53 @@ fn put_longest(fours: &[u8], n: u64, room: &mut [u8], at: usize) -> usize
     put_four(fours, n % 10_000, room, at)
 }
 
+/// Writes a number below 1,000 in three digits, out of the table.
 #[inline(always)]
-fn put_three(fours: &[u8], a: u64, b: u64, c: u64, room: &mut [u8], at: usize) -> usize
+fn put_last_three(fours: &[u8], n: u64, room: &mut [u8], at: usize) -> usize
     requires table { AreFours fours.now }
-    requires a { a < 10 ^ 11 }
-    requires b { b < 10 ^ 11 }
-    requires c { c < 10 ^ 11 }
-    requires space { at + 39 ≤ length room.old }
-    ensures end { result ≤ at + 39 }
-    ensures behind { at ≤ result }
-    ensures written { take result room.new ≡ take at room.old ++ line (decimal a ++ 32 ∷ (decimal b ++ 32 ∷ decimal c)) }
+    requires bound { n < 1000 }
+    requires space { at + 4 ≤ length room.old }
+    ensures end { result ≡ at + 3 }
+    ensures written { take result room.new ≡ take at room.old ++ three_digits n }
 {
-    let at = put_number(fours, a, room, at);
-    let at = put_byte(b' ', room, at);
-    let at = put_number(fours, b, room, at);
-    let at = put_byte(b' ', room, at);
-    let at = put_number(fours, c, room, at);
-    put_byte(b'\n', room, at)
+    put_four_bytes(fours, 4 * n as usize + 1, room, at);
+    at + 3
 }
 
-/// Writes a letter, three numbers, each raised by `first`, and the end of their line, out of the table.
-#[inline(always)]
-pub fn put_face(
-    fours: &[u8],
-    letter: u8,
-    first: u64,
-    corners: &[u32; 3],
-    room: &mut [u8],
-    at: usize,
-) -> usize
-    requires table { AreFours fours.now }
-    requires first { first ≤ 1 }
-    requires space { at + 41 ≤ length room.old }
-    ensures end { result ≤ at + 41 }
-    ensures behind { at ≤ result }
-    ensures written { take result room.new ≡ take at room.old ++ line (letter ∷ 32 ∷ numbers_text first (triangle_of corners.now)) }
-{
-    let at = put_letter(letter, room, at);
-    put_three(
-        fours,
-        first + u64::from(corners[0]),
-        first + u64::from(corners[1]),
-        first + u64::from(corners[2]),
-        room,
-        at,
-    )
+/// The digits of each number below 10,000, four to a number: numbers are written four digits at a time.
+#[derive(Drop)]
+pub struct Fours {
+    bytes: [u8; FOURS],
+}
+
+impl Model for Fours {
+    ghost use Rattle.std.specs.Prelude.{ℕ, List};
+    ghost use Rattle.mesh_text.specs.Fours.{AreFours};
+
+    ghost Value = { List ℕ };
+
+    ghost view = { λ f. f.bytes };
+
+    ghost invariant = { λ f. AreFours f.bytes };
+}
+
+impl Fours {
+    /// The table.
+    pub fn new() -> Fours {
+        let mut bytes = [0; FOURS];
+        write_fours(&mut bytes);
+        Fours { bytes }
+    }
+}
+
+impl Digits for Fours {
+    #[inline(always)]
+    fn put_number(&self, n: u64, room: &mut [u8], at: usize) -> usize {
+        put_any(&self.bytes, n, room, at)
+    }
+
+    #[inline(always)]
+    fn put_three_digits(&self, n: u64, room: &mut [u8], at: usize) -> usize {
+        put_last_three(&self.bytes, n, room, at)
+    }
 }

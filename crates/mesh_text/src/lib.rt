@@ -2,6 +2,7 @@
 //! makes it, and takes no memory. Coordinates are in thousandths of a voxel and printed with three decimals.
 #![tactic(auto)]
 
+mod counted;
 mod digits;
 mod format;
 mod fours;

@@ -1,9 +1,9 @@
 ghost use Rattle.std.specs.Prelude.{◌≡◌, ◌+◌, ◌<◌, ◌≤◌, ◌^◌, ◌++◌, [], IsTrue, length, unsigned_abs};
 ghost use Rattle.mesh_text.specs.Lines.{along, obj_face_line, obj_vertex_line, ply_face_line, ply_vertex_line};
 
-use crate::fours::{FOURS, put_face, write_fours};
-use crate::obj::write_obj_vertex;
-use crate::ply::write_ply_vertex;
+use crate::fours::Fours;
+use crate::obj::{write_obj_face, write_obj_vertex};
+use crate::ply::{write_ply_face, write_ply_vertex};
 use iso_base::Thousandth;
 use std::marker::Model;
 
@@ -16,18 +16,17 @@ const PAGE: usize = 4096;
 pub struct Lines {
     bytes: [u8; PAGE],
     end: usize,
-    fours: [u8; FOURS],
+    digits: Fours,
 }
 
 impl Model for Lines {
-    ghost use Rattle.std.specs.Prelude.{ℕ, List, take, ◌≤◌};
-    ghost use Rattle.mesh_text.specs.Fours.{AreFours};
+    ghost use Rattle.std.specs.Prelude.{◌≡◌, ℕ, List, length, take, ◌≤◌};
 
     ghost Value = { List ℕ };
 
     ghost view = { λ l. take l.end l.bytes };
 
-    ghost invariant = { λ l. (l.end ≤ 4096) × AreFours l.fours };
+    ghost invariant = { λ l. (l.end ≤ 4096) × (length l.bytes ≡ 4096) };
 }
 
 impl Lines {
@@ -35,12 +34,10 @@ impl Lines {
     pub fn new() -> Lines
         ensures { result ≡ [] }
     {
-        let mut fours = [0; FOURS];
-        write_fours(&mut fours);
         Lines {
             bytes: [0; PAGE],
             end: 0,
-            fours,
+            digits: Fours::new(),
         }
     }
 
@@ -87,7 +84,7 @@ impl Lines {
         ensures line { self.new ≡ self.old ++ ply_vertex_line vertex.now }
         ensures few { length self.new ≤ length self.old + 64 }
     {
-        self.end = write_ply_vertex(vertex, &mut self.bytes, self.end);
+        self.end = write_ply_vertex(&self.digits, vertex, &mut self.bytes, self.end);
     }
 
     /// Puts the line of a vertex in OBJ behind the others.
@@ -100,7 +97,7 @@ impl Lines {
         ensures line { self.new ≡ self.old ++ obj_vertex_line vertex.now }
         ensures few { length self.new ≤ length self.old + 64 }
     {
-        self.end = write_obj_vertex(vertex, &mut self.bytes, self.end);
+        self.end = write_obj_vertex(&self.digits, vertex, &mut self.bytes, self.end);
     }
 
     /// Puts the line of a face in PLY behind the others.
@@ -110,7 +107,7 @@ impl Lines {
         ensures line { self.new ≡ self.old ++ ply_face_line corners.now }
         ensures few { length self.new ≤ length self.old + 64 }
     {
-        self.end = put_face(&self.fours, b'3', 0, corners, &mut self.bytes, self.end);
+        self.end = write_ply_face(&self.digits, corners, &mut self.bytes, self.end);
     }
 
     /// Puts the line of a face in OBJ behind the others. Its corners are handed in counted from 0.
@@ -120,6 +117,6 @@ impl Lines {
         ensures line { self.new ≡ self.old ++ obj_face_line corners.now }
         ensures few { length self.new ≤ length self.old + 64 }
     {
-        self.end = put_face(&self.fours, b'f', 1, corners, &mut self.bytes, self.end);
+        self.end = write_obj_face(&self.digits, corners, &mut self.bytes, self.end);
     }
 }

@@ -5,14 +5,20 @@ ghost use Rattle.iso_io.specs.Seen.{Puts};
 ghost use Rattle.iso_base.specs.Triangles.{IsBelow, triangle_of};
 ghost use Rattle.mesh_text.specs.Lines.{along, obj_face_line, obj_vertex_line};
 
-use crate::digits::{ROOM, put_letter, put_numbers, put_vertex};
+use crate::counted::Counted;
+use crate::digits::{Digits, ROOM, put_letter, put_numbers, put_vertex};
 use crate::line::Line;
 use iso_base::Thousandth;
 use iso_io::{Failed, Sink, write_all_of};
 
 /// Writes the line of a vertex from a place on, and says where it ends.
 #[inline(always)]
-pub(crate) fn write_obj_vertex(vertex: &[Thousandth; 3], room: &mut [u8], at: usize) -> usize
+pub(crate) fn write_obj_vertex<D: Digits>(
+    digits: &D,
+    vertex: &[Thousandth; 3],
+    room: &mut [u8],
+    at: usize,
+) -> usize
     requires x { unsigned_abs (along vertex.now 0) < 2 ^ 44 }
     requires y { unsigned_abs (along vertex.now 1) < 2 ^ 44 }
     requires z { unsigned_abs (along vertex.now 2) < 2 ^ 44 }
@@ -22,7 +28,7 @@ pub(crate) fn write_obj_vertex(vertex: &[Thousandth; 3], room: &mut [u8], at: us
     ensures written { take result room.new ≡ take at room.old ++ obj_vertex_line vertex.now }
 {
     let at = put_letter(b'v', room, at);
-    put_vertex(vertex, room, at)
+    put_vertex(digits, vertex, room, at)
 }
 
 /// The line of a vertex: `v X Y Z`.
@@ -34,7 +40,7 @@ pub fn obj_vertex_text(at: &[Thousandth; 3]) -> Line
     ensures { result ≡ obj_vertex_line at.now }
 {
     let mut bytes = [0; ROOM];
-    let end = write_obj_vertex(at, &mut bytes, 0);
+    let end = write_obj_vertex(&Counted, at, &mut bytes, 0);
     Line::of(bytes, end)
 }
 
@@ -50,14 +56,19 @@ pub fn put_obj_vertex<K: Sink>(sink: &mut K, at: [Thousandth; 3]) -> Result<(), 
 
 /// Writes the line of a face from a place on, and says where it ends.
 #[inline(always)]
-pub(crate) fn write_obj_face(corners: &[u32; 3], room: &mut [u8], at: usize) -> usize
+pub(crate) fn write_obj_face<D: Digits>(
+    digits: &D,
+    corners: &[u32; 3],
+    room: &mut [u8],
+    at: usize,
+) -> usize
     requires space { at + 64 ≤ length room.old }
     ensures end { result ≤ at + 64 }
     ensures behind { at ≤ result }
     ensures written { take result room.new ≡ take at room.old ++ obj_face_line corners.now }
 {
     let at = put_letter(b'f', room, at);
-    put_numbers(1, corners, room, at)
+    put_numbers(digits, 1, corners, room, at)
 }
 
 /// The line of a face: `f A B C`. Its corners are handed in counted from 0 and printed counted from 1.
@@ -66,7 +77,7 @@ pub fn obj_face_text(corners: &[u32; 3]) -> Line
     ensures { result ≡ obj_face_line corners.now }
 {
     let mut bytes = [0; ROOM];
-    let end = write_obj_face(corners, &mut bytes, 0);
+    let end = write_obj_face(&Counted, corners, &mut bytes, 0);
     Line::of(bytes, end)
 }
 

@@ -4,14 +4,20 @@ ghost use Rattle.std.specs.Prelude.{◌≡◌, ◌+◌, ◌<◌, ◌≤◌, ◌^
 ghost use Rattle.iso_io.specs.Seen.{Puts};
 ghost use Rattle.mesh_text.specs.Lines.{along, ply_face_line, ply_vertex_line};
 
-use crate::digits::{ROOM, put_letter, put_numbers, put_vertex};
+use crate::counted::Counted;
+use crate::digits::{Digits, ROOM, put_letter, put_numbers, put_vertex};
 use crate::line::Line;
 use iso_base::Thousandth;
 use iso_io::{Failed, Sink, write_all_of};
 
 /// Writes the line of a vertex from a place on, and says where it ends.
 #[inline(always)]
-pub(crate) fn write_ply_vertex(vertex: &[Thousandth; 3], room: &mut [u8], at: usize) -> usize
+pub(crate) fn write_ply_vertex<D: Digits>(
+    digits: &D,
+    vertex: &[Thousandth; 3],
+    room: &mut [u8],
+    at: usize,
+) -> usize
     requires x { unsigned_abs (along vertex.now 0) < 2 ^ 44 }
     requires y { unsigned_abs (along vertex.now 1) < 2 ^ 44 }
     requires z { unsigned_abs (along vertex.now 2) < 2 ^ 44 }
@@ -20,7 +26,7 @@ pub(crate) fn write_ply_vertex(vertex: &[Thousandth; 3], room: &mut [u8], at: us
     ensures behind { at ≤ result }
     ensures written { take result room.new ≡ take at room.old ++ ply_vertex_line vertex.now }
 {
-    put_vertex(vertex, room, at)
+    put_vertex(digits, vertex, room, at)
 }
 
 /// The line of a vertex: `X Y Z`.
@@ -32,7 +38,7 @@ pub fn ply_vertex_text(at: &[Thousandth; 3]) -> Line
     ensures { result ≡ ply_vertex_line at.now }
 {
     let mut bytes = [0; ROOM];
-    let end = write_ply_vertex(at, &mut bytes, 0);
+    let end = write_ply_vertex(&Counted, at, &mut bytes, 0);
     Line::of(bytes, end)
 }
 
@@ -48,14 +54,19 @@ pub fn put_ply_vertex<K: Sink>(sink: &mut K, at: [Thousandth; 3]) -> Result<(), 
 
 /// Writes the line of a face from a place on, and says where it ends.
 #[inline(always)]
-pub(crate) fn write_ply_face(corners: &[u32; 3], room: &mut [u8], at: usize) -> usize
+pub(crate) fn write_ply_face<D: Digits>(
+    digits: &D,
+    corners: &[u32; 3],
+    room: &mut [u8],
+    at: usize,
+) -> usize
     requires space { at + 64 ≤ length room.old }
     ensures end { result ≤ at + 64 }
     ensures behind { at ≤ result }
     ensures written { take result room.new ≡ take at room.old ++ ply_face_line corners.now }
 {
     let at = put_letter(b'3', room, at);
-    put_numbers(0, corners, room, at)
+    put_numbers(digits, 0, corners, room, at)
 }
 
 /// The line of a face: `3 A B C`, its corners counted from 0.
@@ -64,7 +75,7 @@ pub fn ply_face_text(corners: &[u32; 3]) -> Line
     ensures { result ≡ ply_face_line corners.now }
 {
     let mut bytes = [0; ROOM];
-    let end = write_ply_face(corners, &mut bytes, 0);
+    let end = write_ply_face(&Counted, corners, &mut bytes, 0);
     Line::of(bytes, end)
 }
 

@@ -5,7 +5,7 @@ use Rattle.mesh_text.proofs.Chain.{three_chain}
 use Rattle.mesh_text.proofs.digits.put_coordinates.Goals as goal
 
 pub returns-clause-written : goal.returns-clause-written
-returns-clause-written c =
+returns-clause-written g c =
     let x : to_z w64 (of_z w64 c.args.x) ≡ c.args.x = search (rules, to_z-of_z) in
     let y : to_z w64 (of_z w64 c.args.y) ≡ c.args.y = search (rules, to_z-of_z) in
     let z : to_z w64 (of_z w64 c.args.z) ≡ c.args.z = search (rules, to_z-of_z) in

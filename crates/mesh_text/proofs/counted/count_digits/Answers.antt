@@ -1,6 +1,6 @@
 use Rattle.std.proofs.Common.{◌/◌, ◌≤◌, length, decimal, arith}
 use Rattle.std.proofs.lemmas.Fmt.{length-decimal-le}
-use Rattle.mesh_text.proofs.digits.count_digits.Goals as goal
+use Rattle.mesh_text.proofs.counted.count_digits.Goals as goal
 
 pub returns-else-n-lt100000000-clause-bound : goal.returns-else-n-lt100000000-clause-bound
 returns-else-n-lt100000000-clause-bound c =
