@@ -4,7 +4,6 @@ pub mod Changing
 pub mod Meshes
 pub mod SavedFiles
 pub mod PlaneFields
-pub mod Triangles
 pub mod Touching
 pub mod Staying
 pub mod Surfaces

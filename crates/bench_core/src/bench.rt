@@ -39,9 +39,9 @@ use voxel_list::{FillBox, VoxelList};
 /// machine, whose earlier and later states are those that the changes lead back and on to.
 #[derive(Drop)]
 pub struct Bench {
-    alloc: Global,
-    store: BrickStore,
-    level: Level,
+    pub(crate) alloc: Global,
+    pub(crate) store: BrickStore,
+    pub(crate) level: Level,
     log: EditLog,
     tree: SpanTree,
     cache: MeshCache,
