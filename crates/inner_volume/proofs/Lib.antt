@@ -2,3 +2,4 @@ pub mod Insides
 pub mod InnerSamples
 pub mod RowsPut
 pub mod ReadAgain
+pub mod RowLines

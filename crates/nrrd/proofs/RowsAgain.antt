@@ -42,7 +42,7 @@ row_ends a b c r h =
     omega arith
 
 -- the row of a place
-row_at : (v : Voxels) (k : ℕ) (d : List ℤ) → k < length (rows_of v) → get_or (rows_of v) k d ≡ row_of v k
+pub row_at : (v : Voxels) (k : ℕ) (d : List ℤ) → k < length (rows_of v) → get_or (rows_of v) k d ≡ row_of v k
 row_at v k d lt =
     let n : length (rows_of v) ≡ v.grid.ny * v.grid.nz = length-map-range_with_len (row_of v) 0 (v.grid.ny * v.grid.nz) in
     get_or-map-range_with_len (row_of v) 0 (v.grid.ny * v.grid.nz) k k d (omega (arith, n)) (omega arith)

@@ -1,0 +1,46 @@
+-- Rows off the pad's layer in print.
+use Rattle.std.proofs.Common.{◌≡◌, ℕ, ◌*◌, ◌<◌, ◌≤◌, List, [], ◌++◌, length, get_or, take, drop, Result, Ok, Err, sym, ap, subst, ◌∙◌, arith, ℤ}
+use Rattle.std.proofs.lemmas.List.{drop_all}
+use Rattle.std.proofs.lemmas.List.FromFn.{length-map-range_with_len}
+use Rattle.iso_defs.specs.Grid.{Grid}
+use Rattle.iso_base.specs.Volume.{Volume, inner_grid}
+use Rattle.iso_io.specs.Seen.{Tape, Puts, Stages}
+use Rattle.iso_io.proofs.Putting.{puts_both}
+use Rattle.iso_io.proofs.Staging.{stages_unwritten}
+use Rattle.nrrd.specs.Writing.{row_of, rows_of}
+use Rattle.nrrd.proofs.RowsAgain.{row_at}
+use Rattle.inner_volume.specs.Unpadded.{inner_samples, inner_voxels}
+
+length-rows : (v : Volume) → length (rows_of (inner_voxels v)) ≡ (inner_grid v).ny * (inner_grid v).nz
+length-rows v = length-map-range_with_len (row_of (inner_voxels v)) 0 ((inner_grid v).ny * (inner_grid v).nz)
+
+-- a row by its number is among the rows
+pub row_among : (v : Volume) (g : Grid) (number : ℕ) → g ≡ inner_grid v → number < g.ny * g.nz → number < length (rows_of (inner_voxels v))
+row_among v g number same low = omega (arith, length-rows v, low, ap (λ (g : Grid). g.ny * g.nz) same)
+
+pub row_printed : (v : Volume) (g : Grid) (number : ℕ) (row : List ℤ) → g ≡ inner_grid v → number < g.ny * g.nz → row ≡ take g.nx (drop (number * g.nx) (inner_samples v))
+    → row ≡ get_or (rows_of (inner_voxels v)) number []
+row_printed v g number row same low is =
+    is ∙ ap (λ (g : Grid). take g.nx (drop (number * g.nx) (inner_samples v))) same ∙ sym (row_at (inner_voxels v) number [] (row_among v g number same low))
+
+-- past the last row
+pub no_rows : (v : Volume) (g : Grid) (number : ℕ) → g ≡ inner_grid v → g.ny * g.nz ≤ number → drop number (rows_of (inner_voxels v)) ≡ []
+no_rows v g number same past = drop_all number (rows_of (inner_voxels v)) (omega (arith, length-rows v, past, ap (λ (g : Grid). g.ny * g.nz) same))
+
+-- rows were gathered, and then not all that waits was written
+pub rows_unwritten : {T U V E E' : Type 0} (t0 t1 t2 : Tape) (x : U) (e : E) (e' : E') (w0 w1 bytes text : List ℕ) → w0 ≡ [] → bytes ≡ w1
+    → Stages {E = E} t0 t1 w0 w1 (Ok x) text → Puts {T = V} t1 t2 (Err e) bytes → Puts {T = T} t0 t2 (Err e') text
+rows_unwritten {V = V} {E = E} t0 t1 t2 x e e' w0 w1 bytes text none same s p =
+    stages_unwritten t0 t1 t2 x e e' w1 text (subst (λ w. Stages {E = E} t0 t1 w w1 (Ok x) text) none s) (subst (λ w. Puts {T = V} t1 t2 (Err e) w) same p)
+
+-- the second of two texts was not put
+pub both_failed : {T U V E E' : Type 0} (t0 t1 t2 : Tape) (x : U) (e : E) (e' : E') (a b : List ℕ) → Puts {E = E} t0 t1 (Ok x) a → Puts {T = V} t1 t2 (Err e) b → Puts {T = T} t0 t2 (Err e') (a ++ b)
+both_failed {V = V} t0 t1 t2 x e e' a b p q =
+    let h = puts_both {T = V} t0 t1 t2 x (Err e) a b p q in
+    record { gained = h.gained; beside = h.beside; cause = record { later = h.cause.later; failed = h.cause.failed } }
+
+-- two texts were put
+pub both_put : {T U V E : Type 0} (t0 t1 t2 : Tape) (x : U) (y : V) (z : T) (a b : List ℕ) → Puts {E = E} t0 t1 (Ok x) a → Puts {E = E} t1 t2 (Ok y) b → Puts {E = E} t0 t2 (Ok z) (a ++ b)
+both_put {E = E} t0 t1 t2 x y z a b p q =
+    let h = puts_both {E = E} t0 t1 t2 x (Ok y) a b p q in
+    record { gained = h.gained; beside = h.beside; cause = record { later = h.cause.later; failed = tt } }
