@@ -7,4 +7,4 @@ pub mod PlaneFields
 pub mod Touching
 pub mod Staying
 pub mod Surfaces
-pub mod Windows
+pub mod WindowFiles

@@ -406,8 +406,7 @@ impl Bench {
         ensures window { let v = self.now.state.volume in WritesWindow v self.now.state.level (window_area v corners) format (H.seen shelf.old) (H.seen shelf.new) result name.now }
         ensures part { let v = self.now.state.volume in OnOk result (IsSomeAnd (window_area v corners) (IsWindowOfMesh v self.now.state.level)) }
     {
-        let [ax, ay, az, bx, by, bz] = corners;
-        let Some(area) = self.area(ax, ay, az, bx, by, bz) else {
+        let Some(area) = self.box_of(corners) else {
             return Err(BenchFault::Outside);
         };
         let (store, level) = (&self.store, self.level);
@@ -462,6 +461,16 @@ impl Bench {
         ensures inside { IfSome result (IsInside self.now.state.volume) }
     {
         place_in(&self.store, x, y, z)
+    }
+
+    /// The stored box of two corners that do not count the pad's layer, x, y, z of each.
+    fn box_of(&self, corners: [i64; 6]) -> Option<FillBox>
+        ensures area { result ≡ window_area self.now.state.volume corners }
+        ensures low { IfSome result (λ a. IsInside self.now.state.volume a.low) }
+        ensures high { IfSome result (λ a. IsInside self.now.state.volume a.high) }
+    {
+        let [ax, ay, az, bx, by, bz] = corners;
+        self.area(ax, ay, az, bx, by, bz)
     }
 
     /// The stored box of two corners that do not count the pad's layer.

@@ -1,10 +1,9 @@
 //! Windows of a volume as files of a shelf.
 
-ghost use Rattle.std.specs.Prelude.{◌≡◌, ◌-◌, [], IfOk, None, OnErr, OnOk, Some, length};
-ghost use Rattle.iso_base.specs.Volume.{layer};
+ghost use Rattle.std.specs.Prelude.{◌≡◌, ◌⊎◌, ℕ, [], IfErr, IfOk, None, OnOk, Some};
 ghost use Rattle.iso_io.specs.Seen.{Puts};
 ghost use Rattle.iso_io.specs.Shelves.{Stores, file_tape};
-ghost use Rattle.window_mesh.specs.Crops.{IsFaultOf, IsWindowOfMesh, window_of};
+ghost use Rattle.window_mesh.specs.Crops.{IsWindowOfMesh};
 ghost use Rattle.window_write.specs.Lines.{IsNear, steps_of, text_of, written_of};
 ghost use Rattle.inner_volume.specs.Places.{IsInside};
 ghost use Rattle.bench_core.specs.Windows.{WritesWindow, inner_corner, mesh_in, window_fault};

@@ -1,6 +1,6 @@
 -- Windows of a volume, and what a call that writes one does.
-use Rattle.std.proofs.Common.{◌≡◌, ◌⊎◌, ℕ, ◌+◌, ◌≤◌, List, Ok, Err, inl, inr, refl, sym, ap, ◌∙◌, subst, arith, ℤ}
-use Rattle.std.specs.Prelude.{Option, Some, None}
+use Rattle.std.proofs.Common.{◌≡◌, ◌⊎◌, ℕ, ◌+◌, ◌≤◌, List, Result, Ok, Err, inl, inr, refl, sym, ap, ◌∙◌, subst, arith, ℤ}
+use Rattle.std.specs.Prelude.{Option, Some, None, IsSomeAnd, OnOk}
 use Rattle.iso_base.specs.Points.{IsPoint}
 use Rattle.iso_base.specs.Volume.{Volume, IsVolume}
 use Rattle.iso_base.specs.declared.point.Point.{Point}
@@ -13,7 +13,7 @@ use Rattle.iso_io.specs.Shelves.{Store, Stores, FilesCut, with_file}
 use Rattle.voxel_list.specs.Areas.{Area}
 use Rattle.flat_mesh.specs.Mesh.{FlatMesh}
 use Rattle.mesh_more.specs.Texts.{moved_text}
-use Rattle.window_mesh.specs.Crops.{IsBoxOfKind, IsFaultOf, window_of}
+use Rattle.window_mesh.specs.Crops.{IsBoxOfKind, IsFaultOf, IsWindowOfMesh, window_of}
 use Rattle.window_mesh.specs.declared.boxes.WindowFault.{WindowFault}
 use Rattle.window_mesh.specs.declared.boxes.WindowFault.TheVariants.{Memory, Thin}
 use Rattle.window_write.specs.Lines.{steps_of, text_of, written_of}
@@ -78,6 +78,13 @@ module _ (v : Volume) (level : ℤ) (a : Area) (format : MeshFormat) (by : Point
     fault = inr (none, inr (refl, subst (λ (l : List ℕ). FilesCut name l old.files new.files) text_is is.changed, is.cause.failed));
     later = is.cause.later;
   }
+
+-- the mesh of a box of a bench's volume is the part of the whole mesh in it
+pub part_in_box : {T E : Type 0} (r : Result T E) (v u : Volume) (level at : ℤ) (box : Option Area) (a : Area) → v ≡ u → level ≡ at → Some a ≡ box
+    → OnOk r (IsWindowOfMesh v level a) → OnOk r (IsSomeAnd box (IsWindowOfMesh u at))
+part_in_box r v u level at box a e f h is =
+    subst (λ box. OnOk r (IsSomeAnd box (IsWindowOfMesh u at))) h
+    (subst (λ (u : Volume). OnOk r (IsWindowOfMesh u at a)) e (subst (λ at. OnOk r (IsWindowOfMesh v at a)) f is))
 
 -- before the shelf is touched
 pub window_refused : (v : Volume) (level : ℤ) (a : Area) (format : MeshFormat) (store : Store) (fault : BenchFault) (name : List ℕ)
