@@ -4,6 +4,7 @@
 mod gathered;
 mod mesh;
 mod points;
+mod walk;
 
 pub use mesh::put_mesh_as;
 pub use points::put_points;

@@ -4,10 +4,12 @@ ghost use Rattle.std.specs.Prelude.{◌≡◌, ◌+◌, ◌*◌, ◌<◌, ◌≤
 ghost use Rattle.iso_defs.specs.Grid.{name_bound};
 ghost use Rattle.iso_io.specs.Seen.{Puts, Stages};
 ghost use Rattle.mesh_text.specs.Lines.{along, points_head};
+ghost use Rattle.mesh_write.specs.Walk.{IsRow};
 ghost use Rattle.mesh_write.specs.Edges.{ArePlaced, placed_line, placed_lines};
 
 use crate::gathered::{make_room, put_gathered};
-use crossing_edges::{EdgeVertices, position_on};
+use crate::walk::{Row, position_from};
+use crossing_edges::EdgeVertices;
 use iso_base::{Sizes, Thousandth};
 use iso_io::{Failed, Sink, write_all_of};
 use mesh_text::{Lines, points_head_text};
@@ -34,13 +36,15 @@ fn thousandths(at: &[u32; 3]) -> [Thousandth; 3]
 /// Puts the line of a vertex behind those that are gathered.
 #[inline(always)]
 #[tactic(auto, unfolding(crate::specs::Edges::placed_line))]
-fn gather_vertex(sizes: &Sizes, name: u32, place: u16, lines: &mut Lines)
+fn gather_vertex(sizes: &Sizes, row: &mut Row, name: u32, place: u16, lines: &mut Lines)
+    requires row { IsRow sizes.now row.old }
     requires name { name < name_bound sizes.now }
     requires place { place ≤ 1000 }
     requires room { length lines.old + 64 ≤ 4096 }
-    ensures { lines.new ≡ lines.old ++ placed_line sizes.now name place }
+    ensures row { IsRow sizes.now row.new }
+    ensures line { lines.new ≡ lines.old ++ placed_line sizes.now name place }
 {
-    let at = position_on(sizes, name, place);
+    let at = position_from(sizes, row, name, place);
     lines.push_ply_vertex(&thousandths(&at));
 }
 
@@ -51,16 +55,19 @@ fn stage_vertex<K: Sink>(
     waiting: &mut Vec<u8>,
     lines: &mut Lines,
     sizes: &Sizes,
+    row: &mut Row,
     name: u32,
     place: u16,
 ) -> Result<(), Failed>
     requires name { name < name_bound sizes.now }
     requires place { place ≤ 1000 }
-    ensures { Stages (K.seen sink.old) (K.seen sink.new) (waiting.old.items ++ lines.old) (waiting.new.items ++ lines.new) result
+    requires row { IsRow sizes.now row.old }
+    ensures row { IfOk result (λ _. IsRow sizes.now row.new) }
+    ensures staged { Stages (K.seen sink.old) (K.seen sink.new) (waiting.old.items ++ lines.old) (waiting.new.items ++ lines.new) result
         (placed_line sizes.now name place) }
 {
     make_room(sink, waiting, lines)?;
-    gather_vertex(sizes, name, place, lines);
+    gather_vertex(sizes, row, name, place, lines);
     Ok(())
 }
 
@@ -76,8 +83,11 @@ fn put_vertices<K: Sink>(
     ensures { Puts (K.seen sink.old) (K.seen sink.new) result (placed_lines sizes.now names.now places.now) }
 {
     let mut lines = Lines::new();
+    let mut row = Row::first(sizes);
     for i in 0..names.len() {
-        stage_vertex(sink, waiting, &mut lines, sizes, names[i], places[i])?;
+        stage_vertex(
+            sink, waiting, &mut lines, sizes, &mut row, names[i], places[i],
+        )?;
     }
     put_gathered(sink, waiting, &lines)
 }

@@ -1,9 +1,11 @@
 use Rattle.std.proofs.Common.{◌++◌, drop}
 use Rattle.iso_io.proofs.Staging.{HasStaged}
+use Rattle.mesh_write.specs.Walk.{IsRow}
 use Rattle.mesh_write.specs.Edges.{placed_lines}
 use Rattle.mesh_write.proofs.points.put_vertices.Given as goal
 
 abbrev pub invariant-loop-i : goal.invariant-loop-i
 invariant-loop-i g l =
+    IsRow l.sizes l.row ×
     HasStaged (g.K.Sink.seen l.fn.sink) (g.K.Sink.seen l.sink) (placed_lines l.sizes l.names l.places) (l.waiting.items ++ l.lines)
     (placed_lines l.sizes (drop l.i l.names) (drop l.i l.places))
