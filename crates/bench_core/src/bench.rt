@@ -1,8 +1,10 @@
-ghost use Rattle.std.specs.Prelude.{◌≡◌, ◌⊎◌, ◌+◌, ◌*◌, ◌<◌, ◌≤◌, take, get_or, pos, length, is_some, IfSome, IfNone, IsSomeAnd, None, Some, Ok, IfOk, IfErr, OnOk, IsErrOf};
+ghost use Rattle.std.specs.Prelude.{◌≡◌, ◌⊎◌, ◌+◌, ◌*◌, ◌<◌, ◌≤◌, take, get_or, pos, length, is_some, IfSome, IfNone, IsSomeAnd, None, Some, Ok, IfOk, IfErr, OnOk, IsErrOf, All};
 ghost use Rattle.iso_base.specs.Samples.{IsSample, least_of, greatest_of};
 ghost use Rattle.inner_volume.specs.Places.{IsInside, place_of, plane_of};
+ghost use Rattle.measure.specs.Measures.{HasNoArea};
+ghost use Rattle.mesh_measures.specs.Printed.{HasNoBorder, HasOneVolumeIn};
 ghost use Rattle.bench_core.specs.Surface.{IsCutOfMesh, IsWatertight};
-ghost use Rattle.bench_core.specs.Texts.{WritesFile, contour_of, hex_save, mesh_text, mesh_written, obj_text, obj_written, ply_text, ply_written, report_of, save_text, text_save};
+ghost use Rattle.bench_core.specs.Texts.{WritesFile, contour_of, hex_save, measure_of, mesh_text, mesh_written, obj_text, obj_written, ply_text, ply_written, report_of, save_text, text_save};
 ghost use Rattle.voxel_list.specs.Areas.{between};
 ghost use Rattle.edit_log.specs.Changes.{Suits, after, area_of, before, moment};
 ghost use Rattle.bench_core.specs.Machine.{IsAbovePad, IsState, IsStep, IsSureStep, area_by, begin_fault, changed, checked_level, contour_step, fill_at, fill_step, level_step, pad_fault, redo_step, set_at, set_step, undo_step};
@@ -25,7 +27,9 @@ use inner_volume::{place_in, plane_in, write_hex, write_text, write_volume};
 use iso_base::{BenchFault, Level, Memory, MeshFormat, Point, SampleKind, Steps, Written};
 use iso_io::{Failed, Shelf};
 use kept_mesh::{refresh_bricks, write_mesh};
+use measure::Measures;
 use mesh_cache::{Capacity, MeshCache};
+use mesh_measures::mesh_measures;
 use mesh_report::Report;
 use mesh_text::TwoWayFormat;
 use plane_contour::Contours;
@@ -443,6 +447,27 @@ impl Bench {
         };
         match mesh_numbers(self.alloc, &volume, self.level) {
             Ok(report) => Ok(report),
+            Err(Memory) => Err(BenchFault::Memory),
+        }
+    }
+
+    /// The signed volume, the area and the border of each component of the mesh, by its least vertex, at the positions
+    /// that are printed. A component without border has no area, and its volume is the same from every point; with a
+    /// pad none has a border. `Memory` is its only refusal.
+    pub fn measure(&self) -> Result<Measures, BenchFault>
+        ensures step { IsStep self.now.state self.now.state result (Ok self.now.state) }
+        ensures measures { IfOk result (λ m. m ≡ measure_of self.now.state) }
+        ensures areas { IfOk result (λ m. All HasNoArea m) }
+        ensures volumes { IfOk result (λ m. All (HasOneVolumeIn self.now.state.volume self.now.state.level) m) }
+        ensures closed { IfOk result (λ m. IfSome self.now.state.volume.pad (λ _. All HasNoBorder m)) }
+        ensures memory { IfErr result (λ fault. fault ≡ BenchFault.Memory) }
+        ensures not_shelf { IsErrOf result BenchFault.ShelfFailed → ⊥ }
+    {
+        let Ok(volume) = self.store.flat(self.alloc) else {
+            return Err(BenchFault::Memory);
+        };
+        match mesh_measures(self.alloc, &volume, self.level) {
+            Ok(measures) => Ok(measures),
             Err(Memory) => Err(BenchFault::Memory),
         }
     }
