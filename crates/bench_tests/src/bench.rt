@@ -319,6 +319,25 @@ fn volumes_go_to_the_shelf_without_their_pad(rt: HostRuntime) -> Result<(), Fail
     Ok(())
 }
 
+#[test]
+fn volumes_go_to_the_shelf_in_print(rt: HostRuntime) -> Result<(), Fail> {
+    let text =
+        "NRRD0004\ntype: uint8\ndimension: 3\nsizes: 3 3 3\nencoding: text\n\n0 0 0\n0 0 0\n0 0 0\n0 0 0\n0 10 0\n0 0 0\n0 0 0\n0 0 0\n0 0 0\n";
+    let hex =
+        "NRRD0004\ntype: uint8\ndimension: 3\nsizes: 3 3 3\nencoding: hex\n\n000000\n000000\n000000\n000000\n000a00\n000000\n000000\n000000\n000000\n";
+    let bench = padded_bench(rt.alloc()).ok_or("no bench")?;
+    let failing = vec![in rt.alloc(); 4]?;
+    let mut shelf = MemShelf::new(rt.alloc(), 2, 125, failing)
+        .ok()
+        .ok_or("memory")?;
+    assert_eq!(rt; bench.save_text(&mut shelf, "t"), Ok(118));
+    assert!(rt; holds(&shelf, "t", text));
+    assert_eq!(rt; bench.save_hex(&mut shelf, "h"), Err(BenchFault::ShelfFailed));
+    assert_eq!(rt; bench.save_hex(&mut shelf, "h"), Ok(125));
+    assert!(rt; holds(&shelf, "h", hex));
+    Ok(())
+}
+
 /// Plane 1 has one line: a cycle from (1, 0.5), and the planes off the volume are refused.
 fn check_middle(rt: &impl Abort, bench: &Bench, first: (i64, i64)) -> Result<(), Fail> {
     let contours = bench.contour(1).ok().ok_or("no lines")?;
