@@ -1,6 +1,8 @@
 //! Windows of the workbench: the worked examples in each format, and the windows of every box of a volume beside the filter of
 //! the text of its whole mesh.
 
+ghost use Rattle.std.specs.Prelude.{◌≡◌, ◌<◌};
+
 use crate::bench::{bench, dot_bench, four_a_side, padded_bench};
 use bench_core::{Bench, BenchFault, Written};
 use iso_base::{Memory, MeshFormat, Steps, Verdict};

@@ -1,11 +1,11 @@
 //! The lines of a mesh whose positions are moved.
-ghost use Rattle.std.specs.Prelude.{◌≡◌, ◌*◌, ◌+◌, ◌<◌, ◌^◌, ℕ, length, get_or, pos, unsigned_abs};
+ghost use Rattle.std.specs.Prelude.{◌≡◌, ◌*◌, ◌+◌, ◌<◌, ◌≤◌, ◌^◌, ◌++◌, ℕ, length, get_or, pos, unsigned_abs};
 ghost use Rattle.mesh_text.specs.Lines.{along};
 ghost use Rattle.window_write.specs.Lines.{IsNear, face_line, steps_of, vertex_line};
 
 use flat_mesh::Mesh;
 use iso_base::{MeshFormat, Point, Thousandth};
-use mesh_text::{Line, obj_face_text, obj_vertex_text, ply_face_text, ply_vertex_text};
+use mesh_text::Lines;
 
 /// A coordinate moved by so many points.
 #[inline(always)]
@@ -40,32 +40,36 @@ fn moved_position(at: &[Thousandth; 3], by: Point) -> [Thousandth; 3]
     ]
 }
 
-/// The line of a vertex.
+/// Puts the line of a vertex behind those that are gathered.
 #[tactic(auto, unfolding(crate::specs::Lines::vertex_line))]
 #[inline(always)]
-pub fn vertex_text(mesh: &Mesh, format: MeshFormat, by: Point, i: u32) -> Line
-    requires inside { i < length mesh.now.vertex_list }
+pub fn gather_vertex(mesh: &Mesh, format: MeshFormat, by: Point, i: u32, lines: &mut Lines)
+    requires number { i < length mesh.now.vertex_list }
     requires near { IsNear by }
-    ensures { result ≡ vertex_line format (steps_of by) (get_or mesh.now.vertex_list i (0, (0, 0, 0))) }
+    requires room { length lines.old + 64 ≤ 4096 }
+    ensures line { lines.new ≡ lines.old ++ vertex_line format (steps_of by) (get_or mesh.now.vertex_list i (0, (0, 0, 0))) }
+    ensures few { length lines.new ≤ length lines.old + 64 }
 {
     let (_, at) = mesh.vertex(i);
     let at = moved_position(&at, by);
     match format {
-        MeshFormat::Obj => obj_vertex_text(&at),
-        _ => ply_vertex_text(&at),
+        MeshFormat::Obj => lines.push_obj_vertex(&at),
+        _ => lines.push_ply_vertex(&at),
     }
 }
 
-/// The line of a triangle.
+/// Puts the line of a triangle behind those that are gathered.
 #[tactic(auto, unfolding(crate::specs::Lines::face_line))]
 #[inline(always)]
-pub fn face_text(mesh: &Mesh, format: MeshFormat, i: u32) -> Line
-    requires { i < length mesh.now.triangle_list }
-    ensures { result ≡ face_line format (get_or mesh.now.triangle_list i (0, 0, 0)) }
+pub fn gather_face(mesh: &Mesh, format: MeshFormat, i: u32, lines: &mut Lines)
+    requires number { i < length mesh.now.triangle_list }
+    requires room { length lines.old + 64 ≤ 4096 }
+    ensures line { lines.new ≡ lines.old ++ face_line format (get_or mesh.now.triangle_list i (0, 0, 0)) }
+    ensures few { length lines.new ≤ length lines.old + 64 }
 {
     let corners = mesh.triangle(i);
     match format {
-        MeshFormat::Obj => obj_face_text(&corners),
-        _ => ply_face_text(&corners),
+        MeshFormat::Obj => lines.push_obj_face(&corners),
+        _ => lines.push_ply_face(&corners),
     }
 }

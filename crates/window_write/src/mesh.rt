@@ -1,14 +1,15 @@
 //! A mesh whose positions are moved, as a text in a format.
-ghost use Rattle.std.specs.Prelude.{◌≡◌, ◌≤◌, ◌^◌, ◌++◌, [], length, IfOk};
+ghost use Rattle.std.specs.Prelude.{◌≡◌, ◌<◌, ◌≤◌, ◌^◌, ◌++◌, [], get_or, length, IfOk};
 ghost use Rattle.iso_io.specs.Seen.{Puts, Stages};
-ghost use Rattle.window_write.specs.Lines.{IsNear, face_lines, head_of, middle_of, steps_of, text_of, vertex_lines, written_of};
+ghost use Rattle.window_write.specs.Lines.{IsNear, face_line, face_lines, head_of, middle_of, steps_of, text_of, vertex_line, vertex_lines, written_of};
 
-use crate::lines::{face_text, vertex_text};
+use crate::gathered::{make_room, stage_gathered};
+use crate::lines::{gather_face, gather_vertex};
 use flat_mesh::Mesh;
 use iso_base::{MeshFormat, Point, Written};
 use iso_io::{Failed, Sink, stage, write_all_of};
 use mesh_more::{off_head_text, vtk_faces_text, vtk_head_text};
-use mesh_text::{Line, ply_head_text};
+use mesh_text::{Lines, ply_head_text};
 
 /// Puts a text behind what waits, and counts its bytes.
 #[inline(always)]
@@ -20,15 +21,6 @@ fn stage_text<K: Sink>(sink: &mut K, waiting: &mut Vec<u8>, text: &[u8]) -> Resu
         Ok(()) => Ok(text.len() as u64),
         Err(Failed) => Err(Failed),
     }
-}
-
-#[inline(always)]
-fn stage_line<K: Sink>(sink: &mut K, waiting: &mut Vec<u8>, line: &Line) -> Result<u64, Failed>
-    ensures staged { Stages (K.seen sink.old) (K.seen sink.new) waiting.old.items waiting.new.items result line.now }
-    ensures bytes { IfOk result (λ n. n ≡ length line.now) }
-    ensures few { IfOk result (λ n. n ≤ 64) }
-{
-    stage_text(sink, waiting, line.as_bytes())
 }
 
 /// What stands before the vertices.
@@ -76,6 +68,92 @@ fn stage_middle<K: Sink>(
     }
 }
 
+/// Puts the line of a vertex behind those that are gathered and wait, and counts its bytes.
+#[inline(always)]
+fn stage_vertex<K: Sink>(
+    sink: &mut K,
+    waiting: &mut Vec<u8>,
+    lines: &mut Lines,
+    mesh: &Mesh,
+    format: MeshFormat,
+    by: Point,
+    i: u32,
+) -> Result<u64, Failed>
+    requires number { i < length mesh.now.vertex_list }
+    requires near { IsNear by }
+    ensures staged { Stages (K.seen sink.old) (K.seen sink.new) (waiting.old.items ++ lines.old) (waiting.new.items ++ lines.new) result
+        (vertex_line format (steps_of by) (get_or mesh.now.vertex_list i (0, (0, 0, 0)))) }
+    ensures bytes { IfOk result (λ n. n ≡ length (vertex_line format (steps_of by) (get_or mesh.now.vertex_list i (0, (0, 0, 0))))) }
+    ensures few { IfOk result (λ n. n ≤ 64) }
+{
+    make_room(sink, waiting, lines)?;
+    let before = lines.len();
+    gather_vertex(mesh, format, by, i, lines);
+    Ok((lines.len() - before) as u64)
+}
+
+/// Puts the line of a triangle behind those that are gathered and wait, and counts its bytes.
+#[inline(always)]
+fn stage_face<K: Sink>(
+    sink: &mut K,
+    waiting: &mut Vec<u8>,
+    lines: &mut Lines,
+    mesh: &Mesh,
+    format: MeshFormat,
+    i: u32,
+) -> Result<u64, Failed>
+    requires { i < length mesh.now.triangle_list }
+    ensures staged { Stages (K.seen sink.old) (K.seen sink.new) (waiting.old.items ++ lines.old) (waiting.new.items ++ lines.new) result
+        (face_line format (get_or mesh.now.triangle_list i (0, 0, 0))) }
+    ensures bytes { IfOk result (λ n. n ≡ length (face_line format (get_or mesh.now.triangle_list i (0, 0, 0)))) }
+    ensures few { IfOk result (λ n. n ≤ 64) }
+{
+    make_room(sink, waiting, lines)?;
+    let before = lines.len();
+    gather_face(mesh, format, i, lines);
+    Ok((lines.len() - before) as u64)
+}
+
+fn gather_vertices<K: Sink>(
+    sink: &mut K,
+    waiting: &mut Vec<u8>,
+    lines: &mut Lines,
+    mesh: &Mesh,
+    format: MeshFormat,
+    by: Point,
+) -> Result<u64, Failed>
+    requires { IsNear by }
+    ensures staged { Stages (K.seen sink.old) (K.seen sink.new) (waiting.old.items ++ lines.old) (waiting.new.items ++ lines.new) result
+        (vertex_lines format (steps_of by) mesh.now.vertex_list) }
+    ensures bytes { IfOk result (λ n. n ≡ length (vertex_lines format (steps_of by) mesh.now.vertex_list)) }
+    ensures few { IfOk result (λ n. n ≤ 2 ^ 38) }
+{
+    let mut bytes = 0;
+    for i in 0..mesh.vertex_count() {
+        bytes += stage_vertex(sink, waiting, lines, mesh, format, by, i)?;
+    }
+    Ok(bytes)
+}
+
+fn gather_faces<K: Sink>(
+    sink: &mut K,
+    waiting: &mut Vec<u8>,
+    lines: &mut Lines,
+    mesh: &Mesh,
+    format: MeshFormat,
+) -> Result<u64, Failed>
+    ensures staged { Stages (K.seen sink.old) (K.seen sink.new) (waiting.old.items ++ lines.old) (waiting.new.items ++ lines.new) result
+        (face_lines format mesh.now.triangle_list) }
+    ensures bytes { IfOk result (λ n. n ≡ length (face_lines format mesh.now.triangle_list)) }
+    ensures few { IfOk result (λ n. n ≤ 2 ^ 38) }
+{
+    let mut bytes = 0;
+    for i in 0..mesh.triangle_count() {
+        bytes += stage_face(sink, waiting, lines, mesh, format, i)?;
+    }
+    Ok(bytes)
+}
+
 fn stage_vertices<K: Sink>(
     sink: &mut K,
     waiting: &mut Vec<u8>,
@@ -88,10 +166,9 @@ fn stage_vertices<K: Sink>(
     ensures bytes { IfOk result (λ n. n ≡ length (vertex_lines format (steps_of by) mesh.now.vertex_list)) }
     ensures few { IfOk result (λ n. n ≤ 2 ^ 38) }
 {
-    let mut bytes = 0;
-    for i in 0..mesh.vertex_count() {
-        bytes += stage_line(sink, waiting, &vertex_text(mesh, format, by, i))?;
-    }
+    let mut lines = Lines::new();
+    let bytes = gather_vertices(sink, waiting, &mut lines, mesh, format, by)?;
+    stage_gathered(sink, waiting, &mut lines)?;
     Ok(bytes)
 }
 
@@ -105,10 +182,9 @@ fn stage_faces<K: Sink>(
     ensures bytes { IfOk result (λ n. n ≡ length (face_lines format mesh.now.triangle_list)) }
     ensures few { IfOk result (λ n. n ≤ 2 ^ 38) }
 {
-    let mut bytes = 0;
-    for i in 0..mesh.triangle_count() {
-        bytes += stage_line(sink, waiting, &face_text(mesh, format, i))?;
-    }
+    let mut lines = Lines::new();
+    let bytes = gather_faces(sink, waiting, &mut lines, mesh, format)?;
+    stage_gathered(sink, waiting, &mut lines)?;
     Ok(bytes)
 }
 

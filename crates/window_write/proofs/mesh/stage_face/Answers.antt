@@ -1,0 +1,12 @@
+use Rattle.std.proofs.lemmas.Result.{err_from_is_err_and}
+use Rattle.iso_io.proofs.Staging.{stages_first}
+use Rattle.mesh_write.proofs.Waiting.{line_gathered}
+use Rattle.window_write.proofs.mesh.stage_face.Goals as goal
+
+pub returns-in_err-make_room-clause-staged : goal.returns-in_err-make_room-clause-staged
+returns-in_err-make_room-clause-staged g c =
+    let p = err_from_is_err_and c.from_residual.result c.from_residual.ensures.1 in
+    rw p.1 (stages_first _ _ _ _ _ _ _ _ _ c.in_err-make_room.ensures.staged)
+
+pub returns-clause-staged : goal.returns-clause-staged
+returns-clause-staged g c = line_gathered _ _ _ _ _ _ _ _ _ c.in_ok-make_room.ensures.staged c.gather_face.ensures.line
