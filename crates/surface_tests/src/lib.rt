@@ -22,6 +22,8 @@ mod lists;
 #[cfg(test)]
 mod loops;
 #[cfg(test)]
+mod measures;
+#[cfg(test)]
 mod places;
 #[cfg(test)]
 mod reports;

@@ -1,6 +1,6 @@
 //! Triangles of the examples.
 
-ghost use Rattle.std.specs.Prelude.{◌≤◌, length, All, IfOk};
+ghost use Rattle.std.specs.Prelude.{◌≡◌, ◌≤◌, length, All, IfOk};
 ghost use Rattle.iso_defs.specs.Manifold.{HasThreeCorners};
 ghost use Rattle.iso_base.specs.Triangles.{triangle_of};
 
@@ -27,6 +27,7 @@ pub fn surface_of(
     alloc: Global,
     triangles: &[[u32; 3]],
 ) -> Result<TriangleList, Fail>
+    ensures vertices { IfOk result (λ m. m.vertex_count ≡ 9) }
     ensures few { IfOk result (λ m. length m.triangles ≤ 9) }
     ensures different { IfOk result (λ m. All (λ t. HasThreeCorners (triangle_of t)) m.triangles) }
 {

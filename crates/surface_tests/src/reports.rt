@@ -1,7 +1,7 @@
 //! Tests of `mesh_report`.
 
 use crate::lists::{TETRAHEDRON, surface_of};
-use mesh_report::{Part, Report, report};
+use mesh_report::{Part, Report, parts_of, report};
 use std::alloc::Global;
 use std::process::Abort;
 use std::test::Fail;
@@ -39,6 +39,14 @@ fn two_triangles_apart(rt: HostRuntime) -> Result<(), Fail> {
         report.parts(),
         [part(1, 3, 3, 1, 3, 1), part(2, 3, 3, 1, 3, 1)].as_slice()
     );
+    Ok(())
+}
+
+#[test]
+fn the_component_of_each_vertex(rt: HostRuntime) -> Result<(), Fail> {
+    let triangles = surface_of(&rt, rt.alloc(), &[[8, 5, 2], [7, 1, 4]])?;
+    let parts = parts_of(rt.alloc(), &triangles)?;
+    assert_eq!(rt; parts.as_slice(), [0, 1, 2, 3, 1, 2, 6, 1, 2].as_slice());
     Ok(())
 }
 

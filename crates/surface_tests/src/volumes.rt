@@ -35,6 +35,16 @@ pub fn one_above(alloc: Global, sizes: Sizes) -> Result<VoxelList, Memory>
     Ok(volume)
 }
 
+/// The middle of three by three by three samples is 0, and the others are 10.
+pub fn one_below(alloc: Global, sizes: Sizes) -> Result<VoxelList, Memory>
+    requires { sizes ≡ record { nx = 3; ny = 3; nz = 3 } }
+{
+    let samples = vec![in alloc; 10; 27]?;
+    let mut volume = VoxelList::of(VoxelData::new(sizes, SampleKind::U8, samples));
+    volume.set(Point { x: 1, y: 1, z: 1 }, 0);
+    Ok(volume)
+}
+
 #[test]
 fn boxes_of_corners(rt: HostRuntime) -> Result<(), Fail> {
     let sizes = two_a_side().ok_or("2, 2 and 2 are sizes")?;

@@ -1,0 +1,209 @@
+//! Tests of `measure` and `mesh_measures`.
+
+ghost use Rattle.std.specs.Prelude.{◌≡◌, ◌^◌, ◌↔◌, IsTrue, None, IfOk, IfSome};
+ghost use Rattle.iso_defs.specs.Grid.{Grid};
+ghost use Rattle.iso_base.specs.Samples.{IsOfKind};
+ghost use Rattle.iso_base.specs.Volume.{Volume};
+ghost use Rattle.iso_base.specs.declared.kind.SampleKind.TheVariants.{U8};
+ghost use Rattle.measure.specs.Positions.{IsWithin, vector_of};
+
+use crate::grids::{three_a_side, two_a_side};
+use crate::lists::{TETRAHEDRON, surface_of};
+use crate::volumes::{one_above, one_below};
+use iso_base::{Level, Memory, Point, SampleKind, Sizes, VoxelData, point_of};
+use measure::{Measures, Share, measure};
+use mesh_measures::mesh_measures;
+use std::alloc::Global;
+use std::process::Abort;
+use std::test::Fail;
+use voxel_list::VoxelList;
+
+/// The share of a part without border, whose least vertex is 0.
+fn closed(six: i128) -> Share {
+    Share {
+        least: 0,
+        six,
+        area: [0; 3],
+        border: 0,
+    }
+}
+
+fn is_small(p: &[i64; 3]) -> bool
+    ensures { IsTrue result ↔ IsWithin (2 ^ 21) (vector_of p.now) }
+{
+    p[0].unsigned_abs() <= 2_097_152
+        && p[1].unsigned_abs() <= 2_097_152
+        && p[2].unsigned_abs() <= 2_097_152
+}
+
+fn measured(
+    rt: &impl Abort,
+    alloc: Global,
+    triangles: &[[u32; 3]],
+    at: &[[i64; 3]; 9],
+) -> Result<Measures, Fail> {
+    assert!(rt; at.iter().all(|p| is_small(p)));
+    Ok(measure(alloc, &surface_of(rt, alloc, triangles)?, at)?)
+}
+
+#[test]
+fn corners_far_from_the_origin(rt: HostRuntime) -> Result<(), Fail> {
+    let far = 2_097_000;
+    let mut at = [[0; 3]; 9];
+    at[0] = [far, far, -far];
+    at[1] = [far + 2, far, -far];
+    at[2] = [far, far + 3, -far];
+    at[3] = [far, far, -far + 5];
+    at[4] = [2_097_152, 2_097_152, -2_097_152];
+    at[5] = [-2_097_152, 2_097_152, 2_097_152];
+    at[6] = [2_097_152, -2_097_152, 2_097_152];
+    let [a, b, c, d] = TETRAHEDRON;
+    let triangle = Share {
+        least: 4,
+        six: -36_893_488_147_419_103_232,
+        area: [-17_592_186_044_416; 3],
+        border: 3,
+    };
+    let measures = measured(&rt, rt.alloc(), &[a, b, [5, 4, 6], c, d], &at)?;
+    assert_eq!(rt; measures.shares(), [closed(-30), triangle].as_slice());
+    let [a, b, c, d] = TETRAHEDRON.map(|[x, y, z]| [y, x, z]);
+    let turned = measured(&rt, rt.alloc(), &[a, b, c, d], &at)?;
+    assert_eq!(rt; turned.shares(), [closed(30)].as_slice());
+    Ok(())
+}
+
+/// Eight samples, with one value for the first and one for the others.
+fn eight(alloc: Global, sizes: Sizes, first: i64, others: i64) -> Result<VoxelList, Memory>
+    requires sizes { sizes ≡ record { nx = 2; ny = 2; nz = 2 } }
+    requires first { IsOfKind U8 first }
+    requires others { IsOfKind U8 others }
+    ensures { IfOk result (λ v. v.pad ≡ None) }
+{
+    let samples = vec![in alloc;
+        first, others, others, others, others, others, others, others,
+    ]?;
+    Ok(VoxelList::of(VoxelData::new(sizes, SampleKind::U8, samples)))
+}
+
+/// The measures of the mesh of a volume at level 5.
+fn measured_at_5(alloc: Global, volume: &VoxelList) -> Result<Measures, Fail> {
+    let level = Level::new(5_000).ok_or("5 is a level")?;
+    Ok(mesh_measures(alloc, volume, level)?)
+}
+
+#[test]
+fn one_corner_has_a_border(rt: HostRuntime) -> Result<(), Fail> {
+    let sizes = two_a_side().ok_or("2, 2 and 2 are sizes")?;
+    let volume = eight(rt.alloc(), sizes, 10, 0)?;
+    let corner = Share {
+        least: 0,
+        six: 125_000_000,
+        area: [250_000; 3],
+        border: 3,
+    };
+    let measures = measured_at_5(rt.alloc(), &volume)?;
+    assert_eq!(rt; measures.shares(), [corner].as_slice());
+    let sizes = two_a_side().ok_or("2, 2 and 2 are sizes")?;
+    let nothing = eight(rt.alloc(), sizes, 0, 0)?;
+    assert!(rt; measured_at_5(rt.alloc(), &nothing)?.shares().is_empty());
+    Ok(())
+}
+
+#[test]
+fn above_and_below_exchanged(rt: HostRuntime) -> Result<(), Fail> {
+    let sizes = three_a_side().ok_or("3, 3 and 3 are sizes")?;
+    let measures = measured_at_5(rt.alloc(), &one_above(rt.alloc(), sizes)?)?;
+    assert_eq!(rt; measures.shares(), [closed(1_000_000_000)].as_slice());
+    let sizes = three_a_side().ok_or("3, 3 and 3 are sizes")?;
+    let measures = measured_at_5(rt.alloc(), &one_below(rt.alloc(), sizes)?)?;
+    assert_eq!(rt; measures.shares(), [closed(-1_000_000_000)].as_slice());
+    Ok(())
+}
+
+#[test]
+fn a_block_in_a_pad(rt: HostRuntime) -> Result<(), Fail> {
+    let sizes = two_a_side().ok_or("2, 2 and 2 are sizes")?;
+    let volume = eight(rt.alloc(), sizes, 10, 10)?.padded(rt.alloc(), 0)?;
+    let measures = measured_at_5(rt.alloc(), &volume)?;
+    assert_eq!(rt; measures.shares(), [closed(34_000_000_000)].as_slice());
+    Ok(())
+}
+
+/// Shapes about the middle of a grid of 13 by 13 by 7 points.
+#[derive(Clone, Copy)]
+enum Shape {
+    /// As wide as the grid along x, so that it lies against the pad there.
+    Box,
+    Ball,
+    /// Round the z axis.
+    Torus,
+}
+
+impl Shape {
+    fn holds(self, point: Point) -> bool {
+        let x = f64::from(point.x) - 6.0;
+        let y = f64::from(point.y) - 6.0;
+        let z = f64::from(point.z) - 3.0;
+        match self {
+            Shape::Box => y.abs() <= 3.0 && z.abs() <= 2.0,
+            Shape::Ball => x * x + y * y + z * z <= 12.0,
+            Shape::Torus => {
+                let tube = (x * x + y * y).sqrt() - 4.0;
+                tube * tube + z * z <= 5.0
+            }
+        }
+    }
+}
+
+/// Sets the samples in a shape to 10.
+fn put_shape(volume: &mut VoxelList, shape: Shape)
+    requires kind { volume.old.kind ≡ U8 }
+    requires pad { volume.old.pad ≡ None }
+    ensures { volume.new.pad ≡ None }
+{
+    let sizes = volume.sizes();
+    for i in 0..sizes.count() {
+        let point = point_of(&sizes, i);
+        if shape.holds(point) {
+            volume.set(point, 10);
+        }
+    }
+}
+
+fn grid() -> Option<Sizes>
+    ensures { IfSome result (λ g. g ≡ record { nx = 13; ny = 13; nz = 7 }) }
+{
+    Sizes::new(13, 13, 7).ok()
+}
+
+fn zeros(alloc: Global, sizes: Sizes) -> Result<VoxelList, Memory>
+    requires { sizes ≡ record { nx = 13; ny = 13; nz = 7 } }
+    ensures kind { IfOk result (λ v. v.kind ≡ U8) }
+    ensures pad { IfOk result (λ v. v.pad ≡ None) }
+{
+    let samples = vec![in alloc; 0; 1183]?;
+    Ok(VoxelList::of(VoxelData::new(sizes, SampleKind::U8, samples)))
+}
+
+/// In a pad of 0, a shape is one closed part, whose volume is that of its voxels but for a twentieth: the mesh cuts their
+/// edges and corners off.
+fn expect_volume(rt: &impl Abort, alloc: Global, shape: Shape) -> Result<(), Fail> {
+    let mut volume = zeros(alloc, grid().ok_or("13, 13 and 7 are sizes")?)?;
+    put_shape(&mut volume, shape);
+    let voxels = volume.samples().iter().filter(|s| **s == 10).count() as u128;
+    let measures = measured_at_5(alloc, &volume.padded(alloc, 0)?)?;
+    for share in measures.shares() {
+        assert_eq!(rt; *share, closed(share.six));
+        let lost = share.six.abs_diff(6_000_000_000 * voxels as i128);
+        assert!(rt; lost <= 300_000_000 * voxels);
+    }
+    assert_eq!(rt; measures.shares().len(), 1);
+    Ok(())
+}
+
+#[test]
+fn volumes_are_about_the_count_of_voxels(rt: HostRuntime) -> Result<(), Fail> {
+    expect_volume(&rt, rt.alloc(), Shape::Box)?;
+    expect_volume(&rt, rt.alloc(), Shape::Ball)?;
+    expect_volume(&rt, rt.alloc(), Shape::Torus)
+}
