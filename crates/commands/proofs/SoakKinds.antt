@@ -1,5 +1,5 @@
 -- Of the lines of the soak script, memory may be wanting for its fills alone.
-use Rattle.std.proofs.Common.{◌≡◌, ℕ, zero, suc, ◌+◌, ◌%◌, Bool, true, false, cond, List, [], ◌∷◌, ◌++◌, Ok, Err, refl, length, subst}
+use Rattle.std.proofs.Common.{◌≡◌, ℕ, zero, suc, ◌+◌, ◌%◌, Bool, true, false, List, [], ◌∷◌, ◌++◌, Ok, Err, refl, length, subst}
 use Rattle.std.specs.Prelude.{Option, Some, None, nat_lt, if◌then◌else◌, codes, ◌==◌}
 use Rattle.text_lines.specs.Parts.{◌>>=◌}
 use Rattle.volume_gen.specs.Steps.{drawn, step}

@@ -1,9 +1,8 @@
 -- Lines of a soak that are run one after another.
-use Rattle.std.proofs.Common.{◌≡◌, ℕ, ◌+◌, ◌≤◌, ◌<◌, Bool, true, false, cond, List, [], ◌∷◌, ◌++◌, Ok, Err, refl, sym, ap, subst, ◌∙◌, append_assoc, arith, inl, inr}
+use Rattle.std.proofs.Common.{◌≡◌, ℕ, ◌+◌, ◌≤◌, Bool, true, false, List, [], ◌∷◌, ◌++◌, Ok, Err, refl, sym, ap, subst, ◌∙◌, append_assoc, arith}
 use Rattle.std.specs.Prelude.{Option, Some, None, if◌then◌else◌}
 use Rattle.std.specs.Io.KnownBytes.{Appends}
 use Rattle.std.proofs.lemmas.List.{append-nil}
-use Rattle.iso_io.specs.Causes.{Rose}
 use Rattle.iso_io.specs.Files.{Files}
 use Rattle.iso_io.specs.Seen.{Tape}
 use Rattle.iso_io.proofs.Known.{Appends-nil, Appends-trans}
@@ -12,12 +11,11 @@ use Rattle.iso_defs.specs.Texts.{line}
 use Rattle.script.specs.Commands.{read_of}
 use Rattle.script.specs.Replies.{line_fault_text}
 use Rattle.script.specs.declared.command.Command.{Command}
-use Rattle.script.specs.declared.command.LineFault.{LineFault}
 use Rattle.session.specs.Following.{LineTurn}
 use Rattle.session.specs.Kept.{Kept, KeptLine, Scene}
 use Rattle.session.specs.Lines.{Saying}
-use Rattle.session.specs.Loop.{PutAll, TakesTurn}
-use Rattle.session.specs.Worlds.{CountsBy, World, is_shelf_error, joined, scene_of, shelf_errors}
+use Rattle.session.specs.Loop.{TakesTurn}
+use Rattle.session.specs.Worlds.{CountsBy, World, joined, scene_of, shelf_errors}
 use Rattle.session.proofs.Running.{joined-append, kept_both, line_no_error}
 use Rattle.commands.specs.Soaking.{HasNoWant, RanQuietly, Shows, SoakBreaks, Soaks, SoaksLine, is_ply, is_want, may_want, shown, shown_by}
 use Rattle.commands.specs.declared.soak.Pace.{Pace}

@@ -1,11 +1,10 @@
 -- How a soak ends, and what it leaves.
-use Rattle.std.proofs.Common.{◌≡◌, ◌⊎◌, ℕ, List, [], ◌∷◌, ◌++◌, Some, None, MatchOption, refl, sym, ap, ◌∙◌, subst, inl, inr}
+use Rattle.std.proofs.Common.{◌≡◌, ◌⊎◌, ℕ, List, [], ◌∷◌, ◌++◌, Some, MatchOption, refl, sym, ap, subst, inl, inr}
 use Rattle.std.specs.Prelude.{Option}
 use Rattle.iso_io.specs.Causes.{Rose}
 use Rattle.bench_core.specs.Keeping.{Workbench, first_bench}
 use Rattle.volume_gen.specs.Soak.{soak_lines}
-use Rattle.session.specs.Kept.{Kept}
-use Rattle.session.specs.Worlds.{World, scene_of, world}
+use Rattle.session.specs.Worlds.{World, world}
 use Rattle.commands.specs.Outcome.{Call}
 use Rattle.commands.specs.Sessions.{world_after}
 use Rattle.commands.specs.Soaking.{DoesSoak, RunsLines, SoakLeaves, SoakLedTo, soak_level, soak_limits, soak_volume, soak_world}

@@ -1,6 +1,6 @@
 -- What is known of a line for which memory was wanting.
-use Rattle.std.proofs.Common.{◌≡◌, inl, inr, ℕ, Bool, true, false, cond, List, [], ◌∷◌, ◌++◌, Result, Ok, Err, MatchResult, refl, sym, ap, subst, ◌∙◌, codes, take}
-use Rattle.std.specs.Prelude.{Option, Some, None, bytes_eq, is_some, not, if◌then◌else◌, ℤ}
+use Rattle.std.proofs.Common.{◌≡◌, inl, inr, ℕ, Bool, true, false, List, [], ◌∷◌, Result, Ok, Err, MatchResult, refl, sym, ap, ◌∙◌, codes}
+use Rattle.std.specs.Prelude.{Option, Some, None, is_some, not, if◌then◌else◌, ℤ}
 use Rattle.std.proofs.lemmas.Slice.Eq.{bytes_eq-Decides}
 use Rattle.iso_base.specs.declared.fault.BenchFault.{BenchFault}
 use Rattle.iso_base.specs.declared.fault.BenchFault.TheVariants as faults
@@ -10,7 +10,7 @@ use Rattle.iso_base.specs.declared.point.Point.{Point}
 use Rattle.iso_io.specs.Files.{Files}
 use Rattle.mesh_cache.specs.Cache.{Cache}
 use Rattle.voxel_list.specs.Areas.{Area}
-use Rattle.bench_core.specs.Keeping.{Workbench, without_points}
+use Rattle.bench_core.specs.Keeping.{without_points}
 use Rattle.bench_core.specs.Machine.{Entry, State, checked_level, level_by, pad_fault, redo_by, set_at, undo_by, unless_fault, value_fault}
 use Rattle.bench_core.specs.Texts.{contour_of}
 use Rattle.inner_volume.specs.Places.{place_of}
@@ -20,7 +20,7 @@ use Rattle.script.specs.declared.command.LineFault.{LineFault}
 use Rattle.script.specs.declared.command.LineFault.TheVariants.{Syntax, LineTooLong}
 use Rattle.script.specs.declared.reply.Reply.TheVariants.{Done, Meshed, Saved, Refused, Line}
 use Rattle.script.specs.Replies.{fault_text, line_fault_text, saved_text, written_text}
-use Rattle.session.specs.Kept.{CommandKeeps, Scene, area_of, is_done}
+use Rattle.session.specs.Kept.{CommandKeeps, Scene, is_done}
 use Rattle.session.specs.Responses.{response_text}
 use Rattle.session.specs.Table.{Turn, after_writing, may_want_memory, says_of, step_of, writes_of}
 use Rattle.session.specs.declared.response.Response.{Response}

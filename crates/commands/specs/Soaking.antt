@@ -1,5 +1,5 @@
 -- What `soak` does: the soak script of a seed, run on the volume that it generates.
-use Rattle.std.specs.Prelude.{◌≡◌, ◌⊎◌, ℕ, ◌≤◌, Bool, true, false, if◌then◌else◌, List, [], ◌∷◌, ◌++◌, bytes_eq, codes, Option, Some, None, Ok, MatchOption, ℤ, pos}
+use Rattle.std.specs.Prelude.{◌≡◌, ◌⊎◌, ℕ, ◌≤◌, Bool, true, false, if◌then◌else◌, List, [], ◌∷◌, ◌++◌, bytes_eq, codes, Some, None, Ok, MatchOption, ℤ, pos}
 use Rattle.std.specs.Io.KnownBytes.{Appends}
 use Rattle.iso_defs.specs.Grid.{Grid}
 use Rattle.iso_base.specs.Volume.{Volume, unpadded}
