@@ -15,7 +15,7 @@ use Rattle.command_words.specs.Options.{only_options, plain_words, values}
 use Rattle.mesh_text.specs.declared.format.TwoWayFormat.{TwoWayFormat}
 use Rattle.mesh_text.specs.declared.format.TwoWayFormat.TheVariants.{Ply, Obj}
 use Rattle.command_words.specs.declared.request.Request.{Request}
-use Rattle.command_words.specs.declared.request.Request.TheVariants.{Points, Extract, Session, Check, Gen}
+use Rattle.command_words.specs.declared.request.Request.TheVariants.{Points, Extract, Session, Check, Gen, Soak}
 
 -- ---- values
 
@@ -173,6 +173,10 @@ gen_by (seed ∷ words) = do
 unfoldable pub gen_of : List (List ℕ) → Option Request
 gen_of words = if only_options [] words then gen_by words else None
 
+-- `soak SEED`
+unfoldable pub soak_of : List (List ℕ) → Option Request
+soak_of words = if only_options [] words then option_map Soak (the_only whole_of (plain_words words)) else None
+
 -- the request of a whole command line, by its first word
 unfoldable pub request_of : List (List ℕ) → Option Request
 request_of [] = None
@@ -182,6 +186,7 @@ request_of (command ∷ words) =
     if bytes_eq command (codes "session") then session_of words else
     if bytes_eq command (codes "check") then check_of words else
     if bytes_eq command (codes "gen") then gen_of words else
+    if bytes_eq command (codes "soak") then soak_of words else
     None
 
 -- a pad that is asked for lies in the range of a sample

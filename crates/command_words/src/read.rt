@@ -4,7 +4,7 @@ ghost use Rattle.std.specs.Prelude.{◌≡◌, ◌≤◌, map, string_bytes, IfS
 ghost use Rattle.iso_base.specs.Samples.{IsSample};
 ghost use Rattle.command_words.specs.Words.{level_value, pad_value, format_value, count_value, sizes_value};
 ghost use Rattle.command_words.specs.Words.{level_in, pad_in, format_in, bricks_in, pages_in, sizes_in};
-ghost use Rattle.command_words.specs.Words.{points_of, extract_of, session_of, check_of, gen_of, request_of, HasSamplePad, HasCapacity};
+ghost use Rattle.command_words.specs.Words.{points_of, extract_of, session_of, check_of, gen_of, soak_of, request_of, HasSamplePad, HasCapacity};
 
 use crate::options::{Found, only_options, plain_word, value_of};
 use crate::request::Request;
@@ -240,6 +240,22 @@ fn generation(words: &[String]) -> Option<Request>
     Some(Request::Gen { seed, sizes })
 }
 
+#[tactic(auto, unfolding(crate::specs::Words::soak_of))]
+fn soak(words: &[String]) -> Option<Request>
+    ensures value { result ≡ soak_of (map string_bytes words.now) }
+    ensures pads { IfSome result HasSamplePad }
+    ensures capacity { IfSome result HasCapacity }
+{
+    if !only_options(words, &[]) {
+        return None;
+    }
+    let Found::Once(word) = plain_word(words) else {
+        return None;
+    };
+    let seed = whole(word)?;
+    Some(Request::Soak { seed })
+}
+
 /// What the words ask for; none exactly where they are no command line. The first word is the command. A later word that
 /// begins with `-` is an option `--name=value`, in any order, each at most once; all others are plain words.
 /// The words do not hold the program's name.
@@ -261,6 +277,8 @@ pub fn read_words(words: &[String]) -> Option<Request>
         check(words)
     } else if command == b"gen".as_slice() {
         generation(words)
+    } else if command == b"soak".as_slice() {
+        soak(words)
     } else {
         None
     }

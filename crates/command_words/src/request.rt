@@ -33,4 +33,8 @@ pub enum Request {
         seed: u64,
         sizes: Sizes,
     },
+    /// The soak script of a seed, over the volume that it generates.
+    Soak {
+        seed: u64,
+    },
 }

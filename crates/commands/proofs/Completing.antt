@@ -27,6 +27,7 @@ use Rattle.endings.specs.declared.answer.Answer.{Answer}
 use Rattle.endings.specs.declared.answer.Answer.TheVariants as answers
 use Rattle.endings.specs.declared.answer.Status.TheVariants as statuses
 use Rattle.commands.proofs.Told.{at_told, if_told}
+use Rattle.commands.proofs.Soaks.{soaked_whole}
 
 abbrev IsDoneOrMemory : Answer → Type 0
 IsDoneOrMemory a = (status_of a ≡ statuses.Done) ⊎ (status_of a ≡ statuses.Memory)
@@ -138,6 +139,7 @@ served (requests.Points level) call a h can reads writes = converted (points_giv
 served (requests.Extract level pad format) call a h can reads writes = converted (mesh_given level pad format) call.streams a can.0 can.1 h.0 can.2.told can.2.within can.3 reads writes
 served (requests.Session level pad name bricks pages) call a h can reads writes = sessions (asked_for level pad name bricks pages) call a can.0 can.1 can.2 can.3 h can.4.told can.4.within can.5 can.6 can.7 can.8 reads writes
 served (requests.Gen seed sizes) call a h can reads writes = generates seed sizes call.streams a h.0.0 writes
+served (requests.Soak seed) call a h can reads writes = soaked_whole seed call a h writes
 served (requests.Check format) call a h can reads writes = checked format call.streams a can.0 can.1 h.0 can.2.told can.2.within can.3 reads writes
 
 same_request : (a b : Request) → Some a ≡ Some b → a ≡ b

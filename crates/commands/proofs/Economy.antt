@@ -17,7 +17,9 @@ use Rattle.commands.specs.Outcome.{Call, Rejects}
 use Rattle.commands.specs.Serving.{Serves, asked_for}
 use Rattle.commands.specs.SessionMeshes.{WritesReplies}
 use Rattle.commands.specs.Sessions.{Asked, RunsSession, session_between}
+use Rattle.commands.specs.Soaking.{SoakLeaves}
 use Rattle.commands.proofs.Reasons.{same_request}
+use Rattle.commands.proofs.Soaks.{soak_leaves}
 
 -- the replies to lines, what they led to, and what was written of them
 pub record Led (w v : World) (ending : Ending) (lines : List (List ℕ)) : Type 0 where
@@ -60,3 +62,10 @@ pub economy : (o : Option Request) (call : Call) (a : Answer) (level : ℤ) (pad
     → o ≡ Some (requests.Session level pad name bricks pages) → LeavesBench (asked_for level pad name bricks pages) call
 economy None call a level pad name bricks pages h asked = absurd cc
 economy (Some r) call a level pad name bricks pages h asked = left_of r call a level pad name bricks pages (same_request r (requests.Session level pad name bricks pages) asked) h
+
+soak_left : (r : Request) (call : Call) (a : Answer) (seed : ℕ) → r ≡ requests.Soak seed → Serves r call a → SoakLeaves seed call
+soak_left r call a seed e h = soak_leaves seed call a (subst (λ (q : Request). Serves q call a) e h)
+
+pub soak_economy : (o : Option Request) (call : Call) (a : Answer) (seed : ℕ) → MatchOption o (Rejects call a) (λ r. Serves r call a) → o ≡ Some (requests.Soak seed) → SoakLeaves seed call
+soak_economy None call a seed h asked = absurd cc
+soak_economy (Some r) call a seed h asked = soak_left r call a seed (same_request r (requests.Soak seed) asked) h

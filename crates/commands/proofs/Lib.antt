@@ -10,3 +10,7 @@ pub mod Headline
 pub mod Reasons
 pub mod SessionMeshes
 pub mod Economy
+pub mod Wanting
+pub mod Soaked
+pub mod SoakKinds
+pub mod Soaks

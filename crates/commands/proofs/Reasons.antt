@@ -30,6 +30,7 @@ use Rattle.commands.specs.Outcome.{Call, Rejects}
 use Rattle.commands.specs.Serving.{Serves}
 use Rattle.commands.specs.Sessions.{answer_of}
 use Rattle.commands.specs.Volumes.{volume_limit}
+use Rattle.commands.proofs.Soaks.{not_soaked}
 use Rattle.commands.proofs.Told.{if_told}
 
 -- ---- which answers have a status
@@ -181,6 +182,7 @@ served_bad_volume (requests.Session level pad name bricks pages) call f (inl h) 
 served_bad_volume (requests.Session level pad name bricks pages) call f (inr h) = absurd (ends_not (answers.BadVolume f) h.ending h.answer_is (λ e. absurd cc) (λ e. absurd cc) (λ e. absurd cc) (λ e. absurd cc))
 served_bad_volume (requests.Check format) call f h = absurd h.0
 served_bad_volume (requests.Gen seed sizes) call f h = absurd h.0.0
+served_bad_volume (requests.Soak seed) call f h = not_soaked seed call (answers.BadVolume f) tt h
 
 pub why_bad_volume : (r : Request) (call : Call) (a : Answer) → status_of a ≡ statuses.BadVolume → Serves r call a → HasBadVolume r call
 why_bad_volume r call a e h = let w = is_bad_volume a e in served_bad_volume r call w.0 (as_answer r call a (answers.BadVolume w.0) h w.1)
@@ -192,6 +194,7 @@ served_bad_mesh (requests.Session level pad name bricks pages) call f (inl h) = 
 served_bad_mesh (requests.Session level pad name bricks pages) call f (inr h) = absurd (ends_not (answers.BadMesh f) h.ending h.answer_is (λ e. absurd cc) (λ e. absurd cc) (λ e. absurd cc) (λ e. absurd cc))
 served_bad_mesh (requests.Check format) call f h = if_told _ _ call.streams.input.left (λ bytes e. (f, e)) h.0.1
 served_bad_mesh (requests.Gen seed sizes) call f h = absurd h.0.0
+served_bad_mesh (requests.Soak seed) call f h = not_soaked seed call (answers.BadMesh f) tt h
 
 pub why_bad_mesh : (r : Request) (call : Call) (a : Answer) → status_of a ≡ statuses.BadMesh → Serves r call a → HasBadMesh r call
 why_bad_mesh r call a e h = let w = is_bad_mesh a e in served_bad_mesh r call w.0 (as_answer r call a (answers.BadMesh w.0) h w.1)
@@ -203,6 +206,7 @@ served_mesh_refused (requests.Session level pad name bricks pages) call (inl h) 
 served_mesh_refused (requests.Session level pad name bricks pages) call (inr h) = absurd (ends_not answers.MeshRefused h.ending h.answer_is (λ e. absurd cc) (λ e. absurd cc) (λ e. absurd cc) (λ e. absurd cc))
 served_mesh_refused (requests.Check format) call h = if_told _ _ call.streams.input.left (λ bytes v. (h.0.0, h.0.1, v)) h.0.3
 served_mesh_refused (requests.Gen seed sizes) call h = absurd h.0.0
+served_mesh_refused (requests.Soak seed) call h = not_soaked seed call answers.MeshRefused tt h
 
 pub why_mesh_refused : (r : Request) (call : Call) (a : Answer) → status_of a ≡ statuses.MeshRefused → Serves r call a → HasBrokenMesh r call
 why_mesh_refused r call a e h = served_mesh_refused r call (as_answer r call a answers.MeshRefused h (is_mesh_refused a e))
@@ -226,6 +230,7 @@ served_too_long (requests.Session level pad name bricks pages) call (inl h) = su
 served_too_long (requests.Session level pad name bricks pages) call (inr h) = subst (too_many call name) (sym h.left_is) (long_script _ h.ending h.lines h.answer_is h.ends)
 served_too_long (requests.Check format) call h = h.0.0
 served_too_long (requests.Gen seed sizes) call h = absurd h.0.0
+served_too_long (requests.Soak seed) call h = not_soaked seed call answers.InputTooLong tt h
 
 pub why_too_long : (r : Request) (call : Call) (a : Answer) → status_of a ≡ statuses.InputTooLong → Serves r call a → HasTooMany r call
 why_too_long r call a e h = served_too_long r call (as_answer r call a answers.InputTooLong h (is_too_long a e))
@@ -237,6 +242,7 @@ served_shelf_fault (requests.Session level pad name bricks pages) call (inl h) =
 served_shelf_fault (requests.Session level pad name bricks pages) call (inr h) = absurd (ends_not answers.ShelfFault h.ending h.answer_is (λ e. absurd cc) (λ e. absurd cc) (λ e. absurd cc) (λ e. absurd cc))
 served_shelf_fault (requests.Check format) call h = absurd h.0
 served_shelf_fault (requests.Gen seed sizes) call h = absurd h.0.0
+served_shelf_fault (requests.Soak seed) call h = not_soaked seed call answers.ShelfFault tt h
 
 pub why_shelf_fault : (r : Request) (call : Call) (a : Answer) → status_of a ≡ statuses.ShelfFault → Serves r call a → HasNoFile r call
 why_shelf_fault r call a e h = served_shelf_fault r call (as_answer r call a answers.ShelfFault h (is_shelf_fault a e))

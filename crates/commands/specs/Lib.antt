@@ -9,3 +9,4 @@ pub mod Causes
 pub mod Serving
 pub mod SessionMeshes
 pub mod Economy
+pub mod Soaking

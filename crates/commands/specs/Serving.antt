@@ -12,6 +12,7 @@ use Rattle.commands.specs.Headline.{ShowsMesh}
 use Rattle.commands.specs.Meaning.{mesh_given, points_given}
 use Rattle.commands.specs.Outcome.{Call, Converts, LeavesShelf, Rejects}
 use Rattle.commands.specs.Sessions.{Asked, RunsSession}
+use Rattle.commands.specs.Soaking.{DoesSoak}
 use Rattle.commands.specs.Volumes.{volume_limit, volume_of}
 use Rattle.command_words.specs.Words.{request_of}
 use Rattle.command_words.specs.declared.request.Request.{Request}
@@ -31,6 +32,7 @@ Serves (requests.Extract level pad format) call answer = Converts (mesh_given le
 Serves (requests.Session level pad name bricks pages) call answer = RunsSession (asked_for level pad name bricks pages) call answer
 Serves (requests.Check format) call answer = Checks format call.streams answer × LeavesShelf call
 Serves (requests.Gen seed sizes) call answer = Generates seed sizes call.streams answer × LeavesShelf call
+Serves (requests.Soak seed) call answer = DoesSoak seed call answer
 
 -- what a command line does
 abbrev pub Ends : List (List ℕ) → Call → Answer → Type 0
@@ -48,6 +50,7 @@ CanServe (requests.Extract level pad format) call = (bytes : List ℕ) × (text 
 CanServe (requests.Session level pad name bricks pages) call = (script : List ℕ) × (files : Files) × (bytes : List ℕ) × (v : Volume) × Brings call script_limit script
     × (call.store.files ≡ Some files) × (get files name ≡ Some bytes) × (length bytes ≤ volume_limit) × (volume_of pad level bytes ≡ Ok v)
 CanServe (requests.Gen seed sizes) call = Unit {0}
+CanServe (requests.Soak seed) call = Unit {0}
 CanServe (requests.Check format) call = (bytes : List ℕ) × (m : Mesh) × Brings call mesh_limit bytes × (mesh_in format bytes ≡ Ok m)
 
 -- it is carried out, or memory is wanting; a session's volume may have failed to be read, where the shelf's count rose
@@ -57,4 +60,5 @@ IsCarriedOut (requests.Extract level pad format) call status = (status ≡ statu
 IsCarriedOut (requests.Session level pad name bricks pages) call status =
     (status ≡ statuses.Done) ⊎ (status ≡ statuses.Memory) ⊎ ((status ≡ statuses.ShelfFault) × Rose call.store.faults call.store_after.faults)
 IsCarriedOut (requests.Gen seed sizes) call status = (status ≡ statuses.Done) ⊎ (status ≡ statuses.Memory)
+IsCarriedOut (requests.Soak seed) call status = (status ≡ statuses.Done) ⊎ (status ≡ statuses.Memory)
 IsCarriedOut (requests.Check format) call status = (status ≡ statuses.Done) ⊎ (status ≡ statuses.MeshRefused) ⊎ (status ≡ statuses.Memory)

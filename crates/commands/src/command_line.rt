@@ -11,16 +11,18 @@ ghost use Rattle.commands.specs.Economy.{LeavesBench};
 ghost use Rattle.commands.specs.Headline.{HoldsWatertight};
 ghost use Rattle.commands.specs.SessionMeshes.{HoldsWatertightMeshes};
 ghost use Rattle.commands.specs.Outcome.{call_between};
+ghost use Rattle.commands.specs.Soaking.{SoakLeaves};
 ghost use Rattle.commands.specs.Serving.{CanServe, Ends, IsCarriedOut, Serves, asked_for};
 ghost use Rattle.endings.specs.declared.answer.Answer.{Answer};
 ghost use Rattle.command_words.specs.declared.request.Request.{Request};
-ghost use Rattle.command_words.specs.declared.request.Request.TheVariants.{Extract, Session};
+ghost use Rattle.command_words.specs.declared.request.Request.TheVariants.{Extract, Session, Soak};
 
 use crate::checks::check;
 use crate::generate::generate;
 use crate::meshes::extract;
 use crate::points::points;
 use crate::sessions::run_script;
+use crate::soak::soak;
 use bench_core::{Bench, Capacity};
 use command_words::{Request, read_words};
 use endings::{Answer, Status, put_note};
@@ -78,6 +80,7 @@ fn carry_out<S: Source, K: Sink, H: Shelf, L: Ledger>(
         ),
         Request::Check { format } => check(alloc, format, input, output),
         Request::Gen { seed, sizes } => generate(alloc, seed, &sizes, output),
+        Request::Soak { seed } => soak(alloc, seed, output, shelf, left, steps),
     }
 }
 
@@ -163,6 +166,11 @@ pub fn run<S: Source, K: Sink, N: Sink, H: Shelf, L: Ledger>(
     // counter rose by no more than they allow; where none is left, no cell was classified.
     ensures economy { (level : ℤ) (pad : Option ℤ) (name : List ℕ) (bricks pages : ℕ) → request_of (map string_bytes words.now) ≡ Some (Session level pad name bricks pages)
         → LeavesBench (asked_for level pad name bricks pages)
+        (call_between (S.seen input.old) (S.seen input.new) (K.seen output.old) (K.seen output.new)
+        (H.seen shelf.old) (H.seen shelf.new) left.new steps.old steps.new) }
+
+    // So it is with the bench that a soak leaves.
+    ensures soak_economy { (seed : ℕ) → request_of (map string_bytes words.now) ≡ Some (Soak seed) → SoakLeaves seed
         (call_between (S.seen input.old) (S.seen input.new) (K.seen output.old) (K.seen output.new)
         (H.seen shelf.old) (H.seen shelf.new) left.new steps.old steps.new) }
 

@@ -8,6 +8,7 @@ mod generate;
 mod meshes;
 mod points;
 mod sessions;
+mod soak;
 mod volumes;
 
 pub use command_line::run;

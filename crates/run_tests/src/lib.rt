@@ -6,6 +6,12 @@ mod calls;
 #[cfg(test)]
 mod conversions;
 #[cfg(test)]
+mod faults;
+#[cfg(test)]
+mod malformed;
+#[cfg(test)]
+mod noise;
+#[cfg(test)]
 mod scripts;
 #[cfg(test)]
 mod sessions;

@@ -12,7 +12,7 @@ use std::sync::ledger::Blank;
 use std::test::Fail;
 
 /// A volume of as many points along each axis, all 0.
-fn zeros(alloc: Global, head: &[u8], count: usize) -> Result<Vec<u8>, AllocError>
+pub fn zeros(alloc: Global, head: &[u8], count: usize) -> Result<Vec<u8>, AllocError>
     requires { length head.now + count ≤ 2200000 }
     ensures { IfOk result (λ v. length v.items ≡ length head.now + count) }
 {
@@ -30,7 +30,8 @@ fn repeated(alloc: Global, text: &[u8], times: usize) -> Result<Vec<u8>, AllocEr
     Ok(all)
 }
 
-const SEVENTEEN: &[u8] = b"NRRD0004\ntype: uint8\ndimension: 3\nsizes: 17 17 17\nencoding: raw\n\n";
+pub const SEVENTEEN: &[u8] =
+    b"NRRD0004\ntype: uint8\ndimension: 3\nsizes: 17 17 17\nencoding: raw\n\n";
 
 #[test]
 fn an_edit_and_its_undo(rt: HostRuntime) -> Result<(), Fail> {

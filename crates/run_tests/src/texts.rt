@@ -100,6 +100,10 @@ pub const TIE_AT_HALF: &[u8] =
 pub const MOVED_MESH: &[u8] =
     b"ply\nformat ascii 1.0\nelement vertex 6\nproperty float x\nproperty float y\nproperty float z\nelement face 8\nproperty list uchar int vertex_indices\nend_header\n8.000 8.000 7.500\n8.000 7.500 8.000\n7.500 8.000 8.000\n8.500 8.000 8.000\n8.000 8.500 8.000\n8.000 8.000 8.500\n3 2 0 1\n3 3 1 0\n3 2 4 0\n3 3 0 4\n3 2 1 5\n3 3 5 1\n3 2 5 4\n3 3 4 5\n";
 
+/// The same at level 4.
+pub const MESH_AT_FOUR: &[u8] =
+    b"ply\nformat ascii 1.0\nelement vertex 6\nproperty float x\nproperty float y\nproperty float z\nelement face 8\nproperty list uchar int vertex_indices\nend_header\n8.000 8.000 7.400\n8.000 7.400 8.000\n7.400 8.000 8.000\n8.600 8.000 8.000\n8.000 8.600 8.000\n8.000 8.000 8.600\n3 2 0 1\n3 3 1 0\n3 2 4 0\n3 3 0 4\n3 2 1 5\n3 3 5 1\n3 2 5 4\n3 3 4 5\n";
+
 /// Two tetrahedra that meet in vertex 0.
 pub const SPLIT: &[u8] =
     b"ply\nformat ascii 1.0\nelement vertex 7\nproperty float x\nelement face 8\nproperty list uchar int vertex_indices\nend_header\n0\n0\n0\n0\n0\n0\n0\n3 0 1 2\n3 0 2 3\n3 0 3 1\n3 1 3 2\n3 0 4 5\n3 0 5 6\n3 0 6 4\n3 4 6 5\n";

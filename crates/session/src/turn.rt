@@ -135,8 +135,8 @@ fn run_measure(bench: &Bench) -> Response
     }
 }
 
-/// Does what a command asks for.
-fn run_command<H: Shelf, L: Ledger>(
+/// Does what a command asks for. Its reply is not written.
+pub fn run_command<H: Shelf, L: Ledger>(
     bench: &mut Bench,
     shelf: &mut H,
     steps: &mut Steps<L>,

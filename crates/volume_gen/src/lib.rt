@@ -1,10 +1,12 @@
-//! The volume that a seed generates, and the lines of the soak script of a seed.
+//! The volume that a seed generates, as a list and as a file, and the lines of the soak script of a seed.
 #![tactic(auto)]
 
+mod rows;
 mod samples;
 mod script_lines;
 mod soak;
 mod steps;
 
+pub use rows::put_generated;
 pub use samples::generated;
 pub use soak::SoakLines;

@@ -8,7 +8,7 @@ use std::alloc::{AllocError, Global};
 
 /// The sample of the points of a block.
 #[tactic(auto, unfolding(crate::specs::Generated::block_sample))]
-fn block_sample(seed: u64, block: u64) -> u8
+pub fn block_sample(seed: u64, block: u64) -> u8
     ensures { result ≡ block_sample seed block }
 {
     let start = seed.wrapping_add(block.wrapping_mul(11_400_714_819_323_198_485));

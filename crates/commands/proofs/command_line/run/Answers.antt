@@ -1,6 +1,6 @@
 use Rattle.std.proofs.Common.{sym, ◌∙◌}
 use Rattle.commands.proofs.Completing.{completes}
-use Rattle.commands.proofs.Economy.{economy}
+use Rattle.commands.proofs.Economy.{economy, soak_economy}
 use Rattle.commands.specs.Causes.{HasBadMesh, HasBadVolume, HasBrokenMesh, HasNoFile, HasTooMany}
 use Rattle.commands.proofs.Reasons.{asked_and_served, headline, not_rejected, why_bad_mesh, why_bad_volume, why_mesh_refused, why_shelf_fault, why_too_long}
 use Rattle.commands.proofs.SessionMeshes.{session_headline}
@@ -38,3 +38,6 @@ returns-clause-session_headline g c = λ level pad name bricks pages asked. sess
 
 pub returns-clause-economy : goal.returns-clause-economy
 returns-clause-economy g c = λ level pad name bricks pages asked. economy _ _ c.serve-answer.result level pad name bricks pages c.serve-answer.ensures asked
+
+pub returns-clause-soak_economy : goal.returns-clause-soak_economy
+returns-clause-soak_economy g c = λ seed asked. soak_economy _ _ c.serve-answer.result seed c.serve-answer.ensures asked

@@ -1,0 +1,173 @@
+-- What `soak` does: the soak script of a seed, run on the volume that it generates.
+use Rattle.std.specs.Prelude.{◌≡◌, ◌⊎◌, ℕ, ◌≤◌, Bool, true, false, if◌then◌else◌, List, [], ◌∷◌, ◌++◌, bytes_eq, codes, Some, None, Ok, MatchOption, ℤ, pos}
+use Rattle.std.specs.Io.KnownBytes.{Appends}
+use Rattle.iso_defs.specs.Grid.{Grid}
+use Rattle.iso_base.specs.Volume.{Volume, unpadded}
+use Rattle.iso_io.specs.Causes.{Rose}
+use Rattle.iso_io.specs.Seen.{Tape}
+use Rattle.iso_base.specs.declared.fault.BenchFault.TheVariants.{Memory}
+use Rattle.mesh_cache.specs.Cache.{Limits}
+use Rattle.bench_core.specs.Keeping.{Workbench, first_bench}
+use Rattle.volume_gen.specs.Generated.{generated_volume}
+use Rattle.volume_gen.specs.Soak.{soak_lines}
+use Rattle.script.specs.Commands.{read_of}
+use Rattle.script.specs.declared.command.Command.TheVariants.{Fill, Ply}
+use Rattle.script.specs.declared.reply.Reply.TheVariants.{Refused}
+use Rattle.session.specs.Kept.{Kept}
+use Rattle.session.specs.Lines.{Saying}
+use Rattle.session.specs.Loop.{PutAll}
+use Rattle.session.specs.Table.{may_want_memory}
+use Rattle.session.specs.declared.response.Response.{Response}
+use Rattle.session.specs.declared.response.Response.TheVariants.{Line}
+use Rattle.session.specs.Worlds.{CountsBy, World, joined, scene_of, world}
+use Rattle.commands.specs.Outcome.{Call, LeavesShelf, NothingWritten}
+use Rattle.commands.specs.Sessions.{world_after}
+use Rattle.commands.specs.declared.soak.Pace.{Pace}
+use Rattle.commands.specs.declared.soak.Pace.TheVariants.{On, Wanting, Fault}
+use Rattle.endings.specs.declared.answer.Answer.{Answer}
+use Rattle.endings.specs.declared.answer.Answer.TheVariants as answers
+
+-- ---- what it runs on
+
+-- 64 samples along each axis
+abbrev pub soak_sizes : Grid
+soak_sizes = record { nx = 64; ny = 64; nz = 64 }
+
+-- the volume that a seed generates, without a pad
+abbrev pub soak_volume : ℕ → Volume
+soak_volume seed = unpadded (generated_volume seed soak_sizes)
+
+-- the level 128, in thousandths
+abbrev pub soak_level : ℤ
+soak_level = pos 128000
+
+-- as much is kept of the mesh as in a session that does not say
+abbrev pub soak_limits : Limits
+soak_limits = record { bricks = 4096; pages = 65536 }
+
+-- all that the script changes, before it
+abbrev pub soak_world : ℕ → Call → World
+soak_world seed call = world (first_bench (soak_volume seed) soak_level soak_limits) call.steps call.store call.streams.output
+
+-- ---- lines and their replies
+
+-- whether a line asks for the mesh as PLY
+abbrev pub is_ply : Saying → Bool
+is_ply (Ok (Some (Ply name))) = true
+is_ply says = false
+
+-- whether a line fills a box
+abbrev pub is_fill : Saying → Bool
+is_fill (Ok (Some (Fill corners value))) = true
+is_fill says = false
+
+-- the replies that are shown, those to the lines that ask for the mesh as PLY; a blank line and a comment have no reply
+abbrev pub shown_by : Saying → List (List ℕ) → (List (List ℕ) → List (List ℕ)) → List (List ℕ)
+shown_by (Ok None) replies later = later replies
+shown_by says [] later = []
+shown_by says (reply ∷ replies) later = if is_ply says then reply ∷ later replies else later replies
+
+abbrev pub shown : List (List ℕ) → List (List ℕ) → List (List ℕ)
+shown [] replies = []
+shown (line ∷ lines) replies = shown_by (read_of line) replies (shown lines)
+
+-- whether a reply says that memory was wanting
+abbrev pub is_want : List ℕ → Bool
+is_want reply = bytes_eq reply (codes "error 1 memory\n")
+
+-- no reply says so
+abbrev pub HasNoWant : List (List ℕ) → Type 0
+HasNoWant [] = Unit {0}
+HasNoWant (reply ∷ replies) = (is_want reply ≡ false) × HasNoWant replies
+
+-- Lines were run with these replies: none says that memory was wanting, and no more say that the shelf failed than its count
+-- rose by.
+pub record RanQuietly (w v : World) (lines replies : List (List ℕ)) : Type 0 where
+  pub kept : Kept (scene_of w) lines replies (scene_of v)
+  pub no_want : HasNoWant replies
+  pub beside : v.tape.beside ≡ w.tape.beside
+  pub shelf_later : w.store.faults ≤ v.store.faults
+  pub counted : CountsBy w.store.faults v.store.faults replies
+
+-- lines were run, and the replies that are shown were written
+pub record Soaks (w v : World) (lines : List (List ℕ)) : Type 0 where
+  pub replies : List (List ℕ)
+  pub ran : RanQuietly w v lines replies
+  pub written : Appends w.tape.taken v.tape.taken (joined (shown lines replies))
+  pub later : w.tape.faults ≤ v.tape.faults
+
+-- lines were run, the last of which asks for the mesh as PLY, and of the reply to that one only a front was written
+pub record SoakBreaks (w v : World) (lines : List (List ℕ)) : Type 0 where
+  pub before : List (List ℕ)
+  pub line : List ℕ
+  pub parts : lines ≡ before ++ line ∷ []
+  pub ply : is_ply (read_of line) ≡ true
+  pub replies : List (List ℕ)
+  pub reply : List ℕ
+  pub ran : RanQuietly w v lines (replies ++ reply ∷ [])
+  pub front : List ℕ
+  pub back : List ℕ
+  pub cut : reply ≡ front ++ back
+  pub written : Appends w.tape.taken v.tape.taken (joined (shown before replies) ++ front)
+  pub cause : Rose w.tape.faults v.tape.faults
+
+-- ---- how it ends
+
+-- All lines of the script were run; or all before a `fill`, for which memory was wanting; or all up to and with a `ply`,
+-- whose reply could not be written whole.
+abbrev pub RunsLines : List (List ℕ) → World → World → Answer → Type 0
+RunsLines script w v answers.Done = Soaks w v script
+RunsLines script w v answers.Memory = (lines : List (List ℕ)) × (wanting : List ℕ) × (more : List (List ℕ))
+    × (script ≡ lines ++ wanting ∷ more) × (is_fill (read_of wanting) ≡ true) × Soaks w v lines
+RunsLines script w v answers.OutputFault = (lines : List (List ℕ)) × (more : List (List ℕ)) × (script ≡ lines ++ more) × SoakBreaks w v lines
+RunsLines script w v answer = ⊥
+
+-- memory was wanting before the first line
+pub record StaysIdle (call : Call) (answer : Answer) : Type 0 where
+  pub answer_is : answer ≡ answers.Memory
+  pub nothing_written : NothingWritten call.streams
+  pub shelf : LeavesShelf call
+
+-- lines of the script were run on the generated volume, from a bench that had kept nothing of its mesh to the one that is left
+pub record RunsSoak (seed : ℕ) (call : Call) (answer : Answer) : Type 0 where
+  pub last : Workbench
+  pub left_is : call.left ≡ Some last
+  pub runs : RunsLines (soak_lines seed) (soak_world seed call) (world_after call last) answer
+
+-- and nothing is read
+abbrev pub DoesSoak : ℕ → Call → Answer → Type 0
+DoesSoak seed call answer = (call.streams.input_after ≡ call.streams.input) × (StaysIdle call answer ⊎ RunsSoak seed call answer)
+
+-- ---- what it leaves of the mesh
+
+-- lines and their replies led to the bench that is left
+abbrev pub SoakLedTo : ℕ → Call → Workbench → Type 0
+SoakLedTo seed call last = (lines : List (List ℕ)) × (replies : List (List ℕ)) × Kept (scene_of (soak_world seed call)) lines replies (scene_of (world_after call last))
+
+-- so it is where a bench is left; where none is, no cell was classified
+abbrev pub SoakLeaves : ℕ → Call → Type 0
+SoakLeaves seed call = MatchOption call.left (call.steps_after ≡ call.steps) (SoakLedTo seed call)
+
+-- ---- parts of the loop
+
+-- whether a response says that memory was wanting
+abbrev pub is_want_response : Response → Bool
+is_want_response (Line (Refused Memory)) = true
+is_want_response response = false
+
+-- whether memory may be wanting for a line
+abbrev pub may_want : Saying → Bool
+may_want (Ok (Some command)) = may_want_memory command
+may_want says = false
+
+-- a reply was written, if it is shown
+abbrev pub Shows : Tape → Tape → List ℕ → Bool → Pace → Type 0
+Shows old new text is_shown On = PutAll old new (if is_shown then text else [])
+Shows old new text is_shown Wanting = ⊥
+Shows old new text is_shown Fault = (is_shown ≡ true) × (front : List ℕ) × (back : List ℕ) × (text ≡ front ++ back) × Appends old.taken new.taken front × (new.beside ≡ old.beside) × Rose old.faults new.faults
+
+-- one line was run; or memory was wanting for it, and it left everything as it was; or its reply was not written whole
+abbrev pub SoaksLine : World → World → List ℕ → Pace → Type 0
+SoaksLine w v line On = Soaks w v (line ∷ [])
+SoaksLine w v line Wanting = (may_want (read_of line) ≡ true) × Soaks w v []
+SoaksLine w v line Fault = SoakBreaks w v (line ∷ [])
