@@ -7,17 +7,18 @@ use Rattle.std.proofs.lemmas.List.Concat.{flat_map-append}
 use Rattle.iso_base.specs.declared.kind.SampleKind.TheVariants.{U8}
 use Rattle.iso_io.specs.Seen.{Stages, Tape}
 use Rattle.iso_io.proofs.Staging.{nothing_staged, stages_both, stages_first}
-use Rattle.nrrd.specs.Writing.{sample_text, samples_text}
+use Rattle.nrrd.specs.Writing.{samples_text}
+use Rattle.nrrd_text.specs.Samples.{sample_bytes}
 
 pub samples_both : (a b : List ℤ) → samples_text U8 (a ++ b) ≡ samples_text U8 a ++ samples_text U8 b
-samples_both a b = flat_map-append (sample_text U8) a b
+samples_both a b = flat_map-append (sample_bytes U8) a b
 
 -- so many equal samples
 pub run_bytes : (n sample : ℕ) → sample < 256 → samples_text U8 (replicate n (pos sample)) ≡ replicate n sample
 run_bytes zero sample low = refl
 run_bytes (suc n) sample low = ap₂ (λ b bs. b ++ bs) (one_byte sample low) (run_bytes n sample low)
   where
-    one_byte : (sample : ℕ) → sample < 256 → sample_text U8 (pos sample) ≡ sample ∷ []
+    one_byte : (sample : ℕ) → sample < 256 → sample_bytes U8 (pos sample) ≡ sample ∷ []
     one_byte sample low = ap (λ b. b ∷ []) (mod-eq_of_lt low)
 
 -- where there are no samples, none are staged
