@@ -111,8 +111,9 @@ fn serve<S: Source, K: Sink, H: Shelf, L: Ledger>(
 /// `words` are those after the program's name. Reads come from `input`, which is a script in a session and nothing else reads
 /// the shelf; what a command gives is appended to `output`. `left` is empty at first.
 ///
-/// `gen` reads nothing, and gives the file of a volume. In a session the bench that is left has the state to which its lines and replies lead, and the cache that they leave of an
-/// empty one; the counter rises by no more than they allow. No other command leaves a bench or classifies a cell.
+/// `gen` and `soak` read nothing. In a session, and after a soak, the bench that is left has the state to which its lines
+/// and replies lead, and the cache that they leave of an empty one; the counter rises by no more than they allow. No other
+/// command leaves a bench or classifies a cell.
 pub fn run<S: Source, K: Sink, N: Sink, H: Shelf, L: Ledger>(
     alloc: Global,
     words: &[String],
