@@ -332,7 +332,10 @@ fn volumes_go_to_the_shelf_in_print(rt: HostRuntime) -> Result<(), Fail> {
         .ok_or("memory")?;
     assert_eq!(rt; bench.save_text(&mut shelf, "t"), Ok(118));
     assert!(rt; holds(&shelf, "t", text));
-    assert_eq!(rt; bench.save_hex(&mut shelf, "h"), Err(BenchFault::ShelfFailed));
+    assert_eq!(rt;
+        bench.save_hex(&mut shelf, "h"),
+        Err(BenchFault::ShelfFailed)
+    );
     assert_eq!(rt; bench.save_hex(&mut shelf, "h"), Ok(125));
     assert!(rt; holds(&shelf, "h", hex));
     Ok(())

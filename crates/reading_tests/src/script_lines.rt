@@ -2,9 +2,7 @@ use iso_base::{BenchFault, MeshFormat, Written};
 use iso_io::MemSink;
 use measure::Share;
 use mesh_report::Part;
-use script::{
-    Command, FileName, LineFault, Reply, put_measures, put_reply, put_report, read_line,
-};
+use script::{Command, FileName, LineFault, Reply, put_measures, put_reply, put_report, read_line};
 use std::test::Fail;
 
 fn set(line: &[u8]) -> Option<([i64; 3], i64)> {
@@ -67,11 +65,15 @@ fn writes(line: &[u8], word: &str, name: &str) -> bool {
 // The corners and the format of a window that goes to the file `a`.
 fn window(line: &[u8]) -> Option<([i64; 6], MeshFormat)> {
     match read_line(line) {
-        Ok(Some(Command::Window {
-            corners,
-            format,
-            name,
-        })) if name.as_str() == "a" => Some((corners, format)),
+        Ok(
+            Some(
+                Command::Window {
+                    corners,
+                    format,
+                    name,
+                },
+            ),
+        ) if name.as_str() == "a" => Some((corners, format)),
         _ => None,
     }
 }

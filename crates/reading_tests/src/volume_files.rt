@@ -3,7 +3,8 @@
 use iso_base::SampleKind;
 use iso_io::MemSink;
 use nrrd::{
-    FileVolume, NrrdFault, put_coded_head, put_nrrd_head, put_samples, read_file_volume, read_volume,
+    FileVolume, NrrdFault, put_coded_head, put_nrrd_head, put_samples, read_file_volume,
+    read_volume,
 };
 use nrrd_text::{put_hex, put_text};
 use std::test::Fail;
@@ -59,7 +60,9 @@ fn samples_in_print(rt: HostRuntime) -> Result<(), Fail> {
 
 /// What is wrong with samples in print of a volume of eight bytes.
 fn fault_of(rt: &HostRuntime, encoding: &str, samples: &str) -> Result<Option<NrrdFault>, Fail> {
-    let text = format!(in rt.alloc(); "NRRD0004\ntype: uint8\ndimension: 3\nsizes: 2 2 2\nencoding: {encoding}\n\n{samples}")?;
+    let text = format!(in rt.alloc();
+        "NRRD0004\ntype: uint8\ndimension: 3\nsizes: 2 2 2\nencoding: {encoding}\n\n{samples}"
+    )?;
     Ok(read_volume(rt.alloc(), text.as_bytes()).err())
 }
 
@@ -92,7 +95,10 @@ fn printed_samples_are_read_again(rt: HostRuntime) -> Result<(), Fail> {
     for row in &rows {
         put_text(&mut sink, row)?;
     }
-    assert!(rt; sink.bytes().ends_with(b"\nencoding: text\n\n1 -128\n77 0\n5 6\n7 127\n"));
+    assert!(rt;
+        sink.bytes()
+            .ends_with(b"\nencoding: text\n\n1 -128\n77 0\n5 6\n7 127\n")
+    );
     let mut digits = MemSink::new(rt.alloc(), 200, Vec::new(rt.alloc()))?;
     put_hex(&mut digits, SampleKind::I16, &rows[0])?;
     assert!(rt; digits.bytes() == b"010080ff\n".as_slice());

@@ -43,6 +43,7 @@ fn told(alloc: Global, request: Request) -> Result<String, AllocError> {
         Request::Gen { seed, sizes } => {
             format!(in alloc; "gen {seed} {} {} {}", sizes.nx(), sizes.ny(), sizes.nz())
         }
+        Request::Soak { seed } => format!(in alloc; "soak {seed}"),
     }
 }
 
@@ -91,6 +92,8 @@ fn command_lines_are_read(rt: HostRuntime) -> Result<(), Fail> {
             "gen 999999999999999999 1026 0003 4",
             "gen 999999999999999999 1026 3 4",
         ),
+        ("soak 0", "soak 0"),
+        ("soak 000000000000000007", "soak 7"),
         ("check ply", "check ply"),
         ("check obj", "check obj"),
     ] {
@@ -151,6 +154,11 @@ fn other_words_are_refused(rt: HostRuntime) -> Result<(), Fail> {
         "gen 0 2 2 -2",
         "gen 1000000000000000000 2 2 2",
         "gen --seed=0 2 2 2",
+        "soak",
+        "soak 7 7",
+        "soak -0",
+        "soak 7.5",
+        "soak 1000000000000000000",
         "soak 7",
     ] {
         assert_eq!(rt; read(rt.alloc(), line)?.as_str(), "none", "{line}");
