@@ -159,7 +159,6 @@ fn other_words_are_refused(rt: HostRuntime) -> Result<(), Fail> {
         "soak -0",
         "soak 7.5",
         "soak 1000000000000000000",
-        "soak 7",
     ] {
         assert_eq!(rt; read(rt.alloc(), line)?.as_str(), "none", "{line}");
     }
