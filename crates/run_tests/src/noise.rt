@@ -1,6 +1,6 @@
 //! Scripts and volumes of pseudo-random bytes, and an input without an end.
 
-ghost use Rattle.std.specs.Prelude.{◌≡◌, ◌<◌, length};
+ghost use Rattle.std.specs.Prelude.{◌≡◌, ◌<◌};
 ghost use Rattle.iso_io.specs.Seen.{untold_feed};
 
 use crate::calls::{check_output, words_of};
@@ -57,9 +57,7 @@ struct Zeros;
 impl Source for Zeros {
     ghost seen = { λ _. untold_feed 0 };
 
-    fn read(&mut self, into: &mut [u8]) -> Result<usize, Failed>
-        requires { 0 < length into.old }
-    {
+    fn read(&mut self, into: &mut [u8]) -> Result<usize, Failed> {
         into.fill(0);
         Ok(into.len())
     }
