@@ -1,10 +1,16 @@
 #!/usr/bin/env python3
-"""Writes the volumes under examples/, each as it stands there: python3 tools/make_examples.py [FOLDER].
+"""Writes the volumes under examples/, and for the gate their copies with the scripts, and the replies to all of these.
+
+    python3 tools/make_examples.py            writes them
+    python3 tools/make_examples.py --check    says which are not as it would write them, and ends with 1 if any is not
 
 corner.nrrd  2x2x2, one sample above: the least mesh that there is.
 ties.nrrd    5x5x5, whose samples take few values, so that many equal a level that is whole.
 saddle.nrrd  2x2x2, an ambiguous face whose two products are equal: joined, by the rule on ties.
 knot.nrrd    64x64x64, a trefoil knot: each sample falls with its distance from the knot's curve.
+
+What the gate runs stands in crates/example_runs: the files in data/, and in stdout all that the calls of its program answer,
+the replies to each session and then the verdicts on the meshes that it wrote.
 """
 import math
 import pathlib
@@ -68,10 +74,36 @@ def knot(size=64):
     return head("uint8", (size, size, size)) + bytes(samples)
 
 
+VOLUMES = {"corner": corner, "ties": ties, "saddle": saddle, "knot": knot}
+
+# What `check` says of the meshes that a session wrote, in the order in which the gate's program asks.
+VERDICTS = {"ties": ["closed", "closed"], "saddle": ["border 6", "border 6"], "knot": ["closed", "closed", "closed"]}
+
+
+def written(top):
+    """All files that this script writes, with their bytes. The scripts and their replies are read where they stand."""
+    files = {f"examples/{name}.nrrd": volume() for name, volume in VOLUMES.items()}
+    answers = b""
+    for name, verdicts in VERDICTS.items():
+        files[f"crates/example_runs/data/{name}.nrrd"] = files[f"examples/{name}.nrrd"]
+        files[f"crates/example_runs/data/{name}.session"] = (top / f"examples/{name}.session").read_bytes()
+        answers += (top / f"examples/{name}.replies").read_bytes()
+        answers += "".join(f"{verdict}\n" for verdict in verdicts).encode("ascii")
+    files["crates/example_runs/stdout"] = answers
+    return files
+
+
 def main():
-    folder = pathlib.Path(sys.argv[1] if len(sys.argv) > 1 else pathlib.Path(__file__).parent.parent / "examples")
-    for name, volume in (("corner", corner), ("ties", ties), ("saddle", saddle), ("knot", knot)):
-        (folder / f"{name}.nrrd").write_bytes(volume())
+    top = pathlib.Path(__file__).resolve().parent.parent
+    files = written(top)
+    differ = [name for name, text in files.items() if not (top / name).is_file() or (top / name).read_bytes() != text]
+    if sys.argv[1:] == ["--check"]:
+        for name in differ:
+            print(f"{name} is not as tools/make_examples.py writes it")
+        sys.exit(1 if differ else 0)
+    for name in differ:
+        (top / name).parent.mkdir(parents=True, exist_ok=True)
+        (top / name).write_bytes(files[name])
 
 
 main()
