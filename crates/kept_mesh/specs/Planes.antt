@@ -9,7 +9,8 @@ use Rattle.kept_mesh.specs.declared.planes.Plane.{Plane}
 -- these are the cases of a plane of a brick, if the volume has such a brick
 pub record IsPlane (v : Volume) (level : ℤ) (plane : Plane) : Type 0 where
   pub narrow : plane.width ≤ 8
-  pub rows : (y : ℕ) → IsCellRow v.grid plane.brick y plane.z → take plane.width (slice_index_or plane.rows y []) ≡ row_cases v.grid (field v.samples level) plane.brick y plane.z
+  pub rows : (y : ℕ) → IsCellRow v.grid plane.brick y plane.z
+      → take plane.width (slice_index_or plane.rows y []) ≡ row_cases v.grid (field v.samples level) plane.brick y plane.z
 
 -- the first of 129 planes are of no brick
 pub record AreNone (planes : List Plane) (count : ℕ) : Type 0 where

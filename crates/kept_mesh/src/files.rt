@@ -62,7 +62,10 @@ fn fill_file<H: Shelf, L: Ledger>(
     requires tree { IsRightFor tree.now store.now }
     requires items { IsRight store.now.grid store.now.samples cache.now.items }
     requires ranks { ranks.old.grid ≡ store.now.grid }
-    ensures text { Puts (file_tape file.old.shelf.ghost_name (H.seen file.old.shelf.now) file.old.name.now) (file_tape file.new.shelf.ghost_name (H.seen file.new.shelf.now) file.new.name.now) result (scratch_text format store.now level) }
+    ensures text { Puts
+        (file_tape file.old.shelf.ghost_name (H.seen file.old.shelf.now) file.old.name.now)
+        (file_tape file.new.shelf.ghost_name (H.seen file.new.shelf.now) file.new.name.now)
+        result (scratch_text format store.now level) }
     ensures written { IfOk result (λ w. w ≡ written_of format (is_some store.now.pad) (mesh_of store.now.grid (field store.now.samples level))) }
     ensures same_reference { file.new.shelf.ghost_name ≡ file.old.shelf.ghost_name }
     ensures ranks { ranks.new.grid ≡ ranks.old.grid }

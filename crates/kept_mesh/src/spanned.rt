@@ -74,7 +74,8 @@ pub fn refresh_bricks<L: Ledger>(
     steps: &mut Steps<L>,
 )
     requires { IsRightFor tree.now store.now }
-    ensures refresh { Refresh store.now.grid store.now.samples level cache.old (take n (waiting store.now.grid store.now.samples level cache.old.items)) cache.new }
+    ensures refresh { Refresh store.now.grid store.now.samples level cache.old
+        (take n (waiting store.now.grid store.now.samples level cache.old.items)) cache.new }
     ensures least { steps.old ≤ steps.new }
     ensures bound { steps.new ≤ steps.old + 512 * min n (length (waiting store.now.grid store.now.samples level cache.old.items)) }
 {

@@ -1,4 +1,4 @@
-//! Lines that are gathered before they are put behind what waits.
+//! Lines that are gathered before they are put behind what waits, and texts that are put there at once.
 
 ghost use Rattle.std.specs.Prelude.{◌≡◌, ◌+◌, ◌≤◌, ◌++◌, [], length, IfOk};
 ghost use Rattle.iso_io.specs.Seen.{Puts, Stages};
@@ -6,7 +6,8 @@ ghost use Rattle.iso_io.specs.Seen.{Puts, Stages};
 use iso_io::{Failed, Sink, stage, write_all_of};
 use mesh_text::Lines;
 
-/// Puts the gathered lines behind what waits.
+/// Puts the gathered lines behind what waits, of which whole blocks are written. `Failed` comes only where the sink's count
+/// rose; a front of it all was then taken.
 pub fn stage_gathered<K: Sink>(
     sink: &mut K,
     waiting: &mut Vec<u8>,
@@ -20,7 +21,8 @@ pub fn stage_gathered<K: Sink>(
     Ok(())
 }
 
-/// Makes room for one more line: where there is none, the gathered ones are put behind what waits.
+/// Makes room for one more line: where there is none, the gathered ones are put behind what waits. `Failed` comes as from
+/// `stage_gathered`.
 #[inline(always)]
 pub fn make_room<K: Sink>(
     sink: &mut K,
@@ -34,6 +36,18 @@ pub fn make_room<K: Sink>(
         return Ok(());
     }
     stage_gathered(sink, waiting, lines)
+}
+
+/// Puts a text behind what waits, and counts its bytes. `Failed` comes as from `stage_gathered`.
+#[inline(always)]
+pub fn stage_text<K: Sink>(sink: &mut K, waiting: &mut Vec<u8>, text: &[u8]) -> Result<u64, Failed>
+    ensures staged { Stages (K.seen sink.old) (K.seen sink.new) waiting.old.items waiting.new.items result text.now }
+    ensures bytes { IfOk result (λ n. n ≡ length text.now) }
+{
+    match stage(sink, waiting, text) {
+        Ok(()) => Ok(text.len() as u64),
+        Err(Failed) => Err(Failed),
+    }
 }
 
 /// Writes what waits and then the gathered lines.

@@ -6,6 +6,7 @@ mod mesh;
 mod points;
 mod walk;
 
+pub use gathered::{make_room, stage_gathered, stage_text};
 pub use mesh::put_mesh_as;
 pub use points::put_points;
 

@@ -6,10 +6,10 @@ ghost use Rattle.iso_io.specs.Seen.{Puts, Stages};
 ghost use Rattle.mesh_text.specs.Lines.{along, ply_head};
 ghost use Rattle.mesh_write.specs.Mesh.{vertex_line, face_line, vertex_lines, face_lines, head_of, text_of, written_of};
 
-use crate::gathered::{make_room, stage_gathered};
+use crate::gathered::{make_room, stage_gathered, stage_text};
 use flat_mesh::Mesh;
 use iso_base::{Thousandth, Written};
-use iso_io::{Failed, Sink, stage, write_all_of};
+use iso_io::{Failed, Sink, write_all_of};
 use mesh_text::{Lines, TwoWayFormat, ply_head_text};
 
 /// A pad's layer along an axis, in thousandths.
@@ -122,18 +122,6 @@ fn stage_face<K: Sink>(
     let before = lines.len();
     gather_face(mesh, format, i, lines);
     Ok((lines.len() - before) as u64)
-}
-
-/// Puts a text behind what waits, and counts its bytes.
-#[inline(always)]
-fn stage_text<K: Sink>(sink: &mut K, waiting: &mut Vec<u8>, text: &[u8]) -> Result<u64, Failed>
-    ensures staged { Stages (K.seen sink.old) (K.seen sink.new) waiting.old.items waiting.new.items result text.now }
-    ensures bytes { IfOk result (λ n. n ≡ length text.now) }
-{
-    match stage(sink, waiting, text) {
-        Ok(()) => Ok(text.len() as u64),
-        Err(Failed) => Err(Failed),
-    }
 }
 
 fn stage_ply_head<K: Sink>(

@@ -3,25 +3,13 @@ ghost use Rattle.std.specs.Prelude.{◌≡◌, ◌<◌, ◌≤◌, ◌^◌, ◌+
 ghost use Rattle.iso_io.specs.Seen.{Puts, Stages};
 ghost use Rattle.window_write.specs.Lines.{IsNear, face_line, face_lines, head_of, middle_of, steps_of, text_of, vertex_line, vertex_lines, written_of};
 
-use crate::gathered::{make_room, stage_gathered};
 use crate::lines::{gather_face, gather_vertex};
 use flat_mesh::Mesh;
 use iso_base::{MeshFormat, Point, Written};
-use iso_io::{Failed, Sink, stage, write_all_of};
+use iso_io::{Failed, Sink, write_all_of};
 use mesh_more::{off_head_text, vtk_faces_text, vtk_head_text};
 use mesh_text::{Lines, ply_head_text};
-
-/// Puts a text behind what waits, and counts its bytes.
-#[inline(always)]
-fn stage_text<K: Sink>(sink: &mut K, waiting: &mut Vec<u8>, text: &[u8]) -> Result<u64, Failed>
-    ensures staged { Stages (K.seen sink.old) (K.seen sink.new) waiting.old.items waiting.new.items result text.now }
-    ensures bytes { IfOk result (λ n. n ≡ length text.now) }
-{
-    match stage(sink, waiting, text) {
-        Ok(()) => Ok(text.len() as u64),
-        Err(Failed) => Err(Failed),
-    }
-}
+use mesh_write::{make_room, stage_gathered, stage_text};
 
 /// What stands before the vertices.
 fn stage_head<K: Sink>(
@@ -162,7 +150,8 @@ fn stage_vertices<K: Sink>(
     by: Point,
 ) -> Result<u64, Failed>
     requires { IsNear by }
-    ensures staged { Stages (K.seen sink.old) (K.seen sink.new) waiting.old.items waiting.new.items result (vertex_lines format (steps_of by) mesh.now.vertex_list) }
+    ensures staged { Stages (K.seen sink.old) (K.seen sink.new) waiting.old.items waiting.new.items result
+        (vertex_lines format (steps_of by) mesh.now.vertex_list) }
     ensures bytes { IfOk result (λ n. n ≡ length (vertex_lines format (steps_of by) mesh.now.vertex_list)) }
     ensures few { IfOk result (λ n. n ≤ 2 ^ 38) }
 {
@@ -215,7 +204,8 @@ fn stage_lines<K: Sink>(
 ) -> Result<u64, Failed>
     requires { IsNear by }
     ensures staged { Stages (K.seen sink.old) (K.seen sink.new) waiting.old.items waiting.new.items result
-        (vertex_lines format (steps_of by) mesh.now.vertex_list ++ (middle_of format (length mesh.now.triangle_list) ++ face_lines format mesh.now.triangle_list)) }
+        (vertex_lines format (steps_of by) mesh.now.vertex_list
+        ++ (middle_of format (length mesh.now.triangle_list) ++ face_lines format mesh.now.triangle_list)) }
     ensures bytes { IfOk result (λ n. n ≡ length (vertex_lines format (steps_of by) mesh.now.vertex_list
         ++ (middle_of format (length mesh.now.triangle_list) ++ face_lines format mesh.now.triangle_list))) }
     ensures few { IfOk result (λ n. n ≤ 2 ^ 40) }
