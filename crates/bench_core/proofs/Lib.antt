@@ -5,6 +5,7 @@ pub mod Meshes
 pub mod SavedFiles
 pub mod PlaneFields
 pub mod Touching
+pub mod BoxBricks
 pub mod Staying
 pub mod Surfaces
 pub mod WindowFiles

@@ -1,12 +1,13 @@
 -- What is kept beside the machine's state: what a change leaves of it, and what a refresh makes of it.
 use Rattle.std.specs.Prelude.{◌≡◌, ℕ, ◌+◌, ◌*◌, ◌<◌, ◌≤◌, ◌∷◌, Bool, not, ◌&&◌, nat_le, List, [], length, Option, Some, None, Result, MatchResult, ℤ, All}
-use Rattle.std.specs.List.{filter}
+use Rattle.std.specs.List.{filter, range_with_len}
 use Rattle.iso_defs.specs.Lists.{below, is_in}
-use Rattle.iso_defs.specs.Bricks.{brick_count, brick_start}
+use Rattle.iso_defs.specs.Bricks.{brick_count, brick_start, bricks_along}
 use Rattle.iso_defs.specs.Grid.{Grid}
 use Rattle.iso_base.specs.declared.fault.BenchFault.{BenchFault}
 use Rattle.iso_base.specs.Volume.{Volume}
 use Rattle.voxel_list.specs.Areas.{Area}
+use Rattle.brick_store.specs.Holding.{brick_at}
 use Rattle.span_tree.specs.Spans.{Tree, IsRightFor}
 use Rattle.mesh_cache.specs.Cache.{Cache, Limits, empty_cache, with_items}
 use Rattle.mesh_cache.specs.Economy.{IsRight, Refresh, waiting}
@@ -52,6 +53,10 @@ holds_some g a brick =
 -- the bricks that hold a point of a box
 unfoldable pub bricks_of : Grid → Area → List ℕ
 bricks_of g a = filter (holds_some g a) (below (brick_count g))
+
+-- those of a layer of bricks across z
+abbrev pub layer_held : Grid → Area → ℕ → List ℕ
+layer_held g a z = filter (holds_some g a) (range_with_len (brick_at g 0 0 z) (bricks_along g 0 * bricks_along g 1))
 
 -- the bricks that hold one of these points
 abbrev pub touched : Grid → Option Area → List ℕ

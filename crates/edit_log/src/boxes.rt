@@ -51,11 +51,11 @@ pub fn area_count(sizes: &Sizes, area: &FillBox) -> u32
 }
 
 /// The most points that are replaced together.
-pub const PIECE: u32 = 64;
+pub const PIECE: u32 = 128;
 
 /// A value as often as a whole piece has points.
-fn piece_of(value: &i64) -> [i64; 64]
-    ensures { result ≡ replicate 64 value.now }
+fn piece_of(value: &i64) -> [i64; 128]
+    ensures { result ≡ replicate 128 value.now }
 {
     [*value; PIECE as usize]
 }
@@ -64,7 +64,7 @@ fn piece_of(value: &i64) -> [i64; 64]
 pub fn piece_of_row(area: &FillBox, k: u32, end: u32) -> u32
     requires { k < end }
     ensures some { 0 < result }
-    ensures piece { result ≤ 64 }
+    ensures piece { result ≤ 128 }
     ensures end { k + result ≤ end }
     ensures row { k % (area_grid area.now).nx + result ≤ (area_grid area.now).nx }
 {

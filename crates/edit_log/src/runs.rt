@@ -1,15 +1,15 @@
-//! Values of a box, kept as runs of equal ones.
+//! Values of a box, kept as runs of equal ones or each by itself.
 
-ghost use Rattle.std.specs.Prelude.{◌≡◌, ◌+◌, ◌^◌, ◌<◌, ◌≤◌, [], ◌∷◌, ◌++◌, All, IfOk, OnOk, drop, length, take};
+ghost use Rattle.std.specs.Prelude.{◌≡◌, ◌+◌, ◌^◌, ◌<◌, ◌≤◌, [], ◌∷◌, ◌++◌, All, IfOk, IfSome, OnOk, drop, length, take};
 ghost use Rattle.iso_base.specs.Points.{IsPoint};
 ghost use Rattle.iso_base.specs.Samples.{IsOfKind};
 ghost use Rattle.voxel_list.specs.Areas.{area_count};
-ghost use Rattle.edit_log.specs.Boxes.{IsInnerArea, area_samples, restored};
-ghost use Rattle.edit_log.specs.Runs.{gathered, values_left};
+ghost use Rattle.edit_log.specs.Boxes.{IsInnerArea, area_samples, restored, row_samples};
+ghost use Rattle.edit_log.specs.Runs.{gathered, values_left, values_of};
 
 use crate::boxes::{PIECE, area_count, area_point, piece_of_row};
 use brick_store::BrickStore;
-use iso_base::Memory;
+use iso_base::{Memory, Point};
 use std::alloc::{AllocError, Global};
 use std::marker::Model;
 use voxel_list::FillBox;
@@ -21,19 +21,27 @@ struct Run {
     count: u32,
 }
 
-/// Values one after another, kept as runs of equal ones. Contracts see the list of the values.
+/// Values one after another, in the way that takes less.
+#[derive(Debug, Drop)]
+enum Kept {
+    Equal(Vec<Run>),
+    Each(Vec<i64>),
+}
+
+/// Values one after another, kept as runs of equal ones, or each by itself where such runs are short. Contracts see the list
+/// of the values.
 #[derive(Debug, Drop)]
 pub struct Runs {
-    runs: Vec<Run>,
+    kept: Kept,
 }
 
 impl Model for Runs {
     ghost use Rattle.std.specs.Prelude.{List, ℤ};
-    ghost use Rattle.edit_log.specs.Runs.{values_of};
+    ghost use Rattle.edit_log.specs.Runs.{kept_values};
 
     ghost Value = { List ℤ };
 
-    ghost view = { λ r. values_of r.runs.items };
+    ghost view = { λ r. kept_values r.kept };
 }
 
 /// Puts one more value behind the others: into the run that goes on, or into a new one.
@@ -66,6 +74,109 @@ fn extend_all(runs: &mut Vec<Run>, run: &mut Run, values: &[i64]) -> Result<(), 
     Ok(())
 }
 
+/// Puts the samples of a row, so many from a point on along x, behind the others. What one brick has is taken at once.
+fn extend_row(
+    store: &BrickStore,
+    from: Point,
+    count: u32,
+    runs: &mut Vec<Run>,
+    run: &mut Run,
+) -> Result<(), AllocError>
+    requires point { IsPoint store.now.grid from }
+    requires fits { from.x + count ≤ store.now.grid.nx }
+    requires few { run.old.count + count < 2 ^ 32 }
+    ensures values { OnOk result (gathered runs.new.items run.new ≡ gathered runs.old.items run.old ++ row_samples store.now from count) }
+    ensures count { OnOk result (run.new.count ≤ run.old.count + count) }
+{
+    let _ = store.sizes();
+    let mut done = 0;
+    while done < count {
+        let x = from.x + done;
+        let samples = store.row_from(Point { x, ..from });
+        let piece = (samples.len() as u32).min(count - done);
+        extend_all(runs, run, &samples[..piece as usize])?;
+        done += piece;
+    }
+    Ok(())
+}
+
+/// Puts the samples of a row, so many from a point on along x, behind the others, each by itself.
+fn add_row(
+    store: &BrickStore,
+    from: Point,
+    count: u32,
+    values: &mut Vec<i64>,
+) -> Result<(), AllocError>
+    requires point { IsPoint store.now.grid from }
+    requires fits { from.x + count ≤ store.now.grid.nx }
+    ensures { OnOk result (values.new.items ≡ values.old.items ++ row_samples store.now from count) }
+{
+    let _ = store.sizes();
+    let mut done = 0;
+    while done < count {
+        let x = from.x + done;
+        let samples = store.row_from(Point { x, ..from });
+        let piece = (samples.len() as u32).min(count - done);
+        values.extend_from_slice(&samples[..piece as usize])?;
+        done += piece;
+    }
+    Ok(())
+}
+
+/// Whether so many values began so many runs that each is better kept by itself: a run takes twice the memory of a value, and
+/// its end is a branch that is not foreseen.
+fn are_short(runs: usize, values: u32) -> bool {
+    runs > 64 + values as usize / 4
+}
+
+/// The samples of a box as runs of equal ones; none where these are short.
+fn equal_samples(
+    alloc: Global,
+    store: &BrickStore,
+    area: &FillBox,
+) -> Result<Option<Vec<Run>>, AllocError>
+    requires { IsPoint store.now.grid area.now.high }
+    ensures { IfOk result (λ r. IfSome r (λ runs. values_of runs.items ≡ area_samples store.now.grid area.now store.now.samples)) }
+{
+    let sizes = store.sizes();
+    let count = area_count(&sizes, area);
+    let mut runs = Vec::new(alloc);
+    let mut run = Run {
+        value: store.get(area.low()),
+        count: 0,
+    };
+    let mut k = 0;
+    while k < count {
+        if are_short(runs.len(), k) {
+            return Ok(None);
+        }
+        let piece = piece_of_row(area, k, count);
+        let from = area_point(&sizes, area, k);
+        extend_row(store, from, piece, &mut runs, &mut run)?;
+        k += piece;
+    }
+    runs.push(run)?;
+    Ok(Some(runs))
+}
+
+/// The samples of a box, each by itself.
+fn each_sample(alloc: Global, store: &BrickStore, area: &FillBox) -> Result<Vec<i64>, AllocError>
+    requires { IsPoint store.now.grid area.now.high }
+    ensures { IfOk result (λ v. v.items ≡ area_samples store.now.grid area.now store.now.samples) }
+{
+    let sizes = store.sizes();
+    let count = area_count(&sizes, area);
+    let mut values = Vec::with_capacity(alloc, count as usize)?;
+    let mut k = 0;
+    while k < count {
+        let piece = piece_of_row(area, k, count);
+        let from = area_point(&sizes, area, k);
+        add_row(store, from, piece, &mut values)?;
+        k += piece;
+    }
+    Ok(values)
+}
+
 /// What is left of the values: so much of a run, and the runs from a place on.
 #[derive(Clone, Copy)]
 struct Rest {
@@ -73,27 +184,76 @@ struct Rest {
     next: usize,
 }
 
-/// Takes the first of the values that are left.
-fn next_value(runs: &[Run], rest: &mut Rest) -> i64
+/// Passes over what has ended, where values are left: then some of a run are.
+fn pass_ended(runs: &[Run], rest: &mut Rest)
     requires { 0 < length (values_left runs.now rest.old) }
-    ensures { values_left runs.now rest.old ≡ result ∷ values_left runs.now rest.new }
+    ensures same { values_left runs.now rest.new ≡ values_left runs.now rest.old }
+    ensures some { 0 < rest.new.run.count }
 {
     while rest.run.count == 0 {
         rest.run = runs[rest.next];
         rest.next += 1;
     }
-    rest.run.count -= 1;
-    rest.run.value
 }
 
-/// Takes as many values as there is room for.
+/// Takes as many values as there is room for, a run at a time.
 fn take_values(runs: &[Run], rest: &mut Rest, values: &mut [i64])
     requires { length values.old ≤ length (values_left runs.now rest.old) }
     ensures values { values.new ≡ take (length values.old) (values_left runs.now rest.old) }
     ensures rest { values_left runs.now rest.new ≡ drop (length values.old) (values_left runs.now rest.old) }
 {
-    for k in 0..values.len() {
-        values[k] = next_value(runs, rest);
+    let mut done = 0;
+    while done < values.len() {
+        pass_ended(runs, rest);
+        let count = (rest.run.count as usize).min(values.len() - done);
+        values[done..done + count].fill(rest.run.value);
+        rest.run.count -= count as u32;
+        done += count;
+    }
+}
+
+/// Gives the points of a box the values of some runs.
+fn write_runs(store: &mut BrickStore, area: &FillBox, runs: &[Run])
+    requires high { IsPoint store.old.grid area.now.high }
+    requires inner { IsInnerArea store.old area.now }
+    requires count { length (values_of runs.now) ≡ area_count area.now }
+    requires kind { All (IsOfKind store.old.kind) (values_of runs.now) }
+    ensures { store.new ≡ record store.old { samples = restored store.old.grid area.now (values_of runs.now) store.old.samples } }
+{
+    let sizes = store.sizes();
+    let count = area_count(&sizes, area);
+    let mut values = [0; PIECE as usize];
+    let run = Run { value: 0, count: 0 };
+    let mut rest = Rest { run, next: 0 };
+    let mut k = 0;
+    while k < count {
+        let piece = piece_of_row(area, k, count);
+        let row = &mut values[..piece as usize];
+        take_values(runs, &mut rest, row);
+        store.set_row(area_point(&sizes, area, k), row);
+        k += piece;
+    }
+}
+
+/// Gives the points of a box these values.
+fn write_each(store: &mut BrickStore, area: &FillBox, values: &[i64])
+    requires high { IsPoint store.old.grid area.now.high }
+    requires inner { IsInnerArea store.old area.now }
+    requires count { length values.now ≡ area_count area.now }
+    requires kind { All (IsOfKind store.old.kind) values.now }
+    ensures { store.new ≡ record store.old { samples = restored store.old.grid area.now values.now store.old.samples } }
+{
+    let sizes = store.sizes();
+    let count = area_count(&sizes, area);
+    let mut k = 0;
+    while k < count {
+        let piece = piece_of_row(area, k, count);
+        let end = k + piece;
+        store.set_row(
+            area_point(&sizes, area, k),
+            &values[k as usize..end as usize],
+        );
+        k = end;
     }
 }
 
@@ -103,22 +263,12 @@ impl Runs {
         requires { IsPoint store.now.grid area.now.high }
         ensures { IfOk result (λ r. r ≡ area_samples store.now.grid area.now store.now.samples) }
     {
-        let sizes = store.sizes();
-        let count = area_count(&sizes, area);
-        let mut runs = Vec::new(alloc);
-        let mut run = Run {
-            value: store.get(area.low()),
-            count: 0,
-        };
-        let mut k = 0;
-        while k < count {
-            let samples = store.row_from(area_point(&sizes, area, k));
-            let piece = piece_of_row(area, k, count).min(samples.len() as u32);
-            extend_all(&mut runs, &mut run, &samples[..piece as usize])?;
-            k += piece;
+        if let Some(runs) = equal_samples(alloc, store, area)? {
+            let kept = Kept::Equal(runs);
+            return Ok(Runs { kept });
         }
-        runs.push(run)?;
-        Ok(Runs { runs })
+        let kept = Kept::Each(each_sample(alloc, store, area)?);
+        Ok(Runs { kept })
     }
 
     /// Gives the points of a box these values, in the order of their indices, and leaves all others. The box lies in
@@ -130,18 +280,9 @@ impl Runs {
         requires kind { All (IsOfKind store.old.kind) self.now }
         ensures { store.new ≡ record store.old { samples = restored store.old.grid area.now self.now store.old.samples } }
     {
-        let sizes = store.sizes();
-        let count = area_count(&sizes, area);
-        let mut values = [0; PIECE as usize];
-        let run = Run { value: 0, count: 0 };
-        let mut rest = Rest { run, next: 0 };
-        let mut k = 0;
-        while k < count {
-            let piece = piece_of_row(area, k, count);
-            let row = &mut values[..piece as usize];
-            take_values(&self.runs, &mut rest, row);
-            store.set_row(area_point(&sizes, area, k), row);
-            k += piece;
+        match &self.kept {
+            Kept::Equal(runs) => write_runs(store, area, runs),
+            Kept::Each(values) => write_each(store, area, values),
         }
     }
 }

@@ -15,7 +15,7 @@ use Rattle.edit_log.proofs.boxes.fill_part.Goals.{After-area_point}
 count : (c : After-area_point) → length (take c.piece_of_row-piece.result c.piece_of-values.result) ≡ c.piece_of_row-piece.result
 count c =
     length-take-le c.piece_of_row-piece.result c.piece_of-values.result
-    (omega (arith, c.piece_of_row-piece.ensures.piece, ap length c.piece_of-values.ensures, length-replicate 64 c.args.value.now))
+    (omega (arith, c.piece_of_row-piece.ensures.piece, ap length c.piece_of-values.ensures, length-replicate 128 c.args.value.now))
 
 is_box : (c : After-area_point) → IsBox c.args.store.now.grid c.args.area.now
 is_box c = subst (λ g. IsBox g c.args.area.now) c.sizes-sizes.ensures.value c.area_point.ensures.box_of_grid
@@ -63,7 +63,7 @@ set_row-requires-clause-kind c =
     = subst (λ (w : Volume). IsOfKind w.kind c.args.value.now) (sym c.loop-k.invariant.filled)
     (c.requires.kind (omega (arith, c.loop-k.invariant.from, c.loop-k-test.true))) in
     All-take (IsOfKind c.loop-k.store.kind) c.piece_of_row-piece.result c.piece_of-values.result
-    (subst (All (IsOfKind c.loop-k.store.kind)) (sym c.piece_of-values.ensures) (All-replicate (IsOfKind c.loop-k.store.kind) 64 c.args.value.now kind))
+    (subst (All (IsOfKind c.loop-k.store.kind)) (sym c.piece_of-values.ensures) (All-replicate (IsOfKind c.loop-k.store.kind) 128 c.args.value.now kind))
 
 pub loop-k-preserved : goal.loop-k-preserved
 loop-k-preserved c =
@@ -74,11 +74,11 @@ loop-k-preserved c =
     let values : List ℤ = take piece c.piece_of-values.result in
     let n : length values ≡ piece
     = length-take-le piece c.piece_of-values.result
-    (omega (arith, c.piece_of_row-piece.ensures.piece, ap length c.piece_of-values.ensures, length-replicate 64 c.args.value.now)) in
+    (omega (arith, c.piece_of_row-piece.ensures.piece, ap length c.piece_of-values.ensures, length-replicate 128 c.args.value.now)) in
     let all : (d : ℕ) → d < length values → sample values d ≡ c.args.value.now
     = λ d low. get_or-take piece c.piece_of-values.result d (pos 0) (omega (arith, n, low))
     ∙ (ap (λ l. get_or l d (pos 0)) c.piece_of-values.ensures
-    ∙ get_or-replicate 64 d c.args.value.now (pos 0) (omega (arith, n, low, c.piece_of_row-piece.ensures.piece))) in
+    ∙ get_or-replicate 128 d c.args.value.now (pos 0) (omega (arith, n, low, c.piece_of_row-piece.ensures.piece))) in
     let is : IsBox v.grid a = subst (λ g. IsBox g a) c.sizes-sizes.ensures.value c.area_point.ensures.box_of_grid in
     let at : index_of v.grid c.area_point.result ≡ area_index v.grid a k = rw c.sizes-sizes.ensures.value at c.area_point.ensures.value in
     record {

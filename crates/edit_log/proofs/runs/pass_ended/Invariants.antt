@@ -1,6 +1,6 @@
 use Rattle.std.proofs.Common.{◌≡◌, ◌-◌, length}
 use Rattle.edit_log.specs.Runs.{values_left}
-use Rattle.edit_log.proofs.runs.next_value.Given as goal
+use Rattle.edit_log.proofs.runs.pass_ended.Given as goal
 
 abbrev pub invariant-loop-rest : goal.invariant-loop-rest
 invariant-loop-rest l = values_left l.runs l.rest ≡ values_left l.runs l.fn.rest
