@@ -14,6 +14,7 @@ use crate::saved::copy_row;
 use brick_store::BrickStore;
 use iso_base::{SampleKind, Sizes};
 use iso_io::{Failed, Shelf, ShelfFile, Sink, write_all_of};
+use mesh_text::Fours;
 use nrrd::{coded_head_bytes, put_coded_head};
 use nrrd_text::{SampleLines, gather_hex, gather_text};
 
@@ -24,6 +25,7 @@ const MOST: usize = 1_026;
 fn gather_row<K: Sink>(
     sink: &mut K,
     waiting: &mut SampleLines,
+    digits: &Fours,
     kind: SampleKind,
     hex: bool,
     row: &[i64],
@@ -37,7 +39,7 @@ fn gather_row<K: Sink>(
     if hex {
         gather_hex(sink, waiting, kind, row)
     } else {
-        gather_text(sink, waiting, row)
+        gather_text(sink, waiting, digits, row)
     }
 }
 
@@ -45,6 +47,7 @@ fn gather_row<K: Sink>(
 fn gather_rows<K: Sink>(
     sink: &mut K,
     waiting: &mut SampleLines,
+    digits: &Fours,
     store: &BrickStore,
     sizes: &Sizes,
     hex: bool,
@@ -60,7 +63,7 @@ fn gather_rows<K: Sink>(
     let mut bytes = 0u64;
     for number in 0..sizes.ny() * sizes.nz() {
         copy_row(store, sizes, number, row);
-        bytes += gather_row(sink, waiting, kind, hex, row)?;
+        bytes += gather_row(sink, waiting, digits, kind, hex, row)?;
     }
     Ok(bytes)
 }
@@ -80,7 +83,7 @@ fn put_rows<K: Sink>(
     let mut samples = [0; MOST];
     let mut waiting = SampleLines::new();
     let row = &mut samples[..sizes.nx() as usize];
-    let bytes = gather_rows(sink, &mut waiting, store, sizes, hex, row)?;
+    let bytes = gather_rows(sink, &mut waiting, &Fours::new(), store, sizes, hex, row)?;
     write_all_of(sink, waiting.as_bytes())?;
     Ok(bytes)
 }

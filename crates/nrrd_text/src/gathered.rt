@@ -34,11 +34,7 @@ fn write_waiting<K: Sink>(sink: &mut K, waiting: &mut SampleLines) -> Result<(),
 }
 
 /// Makes room for so many samples.
-fn make_room<K: Sink>(
-    sink: &mut K,
-    waiting: &mut SampleLines,
-    samples: usize,
-) -> Result<(), Failed>
+fn make_room<K: Sink>(sink: &mut K, waiting: &mut SampleLines, samples: usize) -> Result<(), Failed>
     requires { samples ≤ 256 }
     ensures staged { Stages (K.seen sink.old) (K.seen sink.new) waiting.old waiting.new result [] }
     ensures room { IfOk result (λ _. length waiting.new + 24 * samples ≤ 32768) }

@@ -82,12 +82,7 @@ fn put_each(kind: SampleKind, values: &[i64], room: &mut [u8], at: usize) -> usi
 }
 
 /// Writes the digits of samples. What a kind asks for is asked once, and not for each of them.
-pub(crate) fn put_samples(
-    kind: SampleKind,
-    values: &[i64],
-    room: &mut [u8],
-    at: usize,
-) -> usize
+pub(crate) fn put_samples(kind: SampleKind, values: &[i64], room: &mut [u8], at: usize) -> usize
     requires kind { All (IsOfKind kind) values.now }
     requires space { at + 24 * length values.now ≤ length room.old }
     ensures end { result ≤ at + 24 * length values.now }

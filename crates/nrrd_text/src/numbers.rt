@@ -68,12 +68,7 @@ fn put_next<D: Digits>(digits: &D, value: i64, room: &mut [u8], at: usize) -> us
 }
 
 /// Writes numbers, each behind a space.
-pub(crate) fn put_others<D: Digits>(
-    digits: &D,
-    values: &[i64],
-    room: &mut [u8],
-    at: usize,
-) -> usize
+pub(crate) fn put_others<D: Digits>(digits: &D, values: &[i64], room: &mut [u8], at: usize) -> usize
     requires { at + 24 * length values.now ≤ length room.old }
     ensures end { result ≤ at + 24 * length values.now }
     ensures behind { at ≤ result }
