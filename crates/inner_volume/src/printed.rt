@@ -11,12 +11,12 @@ ghost use Rattle.inner_volume.specs.Unpadded.{inner_voxels, saved_as_hex, saved_
 
 use crate::places::inner_sizes;
 use crate::saved::copy_row;
-use arrayvec::ArrayString;
 use brick_store::BrickStore;
 use iso_base::{SampleKind, Sizes};
-use iso_io::{Failed, LINES, Shelf, ShelfFile, Sink, write_all_of};
+use iso_io::{Failed, Shelf, ShelfFile, Sink, write_all_of};
+use mesh_text::Fours;
 use nrrd::{coded_head_bytes, put_coded_head};
-use nrrd_text::{gather_hex, gather_text};
+use nrrd_text::{SampleLines, gather_hex, gather_text};
 
 /// The most samples in a row.
 const MOST: usize = 1_026;
@@ -24,28 +24,30 @@ const MOST: usize = 1_026;
 /// Puts the line of a row behind what waits, and says how many bytes it has.
 fn gather_row<K: Sink>(
     sink: &mut K,
-    waiting: &mut ArrayString<LINES>,
+    waiting: &mut SampleLines,
+    digits: &Fours,
     kind: SampleKind,
     hex: bool,
     row: &[i64],
 ) -> Result<u64, Failed>
     requires each { All (IsOfKind kind) row.now }
     requires few { length row.now ≤ 1026 }
-    ensures line { Stages (K.seen sink.old) (K.seen sink.new) waiting.old.bytes waiting.new.bytes result (coded_line hex kind row.now) }
+    ensures line { Stages (K.seen sink.old) (K.seen sink.new) waiting.old waiting.new result (coded_line hex kind row.now) }
     ensures bytes { IfOk result (λ n. n ≡ length (coded_line hex kind row.now)) }
     ensures bound { IfOk result (λ n. n ≤ 25000) }
 {
     if hex {
         gather_hex(sink, waiting, kind, row)
     } else {
-        gather_text(sink, waiting, row)
+        gather_text(sink, waiting, digits, row)
     }
 }
 
 /// Puts the lines of all rows off the pad's layer behind what waits, and says how many bytes they have.
 fn gather_rows<K: Sink>(
     sink: &mut K,
-    waiting: &mut ArrayString<LINES>,
+    waiting: &mut SampleLines,
+    digits: &Fours,
     store: &BrickStore,
     sizes: &Sizes,
     hex: bool,
@@ -53,7 +55,7 @@ fn gather_rows<K: Sink>(
 ) -> Result<u64, Failed>
     requires sizes { sizes.now ≡ inner_grid store.now }
     requires room { length row.old ≡ sizes.now.nx }
-    ensures lines { Stages (K.seen sink.old) (K.seen sink.new) waiting.old.bytes waiting.new.bytes result (flat_map (coded_line hex store.now.kind) (rows_of (inner_voxels store.now))) }
+    ensures lines { Stages (K.seen sink.old) (K.seen sink.new) waiting.old waiting.new result (flat_map (coded_line hex store.now.kind) (rows_of (inner_voxels store.now))) }
     ensures bytes { IfOk result (λ n. n ≡ length (flat_map (coded_line hex store.now.kind) (rows_of (inner_voxels store.now)))) }
     ensures bound { IfOk result (λ n. n ≤ 25000 * (sizes.now.ny * sizes.now.nz)) }
 {
@@ -61,7 +63,7 @@ fn gather_rows<K: Sink>(
     let mut bytes = 0u64;
     for number in 0..sizes.ny() * sizes.nz() {
         copy_row(store, sizes, number, row);
-        bytes += gather_row(sink, waiting, kind, hex, row)?;
+        bytes += gather_row(sink, waiting, digits, kind, hex, row)?;
     }
     Ok(bytes)
 }
@@ -79,10 +81,10 @@ fn put_rows<K: Sink>(
     ensures bound { IfOk result (λ n. n ≤ 25000 * (sizes.now.ny * sizes.now.nz)) }
 {
     let mut samples = [0; MOST];
-    let mut waiting = ArrayString::new();
+    let mut waiting = SampleLines::new();
     let row = &mut samples[..sizes.nx() as usize];
-    let bytes = gather_rows(sink, &mut waiting, store, sizes, hex, row)?;
-    write_all_of(sink, waiting.as_str().as_bytes())?;
+    let bytes = gather_rows(sink, &mut waiting, &Fours::new(), store, sizes, hex, row)?;
+    write_all_of(sink, waiting.as_bytes())?;
     Ok(bytes)
 }
 

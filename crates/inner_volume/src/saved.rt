@@ -1,6 +1,6 @@
 //! A volume without its pad, as a file of a shelf.
 
-ghost use Rattle.std.specs.Prelude.{◌≡◌, ◌⊎◌, ◌+◌, ◌-◌, ◌*◌, ◌<◌, ◌≤◌, length, take, drop, get_or, pos, All, Ok, IfOk, OnErr};
+ghost use Rattle.std.specs.Prelude.{◌≡◌, ◌⊎◌, ◌+◌, ◌-◌, ◌*◌, ◌<◌, ◌≤◌, ◌++◌, ℕ, length, take, drop, min, get_or, pos, All, Ok, IfOk, OnErr};
 ghost use Rattle.iso_base.specs.Points.{IsPoint, index_of};
 ghost use Rattle.iso_base.specs.Volume.{inner_grid, sample};
 ghost use Rattle.iso_base.specs.Samples.{IsOfKind};
@@ -19,24 +19,36 @@ use nrrd::{put_nrrd_head, put_samples, volume_bytes};
 /// So many samples are gathered from rows before they are written.
 const BLOCK: usize = 4096;
 
-/// The stored point that is so many from the front along a row off the pad's layer, by the row's number among these.
-fn row_point(store: &BrickStore, sizes: &Sizes, row: u32, x: u32) -> Point
+/// The stored point at the front of a row off the pad's layer, by the row's number among these.
+fn row_front(store: &BrickStore, sizes: &Sizes, row: u32) -> Point
     requires sizes { sizes.now ≡ inner_grid store.now }
     requires row { row < sizes.now.ny * sizes.now.nz }
-    requires x { x < sizes.now.nx }
-    ensures value { sample store.now.samples (index_of store.now.grid result) ≡ get_or (inner_samples store.now) (row * sizes.now.nx + x) (pos 0) }
+    ensures value { (x : ℕ) → x < sizes.now.nx → sample store.now.samples (index_of store.now.grid result + x) ≡ get_or (inner_samples store.now) (row * sizes.now.nx + x) (pos 0) }
     ensures in_grid { IsPoint store.now.grid result }
+    ensures fits { result.x + sizes.now.nx ≤ store.now.grid.nx }
 {
     let _ = store.sizes();
     let layer = layer_of(store);
     Point {
-        x: x + layer,
+        x: layer,
         y: row % sizes.ny() + layer,
         z: row / sizes.ny() + layer,
     }
 }
 
-/// The samples of a row off the pad's layer.
+/// Copies a run of samples to a place, as far as there is room, and says how many they are.
+#[inline(always)]
+fn copy_run(run: &[i64], samples: &mut [i64], at: usize) -> usize
+    requires { at ≤ length samples.old }
+    ensures count { result ≡ min (length run.now) (length samples.old - at) }
+    ensures value { take (at + result) samples.new ≡ take at samples.old ++ take result run.now }
+{
+    let count = run.len().min(samples.len() - at);
+    samples[at..at + count].copy_from_slice(&run[..count]);
+    count
+}
+
+/// The samples of a row off the pad's layer. What one brick has of them is copied at once.
 pub(crate) fn copy_row(store: &BrickStore, sizes: &Sizes, row: u32, samples: &mut [i64])
     requires sizes { sizes.now ≡ inner_grid store.now }
     requires row { row < sizes.now.ny * sizes.now.nz }
@@ -45,8 +57,15 @@ pub(crate) fn copy_row(store: &BrickStore, sizes: &Sizes, row: u32, samples: &mu
     ensures each { All (IsOfKind store.now.kind) samples.new }
 {
     let _ = store.sizes();
-    for x in 0..sizes.nx() {
-        samples[x as usize] = store.get(row_point(store, sizes, row, x));
+    let front = row_front(store, sizes, row);
+    let mut x = 0;
+    while x < samples.len() {
+        let run = store.row_from(Point {
+            x: front.x + x as u32,
+            y: front.y,
+            z: front.z,
+        });
+        x += copy_run(run, samples, x);
     }
 }
 

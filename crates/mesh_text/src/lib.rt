@@ -12,7 +12,10 @@ mod lines;
 mod obj;
 mod ply;
 
+pub use counted::Counted;
+pub use digits::Digits;
 pub use format::TwoWayFormat;
+pub use fours::Fours;
 pub use head::{ply_head_text, points_head_text, put_ply_head, put_points_head};
 pub use line::Line;
 pub use lines::Lines;

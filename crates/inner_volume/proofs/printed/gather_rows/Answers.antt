@@ -1,4 +1,4 @@
-use Rattle.std.proofs.Common.{◌≡◌, ◌+◌, ◌*◌, ◌∙◌, ◌≤◌, [], length, drop, get_or, sym, ap, subst, arith}
+use Rattle.std.proofs.Common.{◌≡◌, ◌+◌, ◌∙◌, [], length, get_or, sym, ap, subst, arith}
 use Rattle.std.specs.Prelude.{flat_map}
 use Rattle.std.proofs.lemmas.Result.{err_from_is_err_and}
 use Rattle.iso_io.proofs.Staging.{HasStaged, staged_front, staged_whole}
@@ -30,7 +30,7 @@ loop-number-preserved g c =
     let is : coded_line c.args.hex c.kind-kind.result row ≡ coded_line c.args.hex v.kind (get_or (rows_of (inner_voxels v)) c.loop-number.number [])
     = ap (λ k. coded_line c.args.hex k row) c.kind-kind.ensures
     ∙ ap (coded_line c.args.hex v.kind) (row_printed v c.args.sizes.now c.loop-number.number row c.requires.sizes low c.copy_row.ensures.value) in
-    subst (λ n. HasPieces (coded_line c.args.hex v.kind) 25000 (g.K.Sink.seen c.args.sink.now) (g.K.Sink.seen c.gather_row.new.sink) c.args.waiting.now.bytes c.gather_row.new.waiting.bytes
+    subst (λ n. HasPieces (coded_line c.args.hex v.kind) 25000 (g.K.Sink.seen c.args.sink.now) (g.K.Sink.seen c.gather_row.new.sink) c.args.waiting.now c.gather_row.new.waiting
     (rows_of (inner_voxels v)) (c.loop-number.number + 1) (c.loop-number.bytes + n)) (sym c.in_ok-bytes.ensures.bytes)
     (pieces_more (coded_line c.args.hex v.kind) 25000 _ _ _ _ _ _ (coded_line c.args.hex c.kind-kind.result row) (rows_of (inner_voxels v)) c.loop-number.number c.loop-number.bytes [] _ c.loop-number.invariant
     (row_among v c.args.sizes.now c.loop-number.number c.requires.sizes low) is (omega (arith, c.in_ok-bytes.ensures.bytes, c.in_ok-bytes.ensures.bound)) c.in_ok-bytes.ensures.line)

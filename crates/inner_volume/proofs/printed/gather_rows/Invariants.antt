@@ -5,4 +5,4 @@ use Rattle.inner_volume.proofs.printed.gather_rows.Given as goal
 
 abbrev pub invariant-loop-number : goal.invariant-loop-number
 invariant-loop-number g l =
-    HasPieces (coded_line l.hex l.store.kind) 25000 (g.K.Sink.seen l.fn.sink) (g.K.Sink.seen l.sink) l.fn.waiting.bytes l.waiting.bytes (rows_of (inner_voxels l.store)) l.number l.bytes
+    HasPieces (coded_line l.hex l.store.kind) 25000 (g.K.Sink.seen l.fn.sink) (g.K.Sink.seen l.sink) l.fn.waiting l.waiting (rows_of (inner_voxels l.store)) l.number l.bytes

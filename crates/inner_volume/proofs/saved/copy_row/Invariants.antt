@@ -1,6 +1,12 @@
-use Rattle.std.proofs.Common.{◌≡◌, ℕ, ◌+◌, ◌*◌, ◌<◌, get_or, pos}
+use Rattle.std.proofs.Common.{◌≡◌, ◌-◌, ◌*◌, ◌≤◌, take, drop, length}
 use Rattle.inner_volume.specs.Unpadded.{inner_samples}
 use Rattle.inner_volume.proofs.saved.copy_row.Given as goal
 
 abbrev pub invariant-loop-x : goal.invariant-loop-x
-invariant-loop-x l = (k : ℕ) → k < l.x → get_or l.samples k (pos 0) ≡ get_or (inner_samples l.store) (l.row * l.sizes.nx + k) (pos 0)
+invariant-loop-x l = record {
+  within : l.x ≤ length l.samples;
+  value : take l.x l.samples ≡ take l.x (drop (l.row * l.sizes.nx) (inner_samples l.store));
+}
+
+abbrev pub decreases-loop-x : goal.decreases-loop-x
+decreases-loop-x l = length l.samples - l.x

@@ -8,19 +8,19 @@ use Rattle.nrrd_text.proofs.rows.gather_hex.Goals as goal
 pub returns-in_err-gather_samples-clause-line : goal.returns-in_err-gather_samples-clause-line
 returns-in_err-gather_samples-clause-line g c =
     let p = err_from_is_err_and c.from_residual.result c.from_residual.ensures.1 in
-    let begun = staged_first (g.K.Sink.seen c.args.sink.now) c.args.waiting.now.bytes (hex_line c.args.kind c.args.values.now) in
+    let begun = staged_first (g.K.Sink.seen c.args.sink.now) c.args.waiting.now (hex_line c.args.kind c.args.values.now) in
     rw p.1 (staged_front _ _ _ _ _ _ _ _ _ (10 ∷ []) _ _ begun c.in_err-gather_samples.ensures)
 
-pub returns-in_err-gather-clause-line : goal.returns-in_err-gather-clause-line
-returns-in_err-gather-clause-line g c =
-    let p = err_from_is_err_and c.from_residual-in_err-gather.result c.from_residual-in_err-gather.ensures.1 in
-    let begun = staged_first (g.K.Sink.seen c.args.sink.now) c.args.waiting.now.bytes (hex_line c.args.kind c.args.values.now) in
-    rw p.1 (staged_front _ _ _ _ _ _ _ _ _ [] _ _ (staged_more _ _ _ _ _ _ _ (10 ∷ []) _ begun c.in_ok-gather_samples.ensures) c.in_err-gather.ensures)
+pub returns-in_err-gather_end-clause-line : goal.returns-in_err-gather_end-clause-line
+returns-in_err-gather_end-clause-line g c =
+    let p = err_from_is_err_and c.from_residual-in_err-gather_end.result c.from_residual-in_err-gather_end.ensures.1 in
+    let begun = staged_first (g.K.Sink.seen c.args.sink.now) c.args.waiting.now (hex_line c.args.kind c.args.values.now) in
+    rw p.1 (staged_front _ _ _ _ _ _ _ _ _ [] _ _ (staged_more _ _ _ _ _ _ _ (10 ∷ []) _ begun c.in_ok-gather_samples.ensures) c.in_err-gather_end.ensures)
 
 pub returns-clause-line : goal.returns-clause-line
 returns-clause-line g c =
-    let begun = staged_first (g.K.Sink.seen c.args.sink.now) c.args.waiting.now.bytes (hex_line c.args.kind c.args.values.now) in
-    staged_whole _ _ _ _ _ _ (staged_more _ _ _ _ _ _ _ [] _ (staged_more _ _ _ _ _ _ _ (10 ∷ []) _ begun c.in_ok-gather_samples.ensures) c.in_ok-gather.ensures)
+    let begun = staged_first (g.K.Sink.seen c.args.sink.now) c.args.waiting.now (hex_line c.args.kind c.args.values.now) in
+    staged_whole _ _ _ _ _ _ (staged_more _ _ _ _ _ _ _ [] _ (staged_more _ _ _ _ _ _ _ (10 ∷ []) _ begun c.in_ok-gather_samples.ensures) c.in_ok-gather_end.ensures)
 
 pub returns-clause-bytes : goal.returns-clause-bytes
 returns-clause-bytes g c =

@@ -1,0 +1,21 @@
+use Rattle.std.proofs.lemmas.Result.{err_from_is_err_and}
+use Rattle.std.proofs.Common.{subst}
+use Rattle.iso_io.proofs.Staging.{HasStaged, staged_front, staged_more}
+use Rattle.iso_base.specs.Samples.{IsOfKind}
+use Rattle.nrrd_text.specs.Writing.{sample_digits}
+use Rattle.nrrd_text.proofs.Lines.{each_later, pieces_joined}
+use Rattle.nrrd_text.proofs.gathered.gather_samples.Goals as goal
+
+pub returns-in_err-gather_digits : goal.returns-in_err-gather_digits
+returns-in_err-gather_digits g c =
+    let split = pieces_joined (sample_digits c.args.kind) c.loop-rest.rest.now c.next_piece.result.0.now c.next_piece.result.1.now c.next_piece.ensures.parts in
+    let p = err_from_is_err_and c.from_residual.result c.from_residual.ensures.1 in
+    rw p.1 (staged_front _ _ _ _ _ _ _ _ _ _ _ _ (subst (HasStaged _ _ _ _) split c.loop-rest.invariant.staged) c.in_err-gather_digits.ensures)
+
+pub loop-rest-preserved : goal.loop-rest-preserved
+loop-rest-preserved g c =
+    let split = pieces_joined (sample_digits c.args.kind) c.loop-rest.rest.now c.next_piece.result.0.now c.next_piece.result.1.now c.next_piece.ensures.parts in
+    record {
+      staged = staged_more _ _ _ _ _ _ _ _ _ (subst (HasStaged _ _ _ _) split c.loop-rest.invariant.staged) c.in_ok-gather_digits.ensures;
+      kind = each_later (IsOfKind c.args.kind) _ _ _ c.next_piece.ensures.parts c.loop-rest.invariant.kind;
+    }

@@ -1,0 +1,165 @@
+//! Samples put behind what waits, which is written where there is no room for them.
+
+ghost use Rattle.std.specs.Prelude.{◌≡◌, ◌+◌, ◌*◌, ◌^◌, ◌<◌, ◌≤◌, ◌⊎◌, ◌∷◌, ◌++◌, [], All, IfOk, flat_map, length};
+ghost use Rattle.std.specs.Fmt.{signed_decimal};
+ghost use Rattle.iso_io.specs.Seen.{Stages};
+ghost use Rattle.iso_base.specs.Samples.{IsOfKind};
+ghost use Rattle.nrrd_text.specs.Writing.{next_number, samples_digits};
+
+use crate::sample_lines::SampleLines;
+use iso_base::SampleKind;
+use iso_io::{Failed, Sink, write_all_of};
+use mesh_text::Digits;
+
+/// So many samples are put at once: whether there is room is asked for all of them, and not for each.
+const PIECE: usize = 256;
+
+/// The first samples of a row, and the others.
+fn next_piece(values: &[i64]) -> (&[i64], &[i64])
+    ensures parts { values.now ≡ result.0.now ++ result.1.now }
+    ensures few { length result.0.now ≤ 256 }
+    ensures fewer { (values.now ≡ []) ⊎ (length result.1.now < length values.now) }
+{
+    values.split_at(values.len().min(PIECE))
+}
+
+/// Writes what waits.
+fn write_waiting<K: Sink>(sink: &mut K, waiting: &mut SampleLines) -> Result<(), Failed>
+    ensures staged { Stages (K.seen sink.old) (K.seen sink.new) waiting.old waiting.new result [] }
+    ensures none { IfOk result (λ _. waiting.new ≡ []) }
+{
+    write_all_of(sink, waiting.as_bytes())?;
+    waiting.clear();
+    Ok(())
+}
+
+/// Makes room for so many samples.
+fn make_room<K: Sink>(sink: &mut K, waiting: &mut SampleLines, samples: usize) -> Result<(), Failed>
+    requires { samples ≤ 256 }
+    ensures staged { Stages (K.seen sink.old) (K.seen sink.new) waiting.old waiting.new result [] }
+    ensures room { IfOk result (λ _. length waiting.new + 24 * samples ≤ 32768) }
+{
+    if waiting.has_room(samples) {
+        return Ok(());
+    }
+    write_waiting(sink, waiting)
+}
+
+/// Puts the end of a line behind what waits.
+pub(crate) fn gather_end<K: Sink>(sink: &mut K, waiting: &mut SampleLines) -> Result<(), Failed>
+    ensures { Stages (K.seen sink.old) (K.seen sink.new) waiting.old waiting.new result (10 ∷ []) }
+{
+    make_room(sink, waiting, 1)?;
+    waiting.push_end();
+    Ok(())
+}
+
+/// Puts the first number of a line behind what waits, and says how many bytes it has.
+pub(crate) fn gather_first<K: Sink, D: Digits>(
+    sink: &mut K,
+    waiting: &mut SampleLines,
+    digits: &D,
+    value: i64,
+) -> Result<u64, Failed>
+    ensures staged { Stages (K.seen sink.old) (K.seen sink.new) waiting.old waiting.new result (signed_decimal value) }
+    ensures bytes { IfOk result (λ n. n ≡ length (signed_decimal value)) }
+    ensures few { IfOk result (λ n. n ≤ 24) }
+{
+    make_room(sink, waiting, 1)?;
+    let before = waiting.len();
+    waiting.push_first(digits, value);
+    Ok((waiting.len() - before) as u64)
+}
+
+/// Puts some numbers behind what waits, each behind a space, and says how many bytes they have.
+fn gather_piece<K: Sink, D: Digits>(
+    sink: &mut K,
+    waiting: &mut SampleLines,
+    digits: &D,
+    values: &[i64],
+) -> Result<u64, Failed>
+    requires { length values.now ≤ 256 }
+    ensures staged { Stages (K.seen sink.old) (K.seen sink.new) waiting.old waiting.new result (flat_map next_number values.now) }
+    ensures bytes { IfOk result (λ n. n ≡ length (flat_map next_number values.now)) }
+    ensures few { IfOk result (λ n. n ≤ 24 * length values.now) }
+{
+    make_room(sink, waiting, values.len())?;
+    let before = waiting.len();
+    waiting.push_others(digits, values);
+    Ok((waiting.len() - before) as u64)
+}
+
+/// Puts numbers behind what waits, each behind a space.
+pub(crate) fn gather_numbers<K: Sink, D: Digits>(
+    sink: &mut K,
+    waiting: &mut SampleLines,
+    digits: &D,
+    values: &[i64],
+) -> Result<(), Failed>
+    ensures { Stages (K.seen sink.old) (K.seen sink.new) waiting.old waiting.new result (flat_map next_number values.now) }
+{
+    let mut rest = values;
+    while !rest.is_empty() {
+        let (piece, others) = next_piece(rest);
+        gather_piece(sink, waiting, digits, piece)?;
+        rest = others;
+    }
+    Ok(())
+}
+
+/// The same, and says how many bytes they have.
+pub(crate) fn gather_counted<K: Sink, D: Digits>(
+    sink: &mut K,
+    waiting: &mut SampleLines,
+    digits: &D,
+    values: &[i64],
+) -> Result<u64, Failed>
+    requires few { length values.now ≤ 2 ^ 32 }
+    ensures numbers { Stages (K.seen sink.old) (K.seen sink.new) waiting.old waiting.new result (flat_map next_number values.now) }
+    ensures bytes { IfOk result (λ n. n ≡ length (flat_map next_number values.now)) }
+    ensures bound { IfOk result (λ n. n ≤ 24 * length values.now) }
+{
+    let mut bytes = 0u64;
+    let mut rest = values;
+    while !rest.is_empty() {
+        let (piece, others) = next_piece(rest);
+        bytes += gather_piece(sink, waiting, digits, piece)?;
+        rest = others;
+    }
+    Ok(bytes)
+}
+
+/// Puts the digits of some samples behind what waits.
+fn gather_digits<K: Sink>(
+    sink: &mut K,
+    waiting: &mut SampleLines,
+    kind: SampleKind,
+    values: &[i64],
+) -> Result<(), Failed>
+    requires kind { All (IsOfKind kind) values.now }
+    requires few { length values.now ≤ 256 }
+    ensures { Stages (K.seen sink.old) (K.seen sink.new) waiting.old waiting.new result (samples_digits kind values.now) }
+{
+    make_room(sink, waiting, values.len())?;
+    waiting.push_samples(kind, values);
+    Ok(())
+}
+
+/// Puts the digits of samples behind what waits.
+pub(crate) fn gather_samples<K: Sink>(
+    sink: &mut K,
+    waiting: &mut SampleLines,
+    kind: SampleKind,
+    values: &[i64],
+) -> Result<(), Failed>
+    requires { All (IsOfKind kind) values.now }
+    ensures { Stages (K.seen sink.old) (K.seen sink.new) waiting.old waiting.new result (samples_digits kind values.now) }
+{
+    let mut rest = values;
+    while !rest.is_empty() {
+        let (piece, others) = next_piece(rest);
+        gather_digits(sink, waiting, kind, piece)?;
+        rest = others;
+    }
+    Ok(())
+}

@@ -1,0 +1,100 @@
+//! The hex digits of samples, written from a place of a text on: each call gives the place behind what it wrote.
+
+ghost use Rattle.std.specs.Prelude.{◌≡◌, ◌+◌, ◌*◌, ◌≤◌, ◌<◌, ◌++◌, take, length, All};
+ghost use Rattle.iso_base.specs.Samples.{IsOfKind};
+ghost use Rattle.nrrd_text.specs.Samples.{bits_of};
+ghost use Rattle.nrrd_text.specs.Writing.{byte_digits, hex_digit, sample_digits, samples_digits};
+
+use iso_base::SampleKind;
+
+/// A small hex digit.
+#[inline(always)]
+fn hex_digit(n: u8) -> u8
+    requires { n < 16 }
+    ensures { result ≡ hex_digit n }
+{
+    if n < 10 { b'0' + n } else { b'a' + (n - 10) }
+}
+
+/// Writes the two digits of a byte.
+#[inline(always)]
+fn put_byte(b: u8, room: &mut [u8], at: usize) -> usize
+    requires { at + 2 ≤ length room.old }
+    ensures end { result ≡ at + 2 }
+    ensures written { take result room.new ≡ take at room.old ++ byte_digits b }
+{
+    room[at] = hex_digit(b / 16);
+    room[at + 1] = hex_digit(b % 16);
+    at + 2
+}
+
+/// The bits of a sample as a number.
+#[inline(always)]
+fn bits_of(kind: SampleKind, value: i64) -> u32
+    requires { IsOfKind kind value }
+    ensures { result ≡ bits_of kind value }
+{
+    match kind {
+        SampleKind::I8 if value < 0 => (value + 0x100) as u32,
+        SampleKind::I16 if value < 0 => (value + 0x1_0000) as u32,
+        SampleKind::I32 if value < 0 => (value + 0x1_0000_0000) as u32,
+        _ => value as u32,
+    }
+}
+
+/// Writes the digits of a sample's bytes, the lowest byte first.
+#[inline(always)]
+#[tactic(auto, unfolding(crate::specs::Writing::sample_digits))]
+fn put_sample(kind: SampleKind, value: i64, room: &mut [u8], at: usize) -> usize
+    requires kind { IsOfKind kind value }
+    requires space { at + 8 ≤ length room.old }
+    ensures end { result ≤ at + 8 }
+    ensures behind { at ≤ result }
+    ensures written { take result room.new ≡ take at room.old ++ sample_digits kind value }
+{
+    let [a, b, c, d] = bits_of(kind, value).to_le_bytes();
+    let at = put_byte(a, room, at);
+    if kind.width() == 1 {
+        return at;
+    }
+    let at = put_byte(b, room, at);
+    if kind.width() == 2 {
+        return at;
+    }
+    let at = put_byte(c, room, at);
+    put_byte(d, room, at)
+}
+
+/// Writes the digits of samples.
+#[inline(always)]
+fn put_each(kind: SampleKind, values: &[i64], room: &mut [u8], at: usize) -> usize
+    requires kind { All (IsOfKind kind) values.now }
+    requires space { at + 24 * length values.now ≤ length room.old }
+    ensures end { result ≤ at + 24 * length values.now }
+    ensures behind { at ≤ result }
+    ensures written { take result room.new ≡ take at room.old ++ samples_digits kind values.now }
+{
+    let mut end = at;
+    for value in values {
+        end = put_sample(kind, *value, room, end);
+    }
+    end
+}
+
+/// Writes the digits of samples. What a kind asks for is asked once, and not for each of them.
+pub(crate) fn put_samples(kind: SampleKind, values: &[i64], room: &mut [u8], at: usize) -> usize
+    requires kind { All (IsOfKind kind) values.now }
+    requires space { at + 24 * length values.now ≤ length room.old }
+    ensures end { result ≤ at + 24 * length values.now }
+    ensures behind { at ≤ result }
+    ensures written { take result room.new ≡ take at room.old ++ samples_digits kind values.now }
+{
+    match kind {
+        SampleKind::I8 => put_each(SampleKind::I8, values, room, at),
+        SampleKind::U8 => put_each(SampleKind::U8, values, room, at),
+        SampleKind::I16 => put_each(SampleKind::I16, values, room, at),
+        SampleKind::U16 => put_each(SampleKind::U16, values, room, at),
+        SampleKind::I32 => put_each(SampleKind::I32, values, room, at),
+        SampleKind::U32 => put_each(SampleKind::U32, values, room, at),
+    }
+}

@@ -1,0 +1,82 @@
+//! Numbers, written from a place of a text on: each call gives the place behind what it wrote.
+
+ghost use Rattle.std.specs.Prelude.{◌≡◌, ◌+◌, ◌*◌, ◌≤◌, ◌<◌, ◌^◌, ◌∷◌, ◌++◌, take, length, decimal, flat_map};
+ghost use Rattle.std.specs.Fmt.{signed_decimal};
+ghost use Rattle.nrrd_text.specs.Writing.{next_number};
+
+use itoa::Buffer;
+use mesh_text::Digits;
+
+/// The numbers from here on have more digits than those of a volume.
+const LONG: u64 = 100_000_000_000;
+
+/// Writes a number of any size.
+fn put_long(value: i64, room: &mut [u8], at: usize) -> usize
+    requires { at + 20 ≤ length room.old }
+    ensures end { result ≤ at + 20 }
+    ensures behind { at ≤ result }
+    ensures written { take result room.new ≡ take at room.old ++ signed_decimal value }
+{
+    let mut buffer = Buffer::new();
+    let text = buffer.format(value).as_bytes();
+    let end = at + text.len();
+    room[at..end].copy_from_slice(text);
+    end
+}
+
+/// Writes a number below zero, given without its sign.
+#[inline(always)]
+fn put_negative<D: Digits>(digits: &D, size: u64, room: &mut [u8], at: usize) -> usize
+    requires bound { size < 10 ^ 11 }
+    requires space { at + 13 ≤ length room.old }
+    ensures end { result ≤ at + 13 }
+    ensures behind { at ≤ result }
+    ensures written { take result room.new ≡ take at room.old ++ 45 ∷ decimal size }
+{
+    room[at] = b'-';
+    digits.put_number(size, room, at + 1)
+}
+
+/// Writes a number.
+#[inline(always)]
+pub(crate) fn put_number<D: Digits>(digits: &D, value: i64, room: &mut [u8], at: usize) -> usize
+    requires { at + 20 ≤ length room.old }
+    ensures end { result ≤ at + 20 }
+    ensures behind { at ≤ result }
+    ensures written { take result room.new ≡ take at room.old ++ signed_decimal value }
+{
+    let size = value.unsigned_abs();
+    if size >= LONG {
+        put_long(value, room, at)
+    } else if value < 0 {
+        put_negative(digits, size, room, at)
+    } else {
+        digits.put_number(size, room, at)
+    }
+}
+
+/// Writes a number behind another: a space, and its digits.
+#[inline(always)]
+fn put_next<D: Digits>(digits: &D, value: i64, room: &mut [u8], at: usize) -> usize
+    requires { at + 21 ≤ length room.old }
+    ensures end { result ≤ at + 21 }
+    ensures behind { at ≤ result }
+    ensures written { take result room.new ≡ take at room.old ++ next_number value }
+{
+    room[at] = b' ';
+    put_number(digits, value, room, at + 1)
+}
+
+/// Writes numbers, each behind a space.
+pub(crate) fn put_others<D: Digits>(digits: &D, values: &[i64], room: &mut [u8], at: usize) -> usize
+    requires { at + 24 * length values.now ≤ length room.old }
+    ensures end { result ≤ at + 24 * length values.now }
+    ensures behind { at ≤ result }
+    ensures written { take result room.new ≡ take at room.old ++ flat_map next_number values.now }
+{
+    let mut end = at;
+    for value in values {
+        end = put_next(digits, *value, room, end);
+    }
+    end
+}

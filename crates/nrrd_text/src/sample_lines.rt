@@ -1,0 +1,119 @@
+//! Lines of samples that wait until they are written.
+
+ghost use Rattle.std.specs.Prelude.{◌≡◌, ◌+◌, ◌*◌, ◌<◌, ◌≤◌, ◌∷◌, ◌++◌, [], IsTrue, All, length, flat_map};
+ghost use Rattle.std.specs.Fmt.{signed_decimal};
+ghost use Rattle.iso_base.specs.Samples.{IsOfKind};
+ghost use Rattle.nrrd_text.specs.Writing.{next_number, samples_digits};
+
+use crate::hex_digits::put_samples;
+use crate::numbers::{put_number, put_others};
+use iso_base::SampleKind;
+use mesh_text::Digits;
+use std::marker::Model;
+
+/// So many bytes wait at most: a write of the system costs as much as thousands of bytes.
+const BLOCK: usize = 32_768;
+
+/// Lines of samples, one behind another, each written where it stays until all are taken. Contracts see their bytes, which
+/// are at most 32,768.
+#[derive(Drop)]
+pub struct SampleLines {
+    bytes: [u8; BLOCK],
+    end: usize,
+}
+
+impl Model for SampleLines {
+    ghost use Rattle.std.specs.Prelude.{◌≡◌, ℕ, List, length, take, ◌≤◌};
+
+    ghost Value = { List ℕ };
+
+    ghost view = { λ l. take l.end l.bytes };
+
+    ghost invariant = { λ l. (l.end ≤ 32768) × (length l.bytes ≡ 32768) };
+}
+
+impl SampleLines {
+    /// No lines.
+    pub fn new() -> SampleLines
+        ensures { result ≡ [] }
+    {
+        SampleLines {
+            bytes: [0; BLOCK],
+            end: 0,
+        }
+    }
+
+    /// The bytes.
+    #[inline(always)]
+    pub fn as_bytes(&self) -> &[u8]
+        ensures { result.now ≡ self.now }
+    {
+        &self.bytes[..self.end]
+    }
+
+    /// How many bytes there are.
+    #[inline(always)]
+    pub(crate) fn len(&self) -> usize
+        ensures value { result ≡ length self.now }
+        ensures bound { result ≤ 32768 }
+    {
+        self.end
+    }
+
+    /// Whether there is room for so many more samples.
+    #[inline(always)]
+    pub(crate) fn has_room(&self, samples: usize) -> bool
+        requires { samples ≤ 256 }
+        ensures { IsTrue result → length self.now + 24 * samples ≤ 32768 }
+    {
+        self.end + 24 * samples <= BLOCK
+    }
+
+    /// Lets all lines go.
+    #[inline(always)]
+    pub(crate) fn clear(&mut self)
+        ensures { self.new ≡ [] }
+    {
+        self.end = 0;
+    }
+
+    /// Puts the end of a line behind the others.
+    #[inline(always)]
+    pub(crate) fn push_end(&mut self)
+        requires { length self.old < 32768 }
+        ensures { self.new ≡ self.old ++ 10 ∷ [] }
+    {
+        self.bytes[self.end] = b'\n';
+        self.end += 1;
+    }
+
+    /// Puts a number behind the others.
+    #[inline(always)]
+    pub(crate) fn push_first<D: Digits>(&mut self, digits: &D, value: i64)
+        requires { length self.old + 24 ≤ 32768 }
+        ensures number { self.new ≡ self.old ++ signed_decimal value }
+        ensures few { length self.new ≤ length self.old + 24 }
+    {
+        self.end = put_number(digits, value, &mut self.bytes, self.end);
+    }
+
+    /// Puts numbers behind the others, each behind a space.
+    #[inline(always)]
+    pub(crate) fn push_others<D: Digits>(&mut self, digits: &D, values: &[i64])
+        requires { length self.old + 24 * length values.now ≤ 32768 }
+        ensures numbers { self.new ≡ self.old ++ flat_map next_number values.now }
+        ensures few { length self.new ≤ length self.old + 24 * length values.now }
+    {
+        self.end = put_others(digits, values, &mut self.bytes, self.end);
+    }
+
+    /// Puts the digits of samples behind the others.
+    #[inline(always)]
+    pub(crate) fn push_samples(&mut self, kind: SampleKind, values: &[i64])
+        requires kind { All (IsOfKind kind) values.now }
+        requires room { length self.old + 24 * length values.now ≤ 32768 }
+        ensures { self.new ≡ self.old ++ samples_digits kind values.now }
+    {
+        self.end = put_samples(kind, values, &mut self.bytes, self.end);
+    }
+}
