@@ -43,15 +43,15 @@ fn put_edge(field: &Field, style: Style, point: Point, axis: u8, block: &mut Blo
     requires axis { axis < 3 }
     requires point { IsPoint field.now.grid point }
     requires crossing { IsTrue (is_crossing field.now.grid (heights field.now) (3 * index_of field.now.grid point + axis)) }
-    requires room { length block.old.waiting + 64 ≤ 32768 }
+    requires room { block.old.page + 64 ≤ 4096 }
     ensures put { IsBehind block.old block.new (edge_line style.format style.padded field.now (3 * index_of field.now.grid point + axis)) }
-    ensures few { length block.new.waiting ≤ length block.old.waiting + 64 }
+    ensures few { block.new.page ≤ block.old.page + 64 }
     ensures bytes { block.new.total ≤ block.old.total + 64 }
 {
     let sizes = field.sizes();
     let upper = next_point(&sizes, point, axis);
     let place = place(field.height(point), field.height(upper));
-    block.push_line(&style.vertex_text(&position(point, axis, place)));
+    block.push_vertex(style, &position(point, axis, place));
 }
 
 /// Puts the line of the vertex on an edge behind the others, if the edge is crossing.
@@ -67,9 +67,9 @@ fn put_if_crossing(
     requires axis { axis < 3 }
     requires point { IsPoint field.now.grid point }
     requires known { crossing ≡ is_crossing field.now.grid (heights field.now) (3 * index_of field.now.grid point + axis) }
-    requires room { length block.old.waiting + 64 ≤ 32768 }
+    requires room { block.old.page + 64 ≤ 4096 }
     ensures put { IsBehind block.old block.new (edges_text style.format style.padded field.now (3 * index_of field.now.grid point + axis) 1) }
-    ensures few { length block.new.waiting ≤ length block.old.waiting + 64 }
+    ensures few { block.new.page ≤ block.old.page + 64 }
     ensures bytes { block.new.total ≤ block.old.total + 64 }
 {
     if crossing {
@@ -81,7 +81,7 @@ fn put_if_crossing(
 fn put_point(field: &Field, style: Style, point: Point, flags: u8, block: &mut Block)
     requires point { IsPoint field.now.grid point }
     requires flags { flags ≡ flags_at field.now.grid (heights field.now) (index_of field.now.grid point) }
-    requires room { length block.old.waiting + 192 ≤ 32768 }
+    requires room { block.old.page + 192 ≤ 4096 }
     ensures put { IsBehind block.old block.new (point_edges_text style field.now (index_of field.now.grid point)) }
     ensures bytes { block.new.total ≤ block.old.total + 192 }
 {
