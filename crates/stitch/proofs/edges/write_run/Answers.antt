@@ -1,5 +1,4 @@
-use Rattle.std.proofs.Common.{◌≡◌, ℕ, ◌+◌, ◌-◌, ◌*◌, ◌<◌, ◌≤◌, ◌∙◌, ap, sym, subst, arith, take, drop, length, get_or}
-use Rattle.std.proofs.lemmas.List.{length-take, length-drop}
+use Rattle.std.proofs.Common.{◌≡◌, ℕ, ◌+◌, ◌-◌, ◌*◌, ◌<◌, ◌∙◌, ap, sym, subst, arith}
 use Rattle.std.proofs.lemmas.Result.{err_from_is_err_and}
 use Rattle.iso_defs.specs.Grid.{index}
 use Rattle.iso_defs.specs.Signs.{is_crossing}
@@ -7,7 +6,6 @@ use Rattle.crossing_edges.specs.Flags.{flags_at}
 use Rattle.flat_mesh.specs.Lattice.{heights}
 use Rattle.flat_mesh.specs.Rows.{row_start}
 use Rattle.stitch_rows.specs.Rows.{AreRuns}
-use Rattle.stitch.specs.Ends.{run_end}
 use Rattle.stitch.specs.Spans.{edge_line, edges_text}
 use Rattle.stitch.proofs.Adding.{adds_as, adds_none}
 use Rattle.stitch.proofs.EdgeLines.{edges_zeros}
