@@ -47,6 +47,12 @@ pub record IsRow (b : BrickAt) (y z : ℕ) : Type 0 where
   pub low_z : z < 9
   pub there : HasPoint b 0 y z
 
+-- a row of cells of the brick
+pub record IsCellRow (b : BrickAt) (y z : ℕ) : Type 0 where
+  pub y_low : y < 8
+  pub z_low : z < 8
+  pub last : HasPoint b 0 (y + 1) (z + 1)
+
 -- the samples of a row of the brick
 abbrev pub row_samples : BrickAt → ℕ → ℕ → List ℤ
 row_samples b y z = map (λ x. sample b.samples (point_in b x y z)) (below (points_along b.grid b.brick 0))

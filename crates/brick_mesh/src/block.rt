@@ -1,11 +1,12 @@
 //! A brick of a volume at a level.
-ghost use Rattle.std.specs.Prelude.{◌≡◌, ◌+◌, ◌-◌, ◌<◌, ◌≤◌, ◌^◌, All, length, unsigned_abs};
+ghost use Rattle.std.specs.Prelude.{◌≡◌, ◌+◌, ◌-◌, ◌/◌, ◌%◌, ◌<◌, ◌≤◌, ◌^◌, All, length, unsigned_abs};
 ghost use Rattle.iso_defs.specs.Bricks.{brick_cell, brick_count, in_brick};
 ghost use Rattle.iso_defs.specs.Cell.{cell_values};
 ghost use Rattle.iso_base.specs.Samples.{IsSample};
 ghost use Rattle.iso_base.specs.Shifted.{shifted};
 ghost use Rattle.iso_base.specs.Volume.{sample};
-ghost use Rattle.brick_mesh.specs.Block.{IsCell, IsRow, corner_values, heights, row_samples};
+ghost use Rattle.brick_mesh.specs.Around.{AreAround};
+ghost use Rattle.brick_mesh.specs.Block.{IsCell, IsCellRow, IsRow, corner_values, heights, row_samples};
 ghost use Rattle.brick_store.specs.Holding.{points_along};
 
 use brick_store::{BrickId, BrickStore};
@@ -13,6 +14,7 @@ use iso_base::Level;
 use std::marker::Model;
 
 /// The shifted value of a sample.
+#[inline(always)]
 fn height(samples: &[i64], x: usize, level: Level) -> i64
     requires place { x < length samples.now }
     requires range { All IsSample samples.now }
@@ -24,6 +26,7 @@ fn height(samples: &[i64], x: usize, level: Level) -> i64
 
 /// The shifted values at the corners of the cell at place x between four rows of samples:
 /// a row, the next one along y, the next one along z, and the next one along both.
+#[inline(always)]
 fn corner_values(
     near: &[i64],
     up: &[i64],
@@ -53,6 +56,16 @@ fn corner_values(
         height(both, x, level),
         height(both, x + 1, level),
     ]
+}
+
+/// The samples of the rows of points round a row of cells: its own, the next one along y, the next one along z, and the next one
+/// along both.
+#[derive(Clone, Copy)]
+pub struct Around<'a> {
+    near: &'a [i64],
+    up: &'a [i64],
+    far: &'a [i64],
+    both: &'a [i64],
 }
 
 /// A brick of a volume at a level. Contracts see its grid, its samples by index, its number and the level.
@@ -128,19 +141,33 @@ impl<'a> Block<'a> {
         self.store.row(self.brick, y, z)
     }
 
-    /// The shifted values at the corners of a cell of the brick.
-    pub fn values(&self, cell: u32) -> [i64; 8]
-        requires { IsCell self.now cell }
+    /// The samples round a row of cells.
+    pub fn around(&self, y: u8, z: u8) -> Around<'_>
+        requires { IsCellRow self.now y z }
+        ensures { AreAround self.now y z result }
+    {
+        Around {
+            near: self.row(y, z),
+            up: self.row(y + 1, z),
+            far: self.row(y, z + 1),
+            both: self.row(y + 1, z + 1),
+        }
+    }
+
+    /// The shifted values at the corners of a cell of the brick, from the samples round its row.
+    #[inline(always)]
+    pub fn values(&self, around: &Around<'_>, cell: u32) -> [i64; 8]
+        requires cell { IsCell self.now cell }
+        requires around { AreAround self.now (cell / 8 % 8) (cell / 64) around.now }
         ensures value { result ≡ cell_values self.now.grid (heights self.now) (brick_cell self.now.grid self.now.brick cell) }
         ensures bound { All (λ v. unsigned_abs v < 2 ^ 44) result }
     {
-        let (x, y, z) = ((cell % 8) as usize, (cell / 8 % 8) as u8, (cell / 64) as u8);
         corner_values(
-            self.row(y, z),
-            self.row(y + 1, z),
-            self.row(y, z + 1),
-            self.row(y + 1, z + 1),
-            x,
+            around.near,
+            around.up,
+            around.far,
+            around.both,
+            (cell % 8) as usize,
             self.level(),
         )
     }

@@ -117,3 +117,10 @@ count_more v old new row y z count grid rows low at made =
       same = ap (λ l. get_or l row 0) numbers ∙ get_or-set_same old.numbers row count 0 (omega arith);
       others = λ k earlier. ap (λ l. get_or l k 0) numbers ∙ get_or-set_other old.numbers row k count 0 (λ e. omega arith);
     }
+
+-- the number of a row
+pub row_low : (g : Grid) (y z : ℕ) → y < g.ny → z < g.nz → y + g.ny * z < row_count g
+row_low g y z hy hz =
+    let k : g.ny * suc z ≤ g.ny * g.nz = mul-le-mul_left g.ny hz in
+    let e : g.ny * suc z ≡ g.ny * z + g.ny = omega arith in
+    omega arith

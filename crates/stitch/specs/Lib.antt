@@ -3,3 +3,4 @@ pub mod Spans
 pub mod Numbers
 pub mod FourRows
 pub mod Joining
+pub mod Ends

@@ -95,9 +95,9 @@ fn put_centre(
     requires small { All (λ v. unsigned_abs v < 2 ^ 44) corners.now }
     requires edges { IsLoop edges.now }
     requires crossing { AllCross field.now cell.index edges.now }
-    requires room { length block.old.waiting + 64 ≤ 32768 }
+    requires room { block.old.page + 64 ≤ 4096 }
     ensures put { (n : ℕ) → IsBehind block.old block.new (centre_line style field.now cell.index edges.now n) }
-    ensures few { length block.new.waiting ≤ length block.old.waiting + 64 }
+    ensures few { block.new.page ≤ block.old.page + 64 }
     ensures bytes { block.new.total ≤ block.old.total + 64 }
 {
     let _ = field.sizes();
@@ -107,7 +107,7 @@ fn put_centre(
         1000 * cell.low.y + at[1],
         1000 * cell.low.z + at[2],
     ];
-    block.push_line(&style.vertex_text(&at));
+    block.push_vertex(style, &at);
 }
 
 /// Puts the line of the centre of the loop of that turn behind the others, if it has one.
@@ -125,9 +125,9 @@ fn put_if_centre(
     requires small { All (λ v. unsigned_abs v < 2 ^ 44) corners.now }
     requires edges { IsLoop edges.now }
     requires crossing { AllCross field.now cell.index edges.now }
-    requires room { length block.old.waiting + 64 ≤ 32768 }
+    requires room { block.old.page + 64 ≤ 4096 }
     ensures put { IsBehind block.old block.new (loop_lines style.format style.padded (loop_centre field.now cell.index turn edges.now)) }
-    ensures few { length block.new.waiting ≤ length block.old.waiting + 64 }
+    ensures few { block.new.page ≤ block.old.page + 64 }
     ensures bytes { block.new.total ≤ block.old.total + 64 }
 {
     let _ = turn;
@@ -149,7 +149,7 @@ fn put_centres(
     requires corners { corners.now ≡ values_at field.now cell.index }
     requires small { All (λ v. unsigned_abs v < 2 ^ 44) corners.now }
     requires loops { row_loops case ≡ loops_at field.now cell.index }
-    requires room { length block.old.waiting + 256 ≤ 32768 }
+    requires room { block.old.page + 256 ≤ 4096 }
     ensures put { IsBehind block.old block.new (loop_lines style.format style.padded (loop_centres field.now cell.index 0 (row_loops case))) }
     ensures bytes { block.new.total ≤ block.old.total + 256 }
 {

@@ -1,13 +1,18 @@
 //! The lines of the vertices on crossing edges, in order of name.
-ghost use Rattle.std.specs.Prelude.{◌≡◌, ◌+◌, ◌*◌, ◌<◌, ◌≤◌, ◌==◌, IfOk, IsTrue, if◌then◌else◌, length, slice_index};
+ghost use Rattle.std.specs.Prelude.{◌≡◌, ◌+◌, ◌-◌, ◌*◌, ◌<◌, ◌≤◌, ◌^◌, ◌==◌, All, IfOk, IsTrue, if◌then◌else◌, length, slice_index, true, unsigned_abs};
 ghost use Rattle.iso_defs.specs.Rows.{row_count};
 ghost use Rattle.iso_defs.specs.Signs.{is_crossing};
-ghost use Rattle.iso_base.specs.Points.{IsPoint, index_of};
+ghost use Rattle.iso_defs.specs.Grid.{Grid};
+ghost use Rattle.iso_base.specs.Points.{IsPoint, index_of, next_along};
+ghost use Rattle.iso_base.specs.Samples.{IsSample};
+ghost use Rattle.iso_base.specs.Shifted.{shifted};
+ghost use Rattle.iso_base.specs.Volume.{sample};
 ghost use Rattle.crossing_edges.specs.Flags.{flags_at};
 ghost use Rattle.flat_mesh.specs.Lattice.{heights};
 ghost use Rattle.flat_mesh.specs.Rows.{row_start};
-ghost use Rattle.stitch_rows.specs.Bricks.{AreMarked};
-ghost use Rattle.stitch_rows.specs.Rows.{AreFlags};
+ghost use Rattle.stitch_rows.specs.Bricks.{AreMarked, HoldRows};
+ghost use Rattle.stitch_rows.specs.Rows.{AreFlags, AreRuns};
+ghost use Rattle.stitch.specs.Ends.{AreEnds, run_end};
 ghost use Rattle.stitch.specs.Blocks.{Adds, IsBehind};
 ghost use Rattle.stitch.specs.Numbers.{AreRowRanks};
 ghost use Rattle.stitch.specs.Spans.{all_edges_text, edge_line, edges_text, point_edges_text, row_edges_text};
@@ -16,9 +21,11 @@ use crate::block::Block;
 use crate::ranks::{edges_before, row_at};
 use crate::style::Style;
 use edge_points::{RowRanks, place};
-use iso_base::{Point, next_point};
+use iso_base::Point;
 use iso_io::{Failed, Sink};
-use stitch_rows::{ActiveRow, Field, ROW, flag_row};
+use stitch_rows::{
+    ActiveRow, Field, PointRuns, ROW, Rows, count_along, flag_row, point_runs, rows_at,
+};
 
 /// Where the vertex on an edge is in thousandths, by its lower point, its axis and its place on the edge.
 #[inline(always)]
@@ -37,21 +44,72 @@ fn position(point: Point, axis: u8, place: u16) -> [u32; 3]
     at
 }
 
-/// Puts the line of the vertex on a crossing edge behind the others.
+/// The shifted values at a point and at the next ones along x, y and z. Those of points that are not there are open.
+#[derive(Clone, Copy)]
+pub struct Ends {
+    pub here: i64,
+    pub right: i64,
+    pub up: i64,
+    pub far: i64,
+}
+
+/// The shifted value of a sample of a run.
 #[inline(always)]
-fn put_edge(field: &Field, style: Style, point: Point, axis: u8, block: &mut Block)
+fn height_in(field: &Field, run: &[i64], k: usize) -> i64
+    requires run { All IsSample run.now }
+    requires k { k < length run.now }
+    ensures value { result ≡ shifted (sample run.now k) field.now.level }
+    ensures bound { unsigned_abs result < 2 ^ 44 }
+{
+    field.height_of(run[k])
+}
+
+/// The shifted values at the point at a place of a run of points, and at the next ones.
+#[inline(always)]
+fn ends_at(field: &Field, runs: &PointRuns<'_>, x: u32, y: u32, z: u32, k: usize) -> Ends
+    requires runs { AreRuns field.now x y z runs.now }
+    requires k { k < length runs.now.here.now }
+    requires next { x + k + 1 < field.now.grid.nx → k + 1 < length runs.now.here.now }
+    requires y { y < field.now.grid.ny }
+    requires z { z < field.now.grid.nz }
+    ensures { AreEnds field.now (x + k) y z result }
+{
+    let _ = (x, y, z);
+    let last = runs.here.len() - 1;
+    Ends {
+        here: height_in(field, runs.here, k),
+        right: height_in(field, runs.here, (k + 1).min(last)),
+        up: height_in(field, runs.up, k),
+        far: height_in(field, runs.far, k),
+    }
+}
+
+/// Puts the line of the vertex on a crossing edge behind the others, from the shifted values at its ends.
+#[inline(always)]
+fn put_edge(
+    field: &Field,
+    style: Style,
+    point: Point,
+    axis: u8,
+    low: i64,
+    high: i64,
+    block: &mut Block,
+)
     requires axis { axis < 3 }
     requires point { IsPoint field.now.grid point }
     requires crossing { IsTrue (is_crossing field.now.grid (heights field.now) (3 * index_of field.now.grid point + axis)) }
-    requires room { length block.old.waiting + 64 ≤ 32768 }
+    requires low { low ≡ heights field.now (index_of field.now.grid point) }
+    requires high { high ≡ heights field.now (index_of field.now.grid (next_along axis point)) }
+    requires low_bound { unsigned_abs low < 2 ^ 44 }
+    requires high_bound { unsigned_abs high < 2 ^ 44 }
+    requires room { block.old.page + 64 ≤ 4096 }
     ensures put { IsBehind block.old block.new (edge_line style.format style.padded field.now (3 * index_of field.now.grid point + axis)) }
-    ensures few { length block.new.waiting ≤ length block.old.waiting + 64 }
+    ensures few { block.new.page ≤ block.old.page + 64 }
     ensures bytes { block.new.total ≤ block.old.total + 64 }
 {
-    let sizes = field.sizes();
-    let upper = next_point(&sizes, point, axis);
-    let place = place(field.height(point), field.height(upper));
-    block.push_line(&style.vertex_text(&position(point, axis, place)));
+    let _ = field.sizes();
+    let place = place(low, high);
+    block.push_vertex(style, &position(point, axis, place));
 }
 
 /// Puts the line of the vertex on an edge behind the others, if the edge is crossing.
@@ -62,43 +120,57 @@ fn put_if_crossing(
     point: Point,
     axis: u8,
     crossing: bool,
+    low: i64,
+    high: i64,
     block: &mut Block,
 )
     requires axis { axis < 3 }
     requires point { IsPoint field.now.grid point }
     requires known { crossing ≡ is_crossing field.now.grid (heights field.now) (3 * index_of field.now.grid point + axis) }
-    requires room { length block.old.waiting + 64 ≤ 32768 }
+    requires low { low ≡ heights field.now (index_of field.now.grid point) }
+    requires high { crossing ≡ true → high ≡ heights field.now (index_of field.now.grid (next_along axis point)) }
+    requires low_bound { unsigned_abs low < 2 ^ 44 }
+    requires high_bound { unsigned_abs high < 2 ^ 44 }
+    requires room { block.old.page + 64 ≤ 4096 }
     ensures put { IsBehind block.old block.new (edges_text style.format style.padded field.now (3 * index_of field.now.grid point + axis) 1) }
-    ensures few { length block.new.waiting ≤ length block.old.waiting + 64 }
+    ensures few { block.new.page ≤ block.old.page + 64 }
     ensures bytes { block.new.total ≤ block.old.total + 64 }
 {
     if crossing {
-        put_edge(field, style, point, axis, block);
+        put_edge(field, style, point, axis, low, high, block);
     }
 }
 
 /// Puts the lines of the vertices on the edges that begin at a point behind the others.
-fn put_point(field: &Field, style: Style, point: Point, flags: u8, block: &mut Block)
+fn put_point(field: &Field, style: Style, point: Point, flags: u8, ends: Ends, block: &mut Block)
     requires point { IsPoint field.now.grid point }
     requires flags { flags ≡ flags_at field.now.grid (heights field.now) (index_of field.now.grid point) }
-    requires room { length block.old.waiting + 192 ≤ 32768 }
+    requires ends { AreEnds field.now point.x point.y point.z ends }
+    requires room { block.old.page + 192 ≤ 4096 }
     ensures put { IsBehind block.old block.new (point_edges_text style field.now (index_of field.now.grid point)) }
     ensures bytes { block.new.total ≤ block.old.total + 192 }
 {
-    put_if_crossing(field, style, point, 0, flags % 2 == 1, block);
-    put_if_crossing(field, style, point, 1, flags / 2 % 2 == 1, block);
-    put_if_crossing(field, style, point, 2, flags / 4 == 1, block);
+    let (low, right, up, far) = (ends.here, ends.right, ends.up, ends.far);
+    put_if_crossing(field, style, point, 0, flags % 2 == 1, low, right, block);
+    put_if_crossing(field, style, point, 1, flags / 2 % 2 == 1, low, up, block);
+    put_if_crossing(field, style, point, 2, flags / 4 == 1, low, far, block);
 }
 
-/// The same, and first makes room for them.
+/// The same of the point at a place of a run, and first makes room for them.
 fn write_point<K: Sink>(
     field: &Field,
     style: Style,
+    runs: &PointRuns<'_>,
+    k: usize,
     point: Point,
     flags: u8,
     block: &mut Block,
     sink: &mut K,
 ) -> Result<(), Failed>
+    requires runs { AreRuns field.now (point.x - k) point.y point.z runs.now }
+    requires at { k ≤ point.x }
+    requires k { k < length runs.now.here.now }
+    requires next { point.x + 1 < field.now.grid.nx → k + 1 < length runs.now.here.now }
     requires point { IsPoint field.now.grid point }
     requires flags { flags ≡ flags_at field.now.grid (heights field.now) (index_of field.now.grid point) }
     ensures adds { Adds (K.seen sink.old) (K.seen sink.new) block.old block.new result (point_edges_text style field.now (index_of field.now.grid point)) }
@@ -108,11 +180,75 @@ fn write_point<K: Sink>(
         return Ok(());
     }
     block.reserve(sink)?;
-    put_point(field, style, point, flags, block);
+    let ends = ends_at(field, runs, point.x - k as u32, point.y, point.z, k);
+    put_point(field, style, point, flags, ends, block);
     Ok(())
 }
 
-/// Puts the lines of the vertices on the edges that begin in a row of points behind the others.
+/// Whether no flag is set.
+fn are_zeros(flags: &[u8]) -> bool
+    ensures { IsTrue result → All (λ f. f ≡ 0) flags.now }
+{
+    flags.iter().all(|f| *f == 0)
+}
+
+/// Puts the lines of the vertices on the edges that begin at the points of a row from 8 * x to before an end behind the
+/// others: points that one brick holds.
+fn write_run<K: Sink>(
+    field: &Field,
+    style: Style,
+    rows: Rows,
+    x: u32,
+    y: u32,
+    z: u32,
+    end: u32,
+    flags: &[u8],
+    block: &mut Block,
+    sink: &mut K,
+) -> Result<(), Failed>
+    requires x { 8 * x + 1 < field.now.grid.nx }
+    requires y { y < field.now.grid.ny }
+    requires z { z < field.now.grid.nz }
+    requires rows { HoldRows field.now.grid y z rows }
+    requires end { end ≡ run_end field.now.grid x }
+    requires count { length flags.now ≡ field.now.grid.nx }
+    requires flags { AreFlags field.now y z flags.now }
+    ensures adds { Adds (K.seen sink.old) (K.seen sink.new) block.old block.new result
+        (edges_text style.format style.padded field.now (3 * (row_start field.now.grid y z + 8 * x)) (3 * (end - 8 * x))) }
+    ensures bytes { IfOk result (λ _. block.new.total ≤ block.old.total + 192 * (end - 8 * x)) }
+{
+    let _ = field.sizes();
+    let start = 8 * x;
+    if are_zeros(&flags[start as usize..end as usize]) {
+        return Ok(());
+    }
+    let runs = point_runs(field, rows, x, y, z);
+    for at in start..end {
+        write_point(
+            field,
+            style,
+            &runs,
+            (at - start) as usize,
+            Point { x: at, y, z },
+            flags[at as usize],
+            block,
+            sink,
+        )?;
+    }
+    Ok(())
+}
+
+/// Where the points of a row end that go with the brick at that place along x: with the last one all that are left.
+#[inline(always)]
+fn run_end(nx: u32, x: u32) -> u32
+    requires wide { 8 * x + 1 < nx }
+    requires few { nx ≤ 1026 }
+    ensures { (g : Grid) → g.nx ≡ nx → result ≡ run_end g x }
+{
+    if 8 * x + 9 < nx { 8 * x + 8 } else { nx }
+}
+
+/// Puts the lines of the vertices on the edges that begin in a row of points behind the others, brick by brick.
 fn write_points<K: Sink>(
     field: &Field,
     style: Style,
@@ -129,15 +265,12 @@ fn write_points<K: Sink>(
     ensures adds { Adds (K.seen sink.old) (K.seen sink.new) block.old block.new result (row_edges_text style field.now (y + field.now.grid.ny * z)) }
     ensures bytes { IfOk result (λ _. block.new.total ≤ block.old.total + 192 * field.now.grid.nx) }
 {
-    for x in 0..field.sizes().nx() {
-        write_point(
-            field,
-            style,
-            Point { x, y, z },
-            flags[x as usize],
-            block,
-            sink,
-        )?;
+    let sizes = field.sizes();
+    let nx = sizes.nx();
+    let rows = rows_at(&sizes, y, z);
+    for x in 0..count_along(nx) {
+        let end = run_end(nx, x);
+        write_run(field, style, rows, x, y, z, end, flags, block, sink)?;
     }
     Ok(())
 }

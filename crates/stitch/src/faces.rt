@@ -42,12 +42,12 @@ fn corner(numbers: &[u32; 12], edges: &[u8], i: usize) -> u32
 /// Puts the line of a triangle behind the others.
 #[inline(always)]
 fn put_face(style: Style, a: u32, b: u32, c: u32, block: &mut Block)
-    requires room { length block.old.waiting + 64 ≤ 32768 }
+    requires room { block.old.page + 64 ≤ 4096 }
     ensures put { IsBehind block.old block.new (face_lines style.format ((a ∷ b ∷ c ∷ []) ∷ [])) }
-    ensures few { length block.new.waiting ≤ length block.old.waiting + 64 }
+    ensures few { block.new.page ≤ block.old.page + 64 }
     ensures bytes { block.new.total ≤ block.old.total + 64 }
 {
-    block.push_line(&style.face_text(&[a, b, c]));
+    block.push_face(style, &[a, b, c]);
 }
 
 /// Puts the lines of the triangles of a loop with a centre behind the others.
@@ -55,9 +55,9 @@ fn put_fan(style: Style, numbers: &[u32; 12], edges: &[u8], centre: u32, block: 
     requires edges { All (λ e. e < 12) edges.now }
     requires long { 3 < length edges.now }
     requires few { length edges.now ≤ 12 }
-    requires room { length block.old.waiting + 768 ≤ 32768 }
+    requires room { block.old.page + 768 ≤ 4096 }
     ensures put { IsBehind block.old block.new (face_lines style.format (loop_faces (map (slice_index numbers.now) edges.now) centre)) }
-    ensures few { length block.new.waiting ≤ length block.old.waiting + 768 }
+    ensures few { block.new.page ≤ block.old.page + 768 }
     ensures bytes { block.new.total ≤ block.old.total + 768 }
 {
     let first = corner(numbers, edges, 0);
@@ -74,9 +74,9 @@ fn put_fan(style: Style, numbers: &[u32; 12], edges: &[u8], centre: u32, block: 
 /// centre.
 fn put_loop(style: Style, numbers: &[u32; 12], edges: &[u8], centre: u32, block: &mut Block)
     requires edges { IsLoop edges.now }
-    requires room { length block.old.waiting + 768 ≤ 32768 }
+    requires room { block.old.page + 768 ≤ 4096 }
     ensures put { IsBehind block.old block.new (face_lines style.format (loop_faces (map (slice_index numbers.now) edges.now) centre)) }
-    ensures few { length block.new.waiting ≤ length block.old.waiting + 768 }
+    ensures few { block.new.page ≤ block.old.page + 768 }
     ensures bytes { block.new.total ≤ block.old.total + 768 }
 {
     if edges.len() > 3 {
@@ -105,7 +105,7 @@ fn behind_loop(edges: &[u8], next: u32) -> u32
 /// Puts the lines of the triangles of the loops of a case behind the others, where `first` is the number of the first centre,
 /// and gives that of the next one.
 fn put_loops(style: Style, numbers: &[u32; 12], case: CaseRow, first: u32, block: &mut Block) -> u32
-    requires room { length block.old.waiting + 3072 ≤ 32768 }
+    requires room { block.old.page + 3072 ≤ 4096 }
     requires first { first < 2 ^ 31 }
     ensures put { IsBehind block.old block.new (face_lines style.format (cell_faces numbers.now (row_loops case) first)) }
     ensures next { result ≡ first + sum_by centres_of (row_loops case) }

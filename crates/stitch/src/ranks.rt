@@ -76,6 +76,25 @@ pub fn edges_before(field: &Field, ranks: &RowRanks, total: u32, row: u32) -> u3
     ranks.before(y, z)
 }
 
+/// How many crossing edges begin in the rows before the one at these coordinates. Behind the last row of a slice stands the
+/// first one of the next slice.
+fn edges_to_row(field: &Field, ranks: &RowRanks, total: u32, y: u32, z: u32) -> u32
+    requires ranks { AreRowRanks field.now ranks.now total }
+    requires y { y ≤ field.now.grid.ny }
+    requires z { z < field.now.grid.nz }
+    ensures { result ≡ edges_to field.now (row_start field.now.grid y z) }
+{
+    let sizes = field.sizes();
+    let (ny, nz) = (sizes.ny(), sizes.nz());
+    if y < ny {
+        return ranks.before(y, z);
+    }
+    if z + 1 < nz {
+        return ranks.before(0, z + 1);
+    }
+    total
+}
+
 /// Whether no crossing edge begins in the four rows of points of a row of cells: its cells have no loops then.
 pub fn is_quiet(field: &Field, ranks: &RowRanks, total: u32, y: u32, z: u32) -> bool
     requires ranks { AreRowRanks field.now ranks.now total }
@@ -83,9 +102,8 @@ pub fn is_quiet(field: &Field, ranks: &RowRanks, total: u32, y: u32, z: u32) -> 
     requires z { z + 1 < field.now.grid.nz }
     ensures { IsTrue result → AreQuiet field.now (row_start field.now.grid y z) field.now.grid.nx }
 {
-    let ny = field.sizes().ny();
-    let near = y + ny * z;
-    let far = near + ny;
-    edges_before(field, ranks, total, near) == edges_before(field, ranks, total, near + 2)
-        && edges_before(field, ranks, total, far) == edges_before(field, ranks, total, far + 2)
+    let _ = field.sizes();
+    edges_to_row(field, ranks, total, y, z) == edges_to_row(field, ranks, total, y + 2, z)
+        && edges_to_row(field, ranks, total, y, z + 1)
+            == edges_to_row(field, ranks, total, y + 2, z + 1)
 }

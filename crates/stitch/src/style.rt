@@ -1,13 +1,11 @@
 //! How vertices and faces are written.
-ghost use Rattle.std.specs.Prelude.{◌≡◌, ℕ, ◌<◌, ◌^◌, slice_index, unsigned_abs};
+ghost use Rattle.std.specs.Prelude.{◌≡◌, ◌+◌, ◌<◌, ◌≤◌, ◌^◌, ◌++◌, length, unsigned_abs};
 ghost use Rattle.iso_defs.specs.Texts.{printed};
 ghost use Rattle.iso_base.specs.Triangles.{triangle_of};
 ghost use Rattle.mesh_write.specs.Mesh.{face_line, vertex_line};
 
 use iso_base::Thousandth;
-use mesh_text::{
-    Line, TwoWayFormat, obj_face_text, obj_vertex_text, ply_face_text, ply_vertex_text,
-};
+use mesh_text::{Lines, TwoWayFormat};
 
 /// A pad's layer along an axis, in thousandths.
 const LAYER: i64 = 1000;
@@ -30,11 +28,13 @@ fn without_pad(stored: u32, padded: bool) -> Thousandth
 }
 
 impl Style {
-    /// The line of a vertex at a place.
+    /// Puts the line of a vertex at a place behind others, under the name 0, since a line has no name in it.
     #[inline(always)]
     #[tactic(auto, unfolding(mesh_write::specs::Mesh::vertex_line))]
-    pub fn vertex_text(self, at: &[u32; 3]) -> Line
-        ensures { (n : ℕ) → result ≡ vertex_line self.format self.padded (n, triangle_of at.now) }
+    pub fn gather_vertex(self, at: &[u32; 3], lines: &mut Lines)
+        requires { length lines.old + 64 ≤ 4096 }
+        ensures line { lines.new ≡ lines.old ++ vertex_line self.format self.padded (0, triangle_of at.now) }
+        ensures few { length lines.new ≤ length lines.old + 64 }
     {
         let at = [
             without_pad(at[0], self.padded),
@@ -42,20 +42,22 @@ impl Style {
             without_pad(at[2], self.padded),
         ];
         match self.format {
-            TwoWayFormat::Ply => ply_vertex_text(&at),
-            TwoWayFormat::Obj => obj_vertex_text(&at),
+            TwoWayFormat::Ply => lines.push_ply_vertex(&at),
+            TwoWayFormat::Obj => lines.push_obj_vertex(&at),
         }
     }
 
-    /// The line of a triangle.
+    /// Puts the line of a triangle behind others.
     #[inline(always)]
     #[tactic(auto, unfolding(mesh_write::specs::Mesh::face_line))]
-    pub fn face_text(self, corners: &[u32; 3]) -> Line
-        ensures { result ≡ face_line self.format (triangle_of corners.now) }
+    pub fn gather_face(self, corners: &[u32; 3], lines: &mut Lines)
+        requires { length lines.old + 64 ≤ 4096 }
+        ensures line { lines.new ≡ lines.old ++ face_line self.format (triangle_of corners.now) }
+        ensures few { length lines.new ≤ length lines.old + 64 }
     {
         match self.format {
-            TwoWayFormat::Ply => ply_face_text(corners),
-            TwoWayFormat::Obj => obj_face_text(corners),
+            TwoWayFormat::Ply => lines.push_ply_face(corners),
+            TwoWayFormat::Obj => lines.push_obj_face(corners),
         }
     }
 }

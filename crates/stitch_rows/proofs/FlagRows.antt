@@ -1,8 +1,9 @@
 -- The flags and the numbers of the points of a row, from the signs of three rows.
-use Rattle.std.proofs.Common.{◌≡◌, ℕ, ◌+◌, ◌-◌, ◌*◌, ◌^◌, ◌<◌, ◌≤◌, cond, List, All, map, length, get_or, take, min, refl, sym, ◌∙◌, ap, subst, arith, ltb, inl, inr, pos, zero-add}
+use Rattle.std.proofs.Common.{◌≡◌, ℕ, ◌+◌, ◌-◌, ◌*◌, ◌^◌, ◌<◌, ◌≤◌, cond, List, All, map, length, get_or, take, min, refl, sym, ◌∙◌, ap, subst, arith, ltb, inl, inr, ℤ, pos, zero-add}
+use Rattle.std.specs.Prelude.{int_le}
 use Rattle.std.specs.List.{sum_by}
 use Rattle.std.proofs.lemmas.Bool.{cases_lt, lt-ltb, le-ltb}
-use Rattle.std.proofs.lemmas.List.{ext_get_or, get_or-map, get_or-take, get_or_default, length-take}
+use Rattle.std.proofs.lemmas.List.{ext_get_or, get_or-map, get_or_default}
 use Rattle.std.proofs.lemmas.List.FromFn.{get_or-map-range_with_len, length-map-range_with_len}
 use Rattle.iso_defs.specs.Lists.{below}
 use Rattle.iso_defs.specs.Grid.{index, point_count}
@@ -18,7 +19,11 @@ use Rattle.flat_mesh.specs.Rows.{row_start, sign_bit}
 use Rattle.flat_mesh.proofs.FirstNumbers.{rank_low}
 use Rattle.flat_mesh.proofs.Known.{flags_low}
 use Rattle.stitch_rows.specs.Bricks.{next_at}
-use Rattle.stitch_rows.specs.Rows.{AreFirst, AreFlags, AreFlagsTo, AreRunSigns, HasMoreFlags}
+use Rattle.stitch_rows.specs.Rows.{AreFirst, AreFlags, AreFlagsTo, HasMoreFlags, bit_right, run_flags}
+use Rattle.stitch_rows.specs.Runs.{IsRun}
+use Rattle.corner_signs.specs.Rows.{bit_from}
+use Rattle.iso_base.specs.Shifted.{is_above_level}
+use Rattle.iso_base.specs.Volume.{sample}
 
 -- flags by index are the list of flags
 pub flags_list : (v : Leveled) (y z : ℕ) (flags : List ℕ) → length flags ≡ v.grid.nx → AreFlags v y z flags → flags ≡ flags_from v.grid (heights v) (row_start v.grid y z) v.grid.nx
@@ -142,14 +147,20 @@ module _ (v : Leveled) (is : IsLeveled v) (y z : ℕ) (hy : y < v.grid.ny) (hz :
       ∙ (sym (get_or-map-range_with_len flag 0 v.grid.nx x x 0 low (zero-add x)) ∙ all))))
 
   -- a run of them
-  pub flags_more : (x n uy fz : ℕ) (here up far old new : List ℕ) → 8 * x + 1 < v.grid.nx → n ≡ min 9 (v.grid.nx - 8 * x) → n ≤ length here
-      → uy ≡ next_at y v.grid.ny → fz ≡ next_at z v.grid.nz
-      → AreRunSigns v (8 * x) y z here → AreRunSigns v (8 * x) uy z up → AreRunSigns v (8 * x) y fz far
-      → ((i : ℕ) → i < length (take n here) → get_or new (8 * x + i) 0
-      ≡ flag_of (get_or (take n here) i 0) (right_of (take n here) (length (take n here)) i) (get_or (take n up) i 0) (get_or (take n far) i 0))
+  pub flags_more : (x n : ℕ) (least : ℤ) (here up far : List ℤ) (old new : List ℕ) → 8 * x + 1 < v.grid.nx → n ≡ min 9 (v.grid.nx - 8 * x)
+      → IsRun v (8 * x) y z here → IsRun v (8 * x) (next_at y v.grid.ny) z up → IsRun v (8 * x) y (next_at z v.grid.nz) far
+      → ((s : ℤ) → int_le least s ≡ is_above_level s v.level)
+      → ((i : ℕ) → i < length here → get_or new (8 * x + i) 0 ≡ run_flags least here up far i)
       → ((k : ℕ) → k < 8 * x → get_or new k 0 ≡ get_or old k 0) → AreFlagsTo v y z (8 * x) old → HasMoreFlags v y z (8 * x + 8) new
-  flags_more x n uy fz here up far old new wide few room eu ef h u f inside before flags =
-      let count : length (take n here) ≡ n = let l = length-take n here in omega (arith, l, room) in
+  unfolding run_flags
+  flags_more x n least here up far old new wide few h u f law inside before flags =
+      let uy : ℕ = next_at y v.grid.ny in
+      let fz : ℕ = next_at z v.grid.nz in
+      let count : length here ≡ n = let e = h.count in omega arith in
+      let wide_up : length up ≡ n = let e = u.count in omega arith in
+      let wide_far : length far ≡ n = let e = f.count in omega arith in
+      let bit : (run : List ℤ) (i p : ℕ) → get_or run i (pos 0) ≡ sample v.samples p → bit_from least (sample run i) ≡ sign_bit v p
+      = λ run i p e. ap (λ b. cond b 1 0) (law (sample run i)) ∙ ap (λ s. sign_of v.level s) e in
       let one : (k : ℕ) → k < v.grid.nx → k < 8 * x + n → (k + 1 < v.grid.nx → k + 1 < 8 * x + n) → get_or new k 0 ≡ flags_at v.grid (heights v) (row_start v.grid y z + k)
       = λ k in_row low next. elim (cases_lt k (8 * x)) [
         | inl earlier ↦ before k earlier ∙ flags k in_row earlier
@@ -158,17 +169,15 @@ module _ (v : Leveled) (is : IsLeveled v) (y z : ℕ) (hy : y < v.grid.ny) (hz :
             let within : i < n = omega arith in
             let point : 8 * x + i ≡ k = omega arith in
             let behind : 8 * x + (i + 1) ≡ k + 1 = omega arith in
-            let front : List ℕ = take n here in
             sym (ap (λ n. get_or new n 0) point) ∙ (inside i (omega arith)
-            ∙ point_flags k (get_or front i 0) (right_of front (length front) i) (get_or (take n up) i 0) (get_or (take n far) i 0) in_row
-            (get_or-take n here i 0 within ∙ (h.each i (omega arith) (omega arith) ∙ ap (λ n. at n y z) point))
-            (λ more. let right : i + 1 < n = let m = next more in omega arith in
-            let listed : i + 1 < length front = omega arith in
-            ap (λ t. cond t (get_or front (i + 1) 0) (get_or front i 0)) (lt-ltb (i + 1) (length front) listed)
-            ∙ (get_or-take n here (i + 1) 0 right ∙ (h.each (i + 1) (omega arith) (omega arith) ∙ ap (λ n. at n y z) behind)))
-            (λ last. let none : length front ≤ i + 1 = omega arith in ap (λ t. cond t (get_or front (i + 1) 0) (get_or front i 0)) (le-ltb (i + 1) (length front) none))
-            (get_or-take n up i 0 within ∙ (u.each i (omega arith) (omega arith) ∙ (ap (λ n. at n uy z) point ∙ ap (λ n. at k n z) eu)))
-            (get_or-take n far i 0 within ∙ (f.each i (omega arith) (omega arith) ∙ (ap (λ n. at n y fz) point ∙ ap (λ n. at k y n) ef)))))
+            ∙ point_flags k (bit_from least (sample here i)) (bit_right least here i) (bit_from least (sample up i)) (bit_from least (sample far i)) in_row
+            (bit here i (index v.grid (8 * x + i) y z) (h.each i (omega arith)) ∙ ap (λ n. at n y z) point)
+            (λ more. let right : i + 1 < length here = let m = next more in omega arith in
+            ap (λ t. cond t (bit_from least (sample here (i + 1))) (bit_from least (sample here i))) (lt-ltb (i + 1) (length here) right)
+            ∙ (bit here (i + 1) (index v.grid (8 * x + (i + 1)) y z) (h.each (i + 1) right) ∙ ap (λ n. at n y z) behind))
+            (λ last. let none : length here ≤ i + 1 = omega arith in ap (λ t. cond t (bit_from least (sample here (i + 1))) (bit_from least (sample here i))) (le-ltb (i + 1) (length here) none))
+            (bit up i (index v.grid (8 * x + i) uy z) (u.each i (omega arith)) ∙ ap (λ n. at n uy z) point)
+            (bit far i (index v.grid (8 * x + i) y fz) (f.each i (omega arith)) ∙ ap (λ n. at n y fz) point)))
       ] in
       record {
         first = λ k in_row low. one k in_row (omega arith) (λ more. omega arith);

@@ -6,4 +6,5 @@ pub mod CaseRows
 pub mod Heights
 pub mod NextBricks
 pub mod FlagRows
+pub mod RunFlags
 pub mod StillFlags

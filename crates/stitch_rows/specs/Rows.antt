@@ -1,20 +1,35 @@
 -- What is known of the points and the cells of a row of a volume.
-use Rattle.std.specs.Prelude.{◌≡◌, ℕ, ◌+◌, ◌*◌, ◌<◌, ◌≤◌, ℤ, List, length, slice_index}
+use Rattle.std.specs.Prelude.{◌≡◌, ℕ, ◌+◌, ◌*◌, ◌<◌, ◌≤◌, ℤ, List, cond, length, nat_lt, slice_index}
 use Rattle.iso_defs.specs.Grid.{index}
-use Rattle.iso_base.specs.Volume.{Volume}
+use Rattle.iso_base.specs.Volume.{Volume, sample}
+use Rattle.corner_signs.specs.Rows.{bit_from}
 use Rattle.cell_loops.specs.Loops.{row_loops}
 use Rattle.crossing_edges.specs.Flags.{flags_at, rank}
+use Rattle.crossing_edges.specs.Signs.{flag_of}
 use Rattle.flat_mesh.specs.Lattice.{Leveled, heights}
 use Rattle.flat_mesh.specs.Faces.{loops_at}
-use Rattle.flat_mesh.specs.Rows.{row_start, sign_bit}
+use Rattle.flat_mesh.specs.Rows.{row_start}
+use Rattle.stitch_rows.specs.declared.points.PointRuns.{PointRuns}
+use Rattle.stitch_rows.specs.Bricks.{next_at}
+use Rattle.stitch_rows.specs.Runs.{IsRun}
 
 -- a volume at a level
 abbrev pub at_level : Volume → ℤ → Leveled
 at_level v level = record { grid = v.grid; samples = v.samples; level = level }
 
--- the signs of the points of a row that a brick holds, nine from x on where there are as many
-pub record AreRunSigns (v : Leveled) (x y z : ℕ) (signs : List ℕ) : Type 0 where
-  pub each : (k : ℕ) → k < 9 → x + k < v.grid.nx → slice_index signs k ≡ sign_bit v (index v.grid (x + k) y z)
+-- the sign of the next sample of a run, or of the last one again
+abbrev pub bit_right : ℤ → List ℤ → ℕ → ℕ
+bit_right least run i = cond (nat_lt (i + 1) (length run)) (bit_from least (sample run (i + 1))) (bit_from least (sample run i))
+
+-- the flags of a point of a run, from the samples of the run and of the next points along y and z
+unfoldable pub run_flags : ℤ → List ℤ → List ℤ → List ℤ → ℕ → ℕ
+run_flags least here up far i = flag_of (bit_from least (sample here i)) (bit_right least here i) (bit_from least (sample up i)) (bit_from least (sample far i))
+
+-- the samples of points from x on, and of the next points along y and z
+pub record AreRuns (v : Leveled) (x y z : ℕ) (runs : PointRuns) : Type 0 where
+  pub here : IsRun v x y z runs.here.now
+  pub up : IsRun v x (next_at y v.grid.ny) z runs.up.now
+  pub far : IsRun v x y (next_at z v.grid.nz) runs.far.now
 
 -- a number of a case that has the loops of a cell
 pub record IsCaseOf (v : Leveled) (q case : ℕ) : Type 0 where

@@ -9,6 +9,7 @@ ghost use Rattle.flat_mesh.specs.Cases.{values_at};
 ghost use Rattle.flat_mesh.specs.Lattice.{IsLeveled, heights};
 ghost use Rattle.span_tree.specs.Spans.{IsRightFor};
 ghost use Rattle.stitch_rows.specs.Bricks.{HoldRow, IsNextFrom};
+ghost use Rattle.stitch_rows.specs.Runs.{IsRun};
 ghost use Rattle.stitch_rows.specs.Rows.{at_level};
 
 use crate::bricks::BrickRow;
@@ -103,8 +104,7 @@ impl<'a> Field<'a> {
         requires y { y < self.now.grid.ny }
         requires z { z < self.now.grid.nz }
         requires row { HoldRow self.now.grid y z row }
-        ensures length { length result.now ≡ min 9 (self.now.grid.nx - 8 * x) }
-        ensures each { (k : ℕ) → k < length result.now → slice_index_or result.now k (pos 0) ≡ sample self.now.samples (index self.now.grid (8 * x + k) y z) }
+        ensures { IsRun self.now (8 * x) y z result.now }
     {
         let _ = self.store.sizes();
         self.store.row(BrickId(row.first + x), row.y, row.z)
@@ -119,6 +119,16 @@ impl<'a> Field<'a> {
             Some(brick) => brick.0,
             None => u32::MAX,
         }
+    }
+
+    /// The shifted value of a sample.
+    #[inline(always)]
+    pub fn height_of(&self, sample: i64) -> i64
+        requires { IsSample sample }
+        ensures value { result ≡ shifted sample self.now.level }
+        ensures bound { unsigned_abs result < 2 ^ 44 }
+    {
+        self.level.shifted(sample)
     }
 
     /// The level.

@@ -10,7 +10,8 @@ mod named;
 mod points;
 
 pub use active::ActiveRow;
+pub use bricks::count_along;
 pub use cases::case_row;
 pub use field::Field;
 pub use named::CellRows;
-pub use points::{ROW, RankedRow, flag_row, rank_row};
+pub use points::{PointRuns, ROW, RankedRow, Rows, flag_row, point_runs, rank_row, rows_at};

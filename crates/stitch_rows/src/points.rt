@@ -3,14 +3,14 @@ ghost use Rattle.std.specs.Prelude.{◌≡◌, ℕ, ◌+◌, ◌-◌, ◌*◌, �
 ghost use Rattle.crossing_edges.specs.Flags.{flags_from, rank};
 ghost use Rattle.flat_mesh.specs.Lattice.{heights};
 ghost use Rattle.flat_mesh.specs.Rows.{row_start};
-ghost use Rattle.crossing_edges.specs.Signs.{flag_of, right_of};
+ghost use Rattle.corner_signs.specs.Rows.{bit_from};
+ghost use Rattle.crossing_edges.specs.Signs.{apart, flag_of};
 ghost use Rattle.stitch_rows.specs.Bricks.{AreMarked, HoldRow, HoldRows, IsStill, first_brick, next_at};
-ghost use Rattle.stitch_rows.specs.Rows.{AreFirst, AreFlags, AreFlagsTo, AreRunSigns, AreZerosFrom, HasMoreFlags};
+ghost use Rattle.stitch_rows.specs.Rows.{AreFirst, AreFlags, AreFlagsTo, AreRuns, AreZerosFrom, HasMoreFlags, run_flags};
 
 use crate::active::ActiveRow;
 use crate::bricks::{BrickRow, count_along};
 use crate::field::Field;
-use corner_signs::sign_row;
 use flat_mesh::rank_points;
 use iso_base::Sizes;
 
@@ -20,29 +20,59 @@ pub const ROW: usize = 1026;
 /// One more.
 const NUMBERS: usize = 1027;
 
-/// The most points of a row that a brick holds.
-const RUN: usize = 9;
-
 /// Where the rows are that decide the flags of a row of points: it itself, and the next ones along y and z, or it itself again where
 /// there is none.
 #[derive(Clone, Copy)]
-struct Rows {
+pub struct Rows {
     here: BrickRow,
     up: BrickRow,
     far: BrickRow,
 }
 
-/// Writes the signs of the points of a row that a brick holds: those from 8 * x on.
+/// 1 for a sample that is at least `least`, else 0.
 #[inline(always)]
-fn run_signs(field: &Field, row: BrickRow, x: u32, y: u32, z: u32, out: &mut [u8; RUN])
-    requires x { 8 * x + 1 < field.now.grid.nx }
-    requires y { y < field.now.grid.ny }
-    requires z { z < field.now.grid.nz }
-    requires row { HoldRow field.now.grid y z row }
-    ensures { AreRunSigns field.now (8 * x) y z out.new }
+fn sign(sample: i64, least: i64) -> u8
+    ensures { result ≡ bit_from least sample }
 {
-    let run = field.run(row, x, y, z);
-    sign_row(run, field.level(), &mut out[..run.len()]);
+    if sample >= least { 1 } else { 0 }
+}
+
+/// 1 where two signs differ, else 0.
+#[inline(always)]
+fn differ(a: u8, b: u8) -> u8
+    ensures value { result ≡ apart a b }
+    ensures bound { result ≤ 1 }
+{
+    if a == b { 0 } else { 1 }
+}
+
+/// The flags of a point, from its sign and those of the next points.
+#[inline(always)]
+fn flags_of(here: u8, right: u8, up: u8, far: u8) -> u8
+    ensures { result ≡ flag_of here right up far }
+{
+    differ(here, right) + 2 * differ(here, up) + 4 * differ(here, far)
+}
+
+/// Writes the flags of a run of points, from their samples and those of the next points along y and z.
+fn flag_run(here: &[i64], up: &[i64], far: &[i64], least: i64, out: &mut [u8])
+    requires some { 0 < length here.now }
+    requires up { length up.now ≡ length here.now }
+    requires far { length far.now ≡ length here.now }
+    requires out { length out.old ≡ length here.now }
+    ensures { (i : ℕ) → i < length here.now → slice_index out.new i ≡ run_flags least here.now up.now far.now i }
+{
+    let last = here.len() - 1;
+    for i in 0..last {
+        out[i] = flags_of(
+            sign(here[i], least),
+            sign(here[i + 1], least),
+            sign(up[i], least),
+            sign(far[i], least),
+        );
+    }
+    let end = sign(here[last], least);
+    out[last] = flags_of(end, end, sign(up[last], least), sign(far[last], least));
 }
 
 /// The next coordinate, or the last one again.
@@ -56,7 +86,7 @@ fn next_along(at: u32, size: u32) -> u32
 }
 
 /// Where the rows are that decide the flags of a row of points.
-fn rows_at(sizes: &Sizes, y: u32, z: u32) -> Rows
+pub fn rows_at(sizes: &Sizes, y: u32, z: u32) -> Rows
     requires y { y < sizes.now.ny }
     requires z { z < sizes.now.nz }
     ensures { HoldRows sizes.now y z result }
@@ -68,18 +98,44 @@ fn rows_at(sizes: &Sizes, y: u32, z: u32) -> Rows
     }
 }
 
-/// Writes the flags of a run of points from a place on, from their signs and those of the next points along y and z.
-fn put_flags(here: &[u8], up: &[u8], far: &[u8], start: usize, flags: &mut [u8])
+/// The samples of the points of a row that a brick holds, and those of the next points along y and z, or the points' own again
+/// where there are none.
+#[derive(Clone, Copy)]
+pub struct PointRuns<'a> {
+    pub here: &'a [i64],
+    pub up: &'a [i64],
+    pub far: &'a [i64],
+}
+
+/// The samples of the points of a row that a brick holds, and of the next ones: those from 8 * x on.
+#[inline(always)]
+pub fn point_runs<'f>(field: &'f Field<'_>, rows: Rows, x: u32, y: u32, z: u32) -> PointRuns<'f>
+    requires x { 8 * x + 1 < field.now.grid.nx }
+    requires y { y < field.now.grid.ny }
+    requires z { z < field.now.grid.nz }
+    requires rows { HoldRows field.now.grid y z rows }
+    ensures { AreRuns field.now (8 * x) y z result }
+{
+    let sizes = field.sizes();
+    PointRuns {
+        here: field.run(rows.here, x, y, z),
+        up: field.run(rows.up, x, next_along(y, sizes.ny()), z),
+        far: field.run(rows.far, x, y, next_along(z, sizes.nz())),
+    }
+}
+
+/// Writes the same from a place on.
+#[inline(always)]
+fn put_flags(here: &[i64], up: &[i64], far: &[i64], least: i64, start: usize, flags: &mut [u8])
     requires some { 0 < length here.now }
     requires up { length up.now ≡ length here.now }
     requires far { length far.now ≡ length here.now }
     requires flags { start + length here.now ≤ length flags.old }
-    ensures inside { (i : ℕ) → i < length here.now → slice_index flags.new (start + i)
-        ≡ flag_of (slice_index here.now i) (right_of here.now (length here.now) i) (slice_index up.now i) (slice_index far.now i) }
+    ensures inside { (i : ℕ) → i < length here.now → slice_index flags.new (start + i) ≡ run_flags least here.now up.now far.now i }
     ensures before { (k : ℕ) → k < start → slice_index flags.new k ≡ slice_index flags.old k }
     ensures behind { (k : ℕ) → start + length here.now ≤ k → slice_index flags.new k ≡ slice_index flags.old k }
 {
-    crossing_edges::flag_row(here, up, far, &mut flags[start..start + here.len()]);
+    flag_run(here, up, far, least, &mut flags[start..start + here.len()]);
 }
 
 /// Writes the flags of the points of a row that an active brick holds: those from 8 * x on.
@@ -94,14 +150,11 @@ fn active_flags(field: &Field, rows: Rows, x: u32, y: u32, z: u32, flags: &mut [
     ensures flags { HasMoreFlags field.now y z (8 * x + 8) flags.new }
     ensures zeros { AreZerosFrom (8 * x + 9) flags.new }
 {
-    let sizes = field.sizes();
-    let (mut here, mut up, mut far) = ([0; RUN], [0; RUN], [0; RUN]);
-    run_signs(field, rows.here, x, y, z, &mut here);
-    run_signs(field, rows.up, x, next_along(y, sizes.ny()), z, &mut up);
-    run_signs(field, rows.far, x, y, next_along(z, sizes.nz()), &mut far);
-    let count = (sizes.nx() - 8 * x).min(RUN as u32) as usize;
+    let _ = field.sizes();
+    let runs = point_runs(field, rows, x, y, z);
+    let least = field.level().least_above();
     let start = 8 * x as usize;
-    put_flags(&here[..count], &up[..count], &far[..count], start, flags);
+    put_flags(runs.here, runs.up, runs.far, least, start, flags);
 }
 
 /// Writes 0 throughout.

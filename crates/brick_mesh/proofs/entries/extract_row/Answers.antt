@@ -1,33 +1,16 @@
-use Rattle.std.proofs.Common.{◌≡◌, ◌∙◌, ◌∷◌, ◌++◌, ◌+◌, ◌*◌, ℕ, [], ap, ap₂, arith, length, sym, length-append}
-use Rattle.iso_defs.specs.Bricks.{row_cases}
+use Rattle.std.proofs.Common.{◌≡◌, ◌∙◌, ◌+◌, true, ap, arith}
+use Rattle.iso_defs.specs.Bricks.{in_brick, row_cases}
 use Rattle.brick_mesh.specs.Block.{BrickAt, heights}
-use Rattle.brick_mesh.proofs.Runs.{first_all, first_long, first_more, first_none}
+use Rattle.brick_mesh.proofs.Spans.{inside, offsets}
 use Rattle.brick_mesh.proofs.entries.extract_row.Goals as goal
 
-pub push-requires : goal.push-requires
-push-requires g c = omega (arith, ap length c.loop-x.invariant.cases, first_long c.of-block.result c.args.y c.args.z c.loop-x.x)
-
-pub loop-x-init : goal.loop-x-init
-loop-x-init g c = record {
-  cases = c.clear.ensures ∙ sym (first_none c.of-block.result c.args.y c.args.z);
-  counted = omega (arith, ap length c.clear.ensures);
-}
-
-pub loop-x-preserved : goal.loop-x-preserved
-loop-x-preserved g c =
-    let cell : ℕ = c.from.result + 8 * (c.from-in-loop-x.result + 8 * c.from-in-loop-x-2.result) in
-    let at : cell ≡ c.loop-x.x + 8 * (c.args.y + 8 * c.args.z) = omega arith in
-    record {
-      cases = c.push.ensures.items ∙ ap₂ (λ l case. l ++ case ∷ []) c.loop-x.invariant.cases c.case_number.ensures.value
-          ∙ sym (first_more c.of-block.result c.args.y c.args.z c.loop-x.x cell (omega arith) c.requires.y at);
-      counted = omega (arith, c.case_number.ensures.counted, c.loop-x.invariant.counted, ap length c.push.ensures.items ∙ length-append c.loop-x.rows.items (c.case_number.result ∷ []));
-    }
+pub put_row-requires : goal.put_row-requires
+put_row-requires g c =
+    let g0 = c.args.store.now.grid in
+    let o = offsets g0 c.args.brick.0 1 (c.args.y + 1) (c.args.z + 1) (omega arith) (omega arith) (omega arith) c.requires.there in
+    let last : in_brick g0 c.args.brick.0 0 (c.args.y + 1) (c.args.z + 1) ≡ true
+    = inside g0 c.args.brick.0 0 (c.args.y + 1) (c.args.z + 1) (record { x-in = omega (arith, o.x-in); y-in = o.y-in; z-in = o.z-in }) (omega arith) (omega arith) (omega arith) in
+    rw c.of-block.ensures (record { y_low = c.requires.y; z_low = c.requires.z; last = last })
 
 pub returns-clause-cases : goal.returns-clause-cases
-returns-clause-cases g c =
-    c.loop-x.invariant.cases ∙ first_all c.of-block.result c.args.y c.args.z c.loop-x.x (omega arith)
-    ∙ ap (λ (b : BrickAt). row_cases b.grid (heights b) b.brick c.args.y c.args.z) c.of-block.ensures
-
-pub returns-clause-bound : goal.returns-clause-bound
-returns-clause-bound g c =
-    omega (arith, c.loop-x.invariant.counted, ap length c.loop-x.invariant.cases, first_long c.of-block.result c.args.y c.args.z c.loop-x.x)
+returns-clause-cases g c = c.put_row.ensures.cases ∙ ap (λ (b : BrickAt). row_cases b.grid (heights b) b.brick c.args.y c.args.z) c.of-block.ensures

@@ -1,4 +1,4 @@
-use Rattle.std.proofs.Common.{◌≡◌, ◌+◌, ◌*◌, ◌≤◌, ◌∙◌, ap, subst, arith}
+use Rattle.std.proofs.Common.{◌≡◌, ◌+◌, ◌*◌, ◌≤◌, ap, subst, arith}
 use Rattle.iso_defs.specs.Grid.{Grid}
 use Rattle.stitch_rows.specs.Rows.{HasMoreFlags}
 use Rattle.stitch_rows.proofs.FlagRows.{flags_list}

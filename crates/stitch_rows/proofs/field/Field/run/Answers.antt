@@ -9,12 +9,11 @@ pub row-requires-clause-inside : goal.row-requires-clause-inside
 row-requires-clause-inside c =
     row_inside c.args.self.now c.self.inside.store.now c.self.inside.level c.self.view_is c.sizes.ensures.volume c.args.x c.args.y c.args.z c.requires.x c.requires.y c.requires.z c.args.row c.requires.row
 
-pub returns-clause-length : goal.returns-clause-length
-returns-clause-length c =
-    length_is c.args.self.now c.self.inside.store.now c.self.inside.level c.self.view_is c.sizes.ensures.volume c.args.x c.args.y c.args.z c.requires.x c.requires.y c.requires.z c.args.row c.requires.row
-    c.row.result.now c.row.ensures.value
-
-pub returns-clause-each : goal.returns-clause-each
-returns-clause-each c =
-    each_is c.args.self.now c.self.inside.store.now c.self.inside.level c.self.view_is c.sizes.ensures.volume c.args.x c.args.y c.args.z c.requires.x c.requires.y c.requires.z c.args.row c.requires.row
-    c.row.result.now c.row.ensures.value
+pub returns : goal.returns
+returns c = record {
+  count = length_is c.args.self.now c.self.inside.store.now c.self.inside.level c.self.view_is c.sizes.ensures.volume c.args.x c.args.y c.args.z c.requires.x c.requires.y c.requires.z c.args.row c.requires.row
+      c.row.result.now c.row.ensures.value;
+  each = each_is c.args.self.now c.self.inside.store.now c.self.inside.level c.self.view_is c.sizes.ensures.volume c.args.x c.args.y c.args.z c.requires.x c.requires.y c.requires.z c.args.row c.requires.row
+      c.row.result.now c.row.ensures.value;
+  range = c.row.ensures.range;
+}

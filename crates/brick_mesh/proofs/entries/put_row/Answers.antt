@@ -1,0 +1,39 @@
+use Rattle.std.proofs.Common.{◌≡◌, ◌∙◌, ◌∷◌, ◌++◌, ◌+◌, ◌*◌, ◌/◌, ◌%◌, ℕ, [], subst, ap, ap₂, arith, length, sym, length-append}
+use Rattle.brick_mesh.specs.Around.{AreAround}
+use Rattle.brick_mesh.proofs.Runs.{first_all, first_long, first_more, first_none}
+use Rattle.brick_mesh.proofs.entries.put_row.Goals as goal
+
+pub case_number-requires-clause-around : goal.case_number-requires-clause-around
+case_number-requires-clause-around g c =
+    let b = c.args.block.now in
+    let cell : ℕ = c.from.result + 8 * (c.from-in-loop-x.result + 8 * c.from-in-loop-x-2.result) in
+    let hy = c.requires.y_low in
+    let y : c.args.y ≡ cell / 8 % 8 = omega arith in
+    let z : c.args.z ≡ cell / 64 = omega arith in
+    subst (λ z. AreAround b (cell / 8 % 8) z c.around-around.result) z (subst (λ y. AreAround b y c.args.z c.around-around.result) y c.around-around.ensures)
+
+pub push-requires : goal.push-requires
+push-requires g c = omega (arith, ap length c.loop-x.invariant.cases, first_long c.args.block.now c.args.y c.args.z c.loop-x.x)
+
+pub loop-x-init : goal.loop-x-init
+loop-x-init g c = record {
+  cases = c.clear.ensures ∙ sym (first_none c.args.block.now c.args.y c.args.z);
+  counted = omega (arith, ap length c.clear.ensures);
+}
+
+pub loop-x-preserved : goal.loop-x-preserved
+loop-x-preserved g c =
+    let cell : ℕ = c.from.result + 8 * (c.from-in-loop-x.result + 8 * c.from-in-loop-x-2.result) in
+    let at : cell ≡ c.loop-x.x + 8 * (c.args.y + 8 * c.args.z) = omega arith in
+    record {
+      cases = c.push.ensures.items ∙ ap₂ (λ l case. l ++ case ∷ []) c.loop-x.invariant.cases c.case_number.ensures.value
+          ∙ sym (first_more c.args.block.now c.args.y c.args.z c.loop-x.x cell (omega arith) c.requires.y_low at);
+      counted = omega (arith, c.case_number.ensures.counted, c.loop-x.invariant.counted, ap length c.push.ensures.items ∙ length-append c.loop-x.rows.items (c.case_number.result ∷ []));
+    }
+
+pub returns-clause-cases : goal.returns-clause-cases
+returns-clause-cases g c = c.loop-x.invariant.cases ∙ first_all c.args.block.now c.args.y c.args.z c.loop-x.x (omega arith)
+
+pub returns-clause-bound : goal.returns-clause-bound
+returns-clause-bound g c =
+    omega (arith, c.loop-x.invariant.counted, ap length c.loop-x.invariant.cases, first_long c.args.block.now c.args.y c.args.z c.loop-x.x)
