@@ -46,36 +46,45 @@ fn source(
     Ok(MemSource::new(script, piece, Vec::from_slice(alloc, failing)?))
 }
 
-/// Runs a script, and compares the ending, the replies and the size of the file `a`.
-fn check<L: Ledger>(
-    rt: &impl Abort,
+fn counted_ending<L: Ledger>(
     alloc: Global,
     blank: Blank,
-    bench: Option<Bench>,
-    mut input: MemSource,
-    want: (Ending, &[u8], usize),
-) -> Result<(), Fail>
+    bench: &mut Bench,
+    shelf: &mut MemShelf,
+    input: &mut MemSource,
+    output: &mut MemSink,
+) -> Result<Ending, Memory>
     requires name { blank.name ≡ L.name }
     requires parts { blank.parts ≡ L.parts }
     requires some { 0 < blank.parts }
 {
     let (book, share) = blank.open::<L>();
     let mut steps = Steps::new(book, share);
-    let mut bench = bench.ok_or("no bench")?;
-    let mut shelf = MemShelf::new(alloc, 2, 256, Vec::new(alloc))
-        .ok()
-        .ok_or("memory")?;
-    let mut output = MemSink::new(alloc, 4096, Vec::new(alloc))
-        .ok()
-        .ok_or("memory")?;
-    let ending = run_session(
-        alloc,
-        &mut bench,
-        &mut shelf,
-        &mut steps,
-        &mut input,
-        &mut output,
-    );
+    run_session(alloc, bench, shelf, &mut steps, input, output)
+}
+
+/// How a script ends, with a counter of its own.
+fn ending_of(
+    alloc: Global,
+    bench: &mut Bench,
+    shelf: &mut MemShelf,
+    input: &mut MemSource,
+    output: &mut MemSink,
+) -> Result<Ending, Memory> {
+    counted_ending::<Brand>(alloc, Blank::new(1), bench, shelf, input, output)
+}
+
+/// Runs a script on the bench of the corner, and compares the ending, the replies and the size of the file `a`.
+fn check(
+    rt: &impl Abort,
+    alloc: Global,
+    mut input: MemSource,
+    want: (Ending, &[u8], usize),
+) -> Result<(), Fail> {
+    let mut bench = corner_bench(alloc).ok_or("no bench")?;
+    let mut shelf = MemShelf::new(alloc, 2, 256, Vec::new(alloc))?;
+    let mut output = MemSink::new(alloc, 4096, Vec::new(alloc))?;
+    let ending = ending_of(alloc, &mut bench, &mut shelf, &mut input, &mut output);
     assert_eq!(rt; ending, Ok(want.0));
     assert_eq!(rt; output.bytes(), want.1);
     assert_eq!(rt; shelf.file("a").unwrap_or(b"").len(), want.2);
@@ -87,11 +96,9 @@ fn edits_are_run_and_undone(rt: HostRuntime) -> Result<(), Fail> {
     let script =
         b"# a comment\r\n\nset 0 0 0 1\nply a\nundo\nply a\nlevel 11\nundo\n undo \nredo\nredo\nsett\nquit\nply a\n";
     for piece in [1, 7, 1000] {
-        check::<Brand>(
+        check(
             &rt,
             rt.alloc(),
-            Blank::new(1),
-            corner_bench(rt.alloc()),
             source(rt.alloc(), script, piece, &[])?,
             (
                 Ending::Done,
@@ -105,11 +112,9 @@ fn edits_are_run_and_undone(rt: HostRuntime) -> Result<(), Fail> {
 
 #[test]
 fn a_read_fails(rt: HostRuntime) -> Result<(), Fail> {
-    check::<Brand>(
+    check(
         &rt,
         rt.alloc(),
-        Blank::new(1),
-        corner_bench(rt.alloc()),
         source(rt.alloc(), b"level 11\nply a\nundo\n", 9, &[2])?,
         (Ending::InputFault, b"ok\n", 0),
     )
