@@ -3,7 +3,7 @@
 
 ghost use Rattle.std.specs.Prelude.{◌≡◌, ◌<◌};
 
-use bench_core::{Bench, BenchFault, Capacity, Contours};
+use bench_core::{Bench, BenchFault, Capacity, Contours, Report};
 use iso_base::{Level, Memory, MeshFormat, Steps, Written};
 use iso_io::MemShelf;
 use mesh_text::TwoWayFormat;
@@ -37,7 +37,7 @@ pub fn begin(alloc: Global, volume: VoxelList, level: i128, capacity: Capacity) 
 
 pub fn change(bench: &mut Bench, asked: Edit) -> Result<(), BenchFault> {
     match asked {
-        Edit::Set([x, y, z], value) => bench.set(x, y, z, value),
+        Edit::Set(at, value) => bench.set(at[0], at[1], at[2], value),
         Edit::Fill(corners, value) => bench.fill(corners, value),
         Edit::Level(value) => bench.level(value),
         Edit::Undo => bench.undo(),
@@ -65,6 +65,10 @@ pub fn window(
     format: MeshFormat,
 ) -> Result<Written, BenchFault> {
     bench.window(shelf, "w", corners, format)
+}
+
+pub fn report(bench: &Bench) -> Result<Report, BenchFault> {
+    bench.report()
 }
 
 pub fn contour(bench: &Bench, k: i64) -> Result<Contours, BenchFault> {

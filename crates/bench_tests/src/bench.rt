@@ -1,9 +1,11 @@
-ghost use Rattle.std.specs.Prelude.{◌≡◌, IfOk, IfSome, None};
+ghost use Rattle.std.specs.Prelude.{◌≡◌, IfSome, None};
 
-use crate::asked::{Edit, SaveAs, begin, change, contour, has_file, save, shelf, work, write};
+use crate::asked::{
+    Edit, SaveAs, begin, change, contour, has_file, report, save, shelf, work, write,
+};
 use bench_core::{Bench, BenchFault, Capacity, Part};
-use flat_mesh::extract_flat;
-use iso_base::{Level, Memory, SampleKind, Sizes, VoxelData, Written};
+use flat_mesh::{Mesh, extract_flat};
+use iso_base::{Level, Sizes, Written};
 use iso_io::{MemShelf, MemSink};
 use mesh_text::TwoWayFormat;
 use mesh_write::put_mesh_as;
@@ -23,6 +25,9 @@ const ONE_FACE: &str =
 const ONE_FACE_OBJ: &str =
     "v 0.500 0.000 0.000\nv 0.000 0.500 0.000\nv 0.000 0.000 0.500\nf 1 2 3\n";
 
+const CORNER: &str =
+    "NRRD0004\ntype: uint8\ndimension: 3\nsizes: 2 2 2\nencoding: raw\n\n\n\0\0\0\0\0\0\0";
+
 // Of 27 samples the one in the middle is 10, which is a line feed.
 const DOT: &str =
     "NRRD0004\ntype: uint8\ndimension: 3\nsizes: 3 3 3\nencoding: raw\n\n\0\0\0\0\0\0\0\0\0\0\0\0\0\n\0\0\0\0\0\0\0\0\0\0\0\0\0";
@@ -33,31 +38,12 @@ const DOT_AS_TEXT: &str =
 const DOT_AS_HEX: &str =
     "NRRD0004\ntype: uint8\ndimension: 3\nsizes: 3 3 3\nencoding: hex\n\n000000\n000000\n000000\n000000\n000a00\n000000\n000000\n000000\n000000\n";
 
-fn sizes() -> Option<Sizes>
-    ensures { IfSome result (λ g. g ≡ record { nx = 2; ny = 2; nz = 2 }) }
+/// The volume of a text, without a pad.
+fn volume_of(alloc: Global, text: &[u8]) -> Option<VoxelList>
+    ensures { IfSome result (λ v. v.pad ≡ None) }
 {
-    Sizes::new(2, 2, 2).ok()
-}
-
-fn ten_ten_three() -> Option<Sizes>
-    ensures { IfSome result (λ g. g ≡ record { nx = 10; ny = 10; nz = 3 }) }
-{
-    Sizes::new(10, 10, 3).ok()
-}
-
-fn zeros(alloc: Global, sizes: Sizes) -> Result<VoxelList, Memory>
-    requires { sizes ≡ record { nx = 10; ny = 10; nz = 3 } }
-    ensures { IfOk result (λ v. v.pad ≡ None) }
-{
-    let samples = vec![in alloc; 0; 300]?;
-    Ok(VoxelList::of(VoxelData::new(sizes, SampleKind::U8, samples)))
-}
-
-fn corner(alloc: Global, sizes: Sizes) -> Result<VoxelList, Memory>
-    requires { sizes ≡ record { nx = 2; ny = 2; nz = 2 } }
-{
-    let samples = vec![in alloc; 10, 0, 0, 0, 0, 0, 0, 0]?;
-    Ok(VoxelList::of(VoxelData::new(sizes, SampleKind::U8, samples)))
+    let (volume, _) = read_volume(alloc, text).ok()?;
+    Some(VoxelList::of(volume))
 }
 
 /// Most tests keep no more than this.
@@ -67,8 +53,12 @@ fn capacity() -> Option<Capacity> {
 
 /// A bench on two points along each axis, of which the first has the sample 10, at level 5.
 pub fn bench(alloc: Global) -> Option<Bench> {
-    let sizes = sizes()?;
-    begin(alloc, corner(alloc, sizes).ok()?, 5_000, capacity()?)
+    begin(
+        alloc,
+        volume_of(alloc, CORNER.as_bytes())?,
+        5_000,
+        capacity()?,
+    )
 }
 
 /// Whether a change has the same answer so many times.
@@ -81,9 +71,7 @@ fn has_answer(bench: &mut Bench, asked: Edit, times: u32, want: Result<(), Bench
     true
 }
 
-#[test]
-fn at_most_128_changes_are_undone_and_made_again(rt: HostRuntime) -> Result<(), Fail> {
-    let mut bench = bench(rt.alloc()).ok_or("no bench")?;
+fn check_log(rt: &impl Abort, bench: &mut Bench) {
     for (asked, times, want) in [
         (Edit::Set([0, 0, 0], 1), 129, Ok(())),
         (Edit::Undo, 128, Ok(())),
@@ -91,36 +79,47 @@ fn at_most_128_changes_are_undone_and_made_again(rt: HostRuntime) -> Result<(), 
         (Edit::Redo, 128, Ok(())),
         (Edit::Redo, 1, Err(BenchFault::NothingToRedo)),
     ] {
-        assert!(rt; has_answer(&mut bench, asked, times, want), "{asked:?}");
+        assert!(rt; has_answer(bench, asked, times, want), "{asked:?}");
     }
+}
+
+#[test]
+fn at_most_128_changes_are_undone_and_made_again(rt: HostRuntime) -> Result<(), Fail> {
+    check_log(&rt, &mut bench(rt.alloc()).ok_or("no bench")?);
     Ok(())
+}
+
+/// Changes that a bench of bytes without a past refuses.
+const REFUSED: [(Edit, BenchFault); 6] = [
+    (Edit::Set([2, 0, 0], 256), BenchFault::Outside),
+    (Edit::Set([1, 0, 0], 256), NO_BYTE),
+    (Edit::Fill([0, 0, 0, 1, 1, -1], 1), BenchFault::Outside),
+    (Edit::Fill([1, 0, 0, 0, 1, 1], -1), NO_BYTE),
+    (Edit::Level(8_589_934_592_000), BenchFault::LevelOutside),
+    (Edit::Undo, BenchFault::NothingToUndo),
+];
+
+const NO_BYTE: BenchFault = BenchFault::ValueOutside {
+    least: 0,
+    greatest: 255,
+};
+
+fn check_refusals(rt: &impl Abort, bench: &mut Bench) {
+    for (asked, fault) in REFUSED {
+        assert_eq!(rt; change(bench, asked), Err(fault), "{asked:?}");
+    }
+    let filled = Edit::Fill([1, 0, 0, 0, 1, 1], 255);
+    let least = Edit::Level(-8_589_934_591_999);
+    for asked in [filled, least, Edit::Undo, Edit::Undo] {
+        assert_eq!(rt; change(bench, asked), Ok(()), "{asked:?}");
+    }
+    let undone = change(bench, Edit::Undo);
+    assert_eq!(rt; undone, Err(BenchFault::NothingToUndo));
 }
 
 #[test]
 fn refusals_have_their_reasons(rt: HostRuntime) -> Result<(), Fail> {
-    let mut bench = bench(rt.alloc()).ok_or("no bench")?;
-    let outside = BenchFault::ValueOutside {
-        least: 0,
-        greatest: 255,
-    };
-    for (asked, want) in [
-        (Edit::Set([2, 0, 0], 256), Err(BenchFault::Outside)),
-        (Edit::Set([1, 0, 0], 256), Err(outside)),
-        (Edit::Fill([0, 0, 0, 1, 1, -1], 1), Err(BenchFault::Outside)),
-        (Edit::Fill([1, 0, 0, 0, 1, 1], -1), Err(outside)),
-        (
-            Edit::Level(8_589_934_592_000),
-            Err(BenchFault::LevelOutside),
-        ),
-        (Edit::Undo, Err(BenchFault::NothingToUndo)),
-        (Edit::Fill([1, 0, 0, 0, 1, 1], 255), Ok(())),
-        (Edit::Level(-8_589_934_591_999), Ok(())),
-        (Edit::Undo, Ok(())),
-        (Edit::Undo, Ok(())),
-        (Edit::Undo, Err(BenchFault::NothingToUndo)),
-    ] {
-        assert_eq!(rt; change(&mut bench, asked), want, "{asked:?}");
-    }
+    check_refusals(&rt, &mut bench(rt.alloc()).ok_or("no bench")?);
     Ok(())
 }
 
@@ -132,43 +131,54 @@ pub fn mesh_of(vertices: u32, faces: u32, bytes: u64) -> Result<Written, BenchFa
     })
 }
 
+/// Writes the mesh, and compares the answer and the file.
+fn check_mesh(
+    rt: &impl Abort,
+    bench: &mut Bench,
+    shelf: &mut MemShelf,
+    (name, format): (&str, TwoWayFormat),
+    want: Result<Written, BenchFault>,
+    text: &str,
+) {
+    assert_eq!(rt; write(bench, shelf, name, format), want);
+    assert!(rt; has_file(shelf, name, text));
+}
+
+fn check_meshes(rt: &impl Abort, bench: &mut Bench, shelf: &mut MemShelf) {
+    let (ply, obj) = (TwoWayFormat::Ply, TwoWayFormat::Obj);
+    check_mesh(rt, bench, shelf, ("a", ply), mesh_of(3, 1, 216), ONE_FACE);
+    let failed = Err(BenchFault::ShelfFailed);
+    check_mesh(rt, bench, shelf, ("b", ply), failed, "");
+    check_mesh(
+        rt,
+        bench,
+        shelf,
+        ("c", obj),
+        mesh_of(3, 1, 68),
+        ONE_FACE_OBJ,
+    );
+    assert!(rt; change(bench, Edit::Level(11_000)).is_ok());
+    work(bench, 9);
+    check_mesh(rt, bench, shelf, ("b", ply), mesh_of(0, 0, 154), NO_FACES);
+    assert!(rt; has_file(shelf, "a", ONE_FACE));
+}
+
 /// The mesh of the corner, a shelf that fails once, and the mesh where all is below the level.
 #[test]
 fn meshes_go_to_the_shelf(rt: HostRuntime) -> Result<(), Fail> {
-    let mut bench = bench(rt.alloc()).ok_or("no bench")?;
     let mut shelf = shelf(rt.alloc(), &[4])?;
-    for (name, format, want, text) in [
-        ("a", TwoWayFormat::Ply, mesh_of(3, 1, 216), ONE_FACE),
-        ("b", TwoWayFormat::Ply, Err(BenchFault::ShelfFailed), ""),
-        ("c", TwoWayFormat::Obj, mesh_of(3, 1, 68), ONE_FACE_OBJ),
-    ] {
-        assert_eq!(rt; write(&mut bench, &mut shelf, name, format), want, "{name}");
-        assert!(rt; has_file(&shelf, name, text), "{name}");
-    }
-    assert_eq!(rt; change(&mut bench, Edit::Level(11_000)), Ok(()));
-    work(&mut bench, 9);
-    let nothing = write(&mut bench, &mut shelf, "b", TwoWayFormat::Ply);
-    assert_eq!(rt; nothing, mesh_of(0, 0, 154));
-    assert!(rt; has_file(&shelf, "b", NO_FACES));
-    assert!(rt; has_file(&shelf, "a", ONE_FACE));
+    check_meshes(&rt, &mut bench(rt.alloc()).ok_or("no bench")?, &mut shelf);
     Ok(())
-}
-
-fn dot(alloc: Global) -> Option<VoxelList>
-    ensures { IfSome result (λ v. v.pad ≡ None) }
-{
-    let (volume, _) = read_volume(alloc, DOT.as_bytes()).ok()?;
-    Some(VoxelList::of(volume))
 }
 
 /// A bench on three points along each axis, of which the one in the middle has the sample 10, at level 5.
 pub fn dot_bench(alloc: Global) -> Option<Bench> {
-    begin(alloc, dot(alloc)?, 5_000, capacity()?)
+    begin(alloc, volume_of(alloc, DOT.as_bytes())?, 5_000, capacity()?)
 }
 
 /// The same with the pad 0 round it.
 pub fn padded_bench(alloc: Global) -> Option<Bench> {
-    let volume = dot(alloc)?.padded(alloc, 0).ok()?;
+    let volume = volume_of(alloc, DOT.as_bytes())?.padded(alloc, 0).ok()?;
     begin(alloc, volume, 5_000, capacity()?)
 }
 
@@ -179,15 +189,15 @@ fn next(state: u64) -> u64 {
         .wrapping_add(1_442_695_040_888_963_407)
 }
 
-/// The volume of the seed 0 on four points along each axis.
-fn drawn_volume(alloc: Global) -> Option<VoxelList> {
-    let sizes = Sizes::new(4, 4, 4).ok()?;
+/// The volume of the seed 0.
+fn drawn(alloc: Global, nx: u64, ny: u64, nz: u64) -> Option<VoxelList> {
+    let sizes = Sizes::new(nx, ny, nz).ok()?;
     Some(VoxelList::of(generated(alloc, 0, &sizes).ok()?))
 }
 
 /// A bench on four points along each axis, whose samples are 0 or 1 as if by chance, at level 0.5.
 pub fn four_a_side(alloc: Global) -> Option<Bench> {
-    let mut bench = begin(alloc, drawn_volume(alloc)?, 500, capacity()?)?;
+    let mut bench = begin(alloc, drawn(alloc, 4, 4, 4)?, 500, capacity()?)?;
     let mut seed: u64 = 1;
     for i in 0..64 {
         seed = next(seed);
@@ -199,8 +209,9 @@ pub fn four_a_side(alloc: Global) -> Option<Bench> {
 
 /// A bench on 10, 10 and 3 zeros, which are four bricks, at level 0.5.
 fn four_bricks(alloc: Global, capacity: Capacity) -> Option<Bench> {
-    let sizes = ten_ten_three()?;
-    begin(alloc, zeros(alloc, sizes).ok()?, 500, capacity)
+    let mut bench = begin(alloc, drawn(alloc, 10, 10, 3)?, 500, capacity)?;
+    change(&mut bench, Edit::Fill([0, 0, 0, 9, 9, 2], 0)).ok()?;
+    Some(bench)
 }
 
 /// Replaces so many samples by 0 or 1, told by a seed.
@@ -214,19 +225,22 @@ fn scatter(bench: &mut Bench, seed: u64, count: u32) {
     }
 }
 
-/// The text of extraction from scratch of the volume of a file.
-fn scratch_text(alloc: Global, file: &[u8], level: Level) -> Option<MemSink> {
-    let (volume, _) = read_volume(alloc, file).ok()?;
-    let mesh = extract_flat(alloc, &VoxelList::of(volume), level).ok()?;
+/// The mesh of a volume from scratch.
+fn scratch_mesh(alloc: Global, volume: &VoxelList, level: i128) -> Option<Mesh> {
+    extract_flat(alloc, volume, Level::new(level)?).ok()
+}
+
+fn text_of(alloc: Global, mesh: &Mesh) -> Option<MemSink> {
     let mut sink = MemSink::new(alloc, 65_536, Vec::new(alloc)).ok()?;
     let mut waiting = Vec::with_capacity(alloc, 65_536).ok()?;
-    put_mesh_as(&mut sink, &mut waiting, &mesh, TwoWayFormat::Ply, false).ok()?;
+    put_mesh_as(&mut sink, &mut waiting, mesh, TwoWayFormat::Ply, false).ok()?;
     Some(sink)
 }
 
 /// Whether the file `mesh` is the extraction from scratch of the volume that is in the file `volume`.
 fn is_from_scratch(alloc: Global, shelf: &MemShelf, level: i128) -> Option<bool> {
-    let text = scratch_text(alloc, shelf.file("volume")?, Level::new(level)?)?;
+    let volume = volume_of(alloc, shelf.file("volume")?)?;
+    let text = text_of(alloc, &scratch_mesh(alloc, &volume, level)?)?;
     Some(shelf.file("mesh")? == text.bytes())
 }
 
@@ -240,37 +254,41 @@ fn check_files(rt: &impl Abort, alloc: Global, bench: &mut Bench, level: i128) -
 }
 
 /// Writes after changes here and there, refresh turns, undo and redo, and after a change of the level.
-fn check_script(rt: &impl Abort, alloc: Global, capacity: Capacity) -> Result<(), Fail> {
-    let mut bench = four_bricks(alloc, capacity).ok_or("no bench")?;
-    scatter(&mut bench, 1, 200);
-    work(&mut bench, 2);
-    check_files(rt, alloc, &mut bench, 500)?;
-    scatter(&mut bench, 2, 3);
-    check_files(rt, alloc, &mut bench, 500)?;
+fn check_script(rt: &impl Abort, alloc: Global, bench: &mut Bench) -> Result<(), Fail> {
+    scatter(bench, 1, 200);
+    work(bench, 2);
+    check_files(rt, alloc, bench, 500)?;
+    scatter(bench, 2, 3);
+    check_files(rt, alloc, bench, 500)?;
     for (asked, level) in [
         (Edit::Undo, 500),
         (Edit::Redo, 500),
         (Edit::Fill([7, 7, 0, 9, 9, 1], 1), 500),
         (Edit::Level(250), 250),
     ] {
-        assert_eq!(rt; change(&mut bench, asked), Ok(()), "{asked:?}");
-        check_files(rt, alloc, &mut bench, level)?;
+        assert_eq!(rt; change(bench, asked), Ok(()), "{asked:?}");
+        check_files(rt, alloc, bench, level)?;
     }
     Ok(())
+}
+
+fn check_extractions(rt: &impl Abort, alloc: Global, bricks: u32, pages: u32) -> Result<(), Fail> {
+    let capacity = Capacity::new(bricks, pages).ok_or("capacity")?;
+    check_script(
+        rt,
+        alloc,
+        &mut four_bricks(alloc, capacity).ok_or("no bench")?,
+    )
 }
 
 #[test]
 fn files_are_extractions(rt: HostRuntime) -> Result<(), Fail> {
-    for (bricks, pages) in [(4096, 65_536), (1, 16)] {
-        let capacity = Capacity::new(bricks, pages).ok_or("capacity")?;
-        check_script(&rt, rt.alloc(), capacity)?;
-    }
-    Ok(())
+    check_extractions(&rt, rt.alloc(), 4096, 65_536)?;
+    check_extractions(&rt, rt.alloc(), 1, 16)
 }
 
 /// The dot as each kind of file, where two calls of the shelf fail.
-fn check_saves(rt: &impl Abort, alloc: Global, bench: &Bench) -> Result<(), Fail> {
-    let mut shelf = shelf(alloc, &[2, 10])?;
+fn check_saves(rt: &impl Abort, bench: &Bench, shelf: &mut MemShelf) {
     for (asked, want, text) in [
         (SaveAs::Raw, Err(BenchFault::ShelfFailed), ""),
         (SaveAs::Raw, Ok(89), DOT),
@@ -278,19 +296,27 @@ fn check_saves(rt: &impl Abort, alloc: Global, bench: &Bench) -> Result<(), Fail
         (SaveAs::Hex, Err(BenchFault::ShelfFailed), ""),
         (SaveAs::Hex, Ok(125), DOT_AS_HEX),
     ] {
-        assert_eq!(rt; save(bench, &mut shelf, "a", asked), want, "{asked:?}");
-        assert!(rt; has_file(&shelf, "a", text), "{asked:?}");
+        assert_eq!(rt; save(bench, shelf, "a", asked), want, "{asked:?}");
+        assert!(rt; has_file(shelf, "a", text), "{asked:?}");
     }
+}
+
+#[test]
+fn volumes_go_to_the_shelf(rt: HostRuntime) -> Result<(), Fail> {
+    let mut shelf = shelf(rt.alloc(), &[2, 10])?;
+    check_saves(&rt, &dot_bench(rt.alloc()).ok_or("no bench")?, &mut shelf);
     Ok(())
 }
 
 #[test]
 fn volumes_go_to_the_shelf_without_their_pad(rt: HostRuntime) -> Result<(), Fail> {
-    let bench = dot_bench(rt.alloc()).ok_or("no bench")?;
-    let padded = padded_bench(rt.alloc()).ok_or("no bench")?;
-    assert!(rt; !bench.is_padded() && padded.is_padded());
-    check_saves(&rt, rt.alloc(), &bench)?;
-    check_saves(&rt, rt.alloc(), &padded)
+    let mut shelf = shelf(rt.alloc(), &[2, 10])?;
+    check_saves(
+        &rt,
+        &padded_bench(rt.alloc()).ok_or("no bench")?,
+        &mut shelf,
+    );
+    Ok(())
 }
 
 /// The only line of a plane is a cycle of four points from this one.
@@ -306,7 +332,13 @@ fn check_cycle(rt: &impl Abort, bench: &Bench, first: (i64, i64)) -> Result<(), 
 }
 
 /// The middle plane has one line, and those off the volume are refused.
-fn check_planes(rt: &impl Abort, bench: &Bench, first: (i64, i64)) -> Result<(), Fail> {
+fn check_planes(
+    rt: &impl Abort,
+    bench: &Bench,
+    is_padded: bool,
+    first: (i64, i64),
+) -> Result<(), Fail> {
+    assert_eq!(rt; bench.is_padded(), is_padded);
     for k in [3, -1] {
         let fault = contour(bench, k).err();
         assert_eq!(rt; fault, Some(BenchFault::NoSuchPlane { k }));
@@ -317,15 +349,17 @@ fn check_planes(rt: &impl Abort, bench: &Bench, first: (i64, i64)) -> Result<(),
 #[test]
 fn the_middle_plane_has_one_line(rt: HostRuntime) -> Result<(), Fail> {
     let bench = dot_bench(rt.alloc()).ok_or("no bench")?;
-    check_planes(&rt, &bench, (1000, 500))?;
-    let padded = padded_bench(rt.alloc()).ok_or("no bench")?;
-    check_planes(&rt, &padded, (2000, 1500))
+    check_planes(&rt, &bench, false, (1000, 500))
 }
 
 #[test]
-fn the_mesh_round_the_middle_is_one_sphere(rt: HostRuntime) -> Result<(), Fail> {
-    let bench = dot_bench(rt.alloc()).ok_or("no bench")?;
-    let report = bench.report().ok().ok_or("no report")?;
+fn the_middle_plane_in_a_pad_has_one_line(rt: HostRuntime) -> Result<(), Fail> {
+    let bench = padded_bench(rt.alloc()).ok_or("no bench")?;
+    check_planes(&rt, &bench, true, (2000, 1500))
+}
+
+fn check_sphere(rt: &impl Abort, bench: &Bench) -> Result<(), Fail> {
+    let report = report(bench).ok().ok_or("no report")?;
     let sphere = Part {
         least: 0,
         vertices: 6,
@@ -337,4 +371,9 @@ fn the_mesh_round_the_middle_is_one_sphere(rt: HostRuntime) -> Result<(), Fail> 
     assert_eq!(rt; *report.total(), sphere);
     assert_eq!(rt; report.parts(), [sphere].as_slice());
     Ok(())
+}
+
+#[test]
+fn the_mesh_round_the_middle_is_one_sphere(rt: HostRuntime) -> Result<(), Fail> {
+    check_sphere(&rt, &dot_bench(rt.alloc()).ok_or("no bench")?)
 }

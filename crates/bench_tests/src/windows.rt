@@ -22,18 +22,21 @@ const ONE_FACE_VTK: &str =
 const LAST_FACE_OBJ: &str =
     "v 1.500 1.000 1.000\nv 1.000 1.500 1.000\nv 1.000 1.000 1.500\nf 1 2 3\n";
 
-#[test]
-fn a_corner_in_off_and_vtk(rt: HostRuntime) -> Result<(), Fail> {
-    let bench = bench(rt.alloc()).ok_or("no bench")?;
-    let mut shelf = shelf(rt.alloc(), &[])?;
+fn check_corner(rt: &impl Abort, bench: &Bench, shelf: &mut MemShelf) {
     for (corners, format, bytes, text) in [
         ([1, 1, 1, 0, 0, 0], MeshFormat::Off, 72, ONE_FACE_OFF),
         ([0, 0, 0, 1, 1, 1], MeshFormat::Vtk, 149, ONE_FACE_VTK),
     ] {
-        let written = window(&bench, &mut shelf, corners, format);
+        let written = window(bench, shelf, corners, format);
         assert_eq!(rt; written, mesh_of(3, 1, bytes));
-        assert!(rt; has_file(&shelf, "w", text));
+        assert!(rt; has_file(shelf, "w", text));
     }
+}
+
+#[test]
+fn a_corner_in_off_and_vtk(rt: HostRuntime) -> Result<(), Fail> {
+    let mut shelf = shelf(rt.alloc(), &[])?;
+    check_corner(&rt, &bench(rt.alloc()).ok_or("no bench")?, &mut shelf);
     Ok(())
 }
 
@@ -74,10 +77,17 @@ fn check_dot(rt: &impl Abort, alloc: Global, bench: &Bench) -> Result<(), Fail> 
 }
 
 #[test]
-fn a_dot_with_and_without_a_pad(rt: HostRuntime) -> Result<(), Fail> {
-    let alloc = rt.alloc();
-    check_dot(&rt, alloc, &dot_bench(alloc).ok_or("no bench")?)?;
-    check_dot(&rt, alloc, &padded_bench(alloc).ok_or("no bench")?)
+fn a_dot(rt: HostRuntime) -> Result<(), Fail> {
+    check_dot(&rt, rt.alloc(), &dot_bench(rt.alloc()).ok_or("no bench")?)
+}
+
+#[test]
+fn a_dot_in_a_pad(rt: HostRuntime) -> Result<(), Fail> {
+    check_dot(
+        &rt,
+        rt.alloc(),
+        &padded_bench(rt.alloc()).ok_or("no bench")?,
+    )
 }
 
 /// The thousandths of a coordinate with three decimals.
@@ -157,8 +167,26 @@ fn add_face(alloc: Global, part: &mut Part, face: &str) -> Result<(), AllocError
     Ok(())
 }
 
-/// The part of a mesh in a box as OFF, from the lines of the whole as PLY: the vertices in the box, and the faces whose corners
-/// are all among them. Each crossing lies in the middle of its edge, so a cell beside the box has a corner outside of it.
+/// Adds the lines of the whole mesh as PLY: the vertices in the box, and the faces whose corners are all among them.
+fn gather(
+    alloc: Global,
+    part: &mut Part,
+    whole: &str,
+    low: [u32; 3],
+    high: [u32; 3],
+) -> Result<(), AllocError> {
+    for line in whole.lines() {
+        if line.contains('.') {
+            add_vertex(part, line, is_inside(line, low, high))?;
+        } else {
+            add_face(alloc, part, line)?;
+        }
+    }
+    Ok(())
+}
+
+/// The part of a mesh in a box as OFF. Each crossing lies in the middle of its edge, so a cell beside the box has a corner
+/// outside of it.
 fn part_of(
     alloc: Global,
     whole: &str,
@@ -171,13 +199,7 @@ fn part_of(
         vertices: 0,
         faces: 0,
     };
-    for line in whole.lines() {
-        if line.contains('.') {
-            add_vertex(&mut part, line, is_inside(line, low, high))?;
-        } else {
-            add_face(alloc, &mut part, line)?;
-        }
-    }
+    gather(alloc, &mut part, whole, low, high)?;
     format!(in alloc; "OFF\n{} {} 0\n{}", part.vertices, part.faces, part.lines)
 }
 
@@ -190,29 +212,29 @@ fn corners_of([ax, ay, az]: [u32; 3], [bx, by, bz]: [u32; 3]) -> [i64; 6] {
 fn is_part(
     alloc: Global,
     bench: &Bench,
+    shelf: &mut MemShelf,
     whole: &str,
-    low: [u32; 3],
-    high: [u32; 3],
+    (low, high): ([u32; 3], [u32; 3]),
 ) -> Result<bool, AllocError> {
-    let Ok(mut shelf) = shelf(alloc, &[]) else {
-        return Ok(false);
-    };
-    if window(bench, &mut shelf, corners_of(low, high), MeshFormat::Off).is_err() {
-        return Ok(false);
-    }
+    let written = window(bench, shelf, corners_of(low, high), MeshFormat::Off);
     let part = part_of(alloc, whole, low, high)?;
-    Ok(has_file(&shelf, "w", &part))
+    Ok(written.is_ok() && has_file(shelf, "w", &part))
 }
 
 /// How many boxes of four points along each axis have another window.
-fn boxes_apart(alloc: Global, bench: &Bench, whole: &str) -> Result<u32, AllocError> {
+fn boxes_apart(
+    alloc: Global,
+    bench: &Bench,
+    shelf: &mut MemShelf,
+    whole: &str,
+) -> Result<u32, AllocError> {
     let mut apart: u32 = 0;
     for first in 0..64u32 {
         for last in 0..64u32 {
             let low = [first % 4, first / 4 % 4, first / 16];
             let high = [last % 4, last / 4 % 4, last / 16];
             if low[0] < high[0] && low[1] < high[1] && low[2] < high[2] {
-                if !is_part(alloc, bench, whole, low, high)? {
+                if !is_part(alloc, bench, shelf, whole, (low, high))? {
                     apart = apart.wrapping_add(1);
                 }
             }
@@ -221,20 +243,30 @@ fn boxes_apart(alloc: Global, bench: &Bench, whole: &str) -> Result<u32, AllocEr
     Ok(apart)
 }
 
-/// The lines of a file behind its head.
-fn body_of(file: &[u8]) -> Option<&str> {
-    let text = std::str::from_utf8(file).ok()?;
+/// The lines of the file `w` behind its head.
+fn body_of(shelf: &MemShelf) -> Option<&str> {
+    let text = std::str::from_utf8(shelf.file("w")?).ok()?;
     let (_, body) = text.split_once("end_header\n")?;
     Some(body)
 }
 
+/// Writes the whole mesh, which has more than a hundred faces, and looks at its boxes.
+fn check_boxes(
+    rt: &impl Abort,
+    alloc: Global,
+    bench: &mut Bench,
+    shelf: &mut MemShelf,
+) -> Result<(), Fail> {
+    let written = write(bench, shelf, "w", TwoWayFormat::Ply);
+    assert!(rt; written.is_ok_and(|written| written.faces > 100));
+    let whole = String::from_str(alloc, body_of(shelf).ok_or("no text")?)?;
+    assert_eq!(rt; boxes_apart(alloc, bench, shelf, &whole)?, 0);
+    Ok(())
+}
+
 #[test]
 fn each_box_of_a_volume(rt: HostRuntime) -> Result<(), Fail> {
-    let mut bench = four_a_side(rt.alloc()).ok_or("no bench")?;
     let mut shelf = shelf(rt.alloc(), &[])?;
-    let written = write(&mut bench, &mut shelf, "w", TwoWayFormat::Ply);
-    assert!(rt; written.is_ok_and(|written| written.faces > 100));
-    let whole = body_of(shelf.file("w").ok_or("no file")?).ok_or("no text")?;
-    assert_eq!(rt; boxes_apart(rt.alloc(), &bench, whole)?, 0);
-    Ok(())
+    let mut bench = four_a_side(rt.alloc()).ok_or("no bench")?;
+    check_boxes(&rt, rt.alloc(), &mut bench, &mut shelf)
 }

@@ -26,6 +26,20 @@ pub fn worked<'a>(volume: &'a [u8], script: &'a [u8]) -> Call<'a> {
     call
 }
 
+/// The worked script where reads, writes or calls of the shelf of these numbers fail.
+fn failing<'a>(
+    volume: &'a [u8],
+    reads: &'a [u64],
+    writes: &'a [u64],
+    shelf: &'a [u64],
+) -> Call<'a> {
+    let mut call = worked(volume, SCRIPT);
+    call.reads_failing = reads;
+    call.writes_failing = writes;
+    call.shelf_failing = shelf;
+    call
+}
+
 /// The replies where the shelf's call of this number fails: the volume is read by the first call, and each of the four
 /// meshes is started by one and appended by the next.
 fn replies_but(alloc: Global, number: u64) -> Result<Vec<u8>, AllocError> {
@@ -77,10 +91,9 @@ fn check_shelf(
     number: u64,
     front: &[u8],
 ) -> Result<(), Fail> {
-    let failing = [number];
-    let mut call = worked(volume, SCRIPT);
+    let numbers = [number];
+    let mut call = failing(volume, &[], &[], &numbers);
     call.cut = if front.is_empty() { 0 } else { 4 };
-    call.shelf_failing = &failing;
     let outcome = outcome_of(alloc, &call)?;
     let replies = replies_but(alloc, number)?;
     let status = if number == 1 {
@@ -113,16 +126,16 @@ fn with_stream_fault(
     piece: u32,
     number: u64,
 ) -> Result<Outcome, Fail> {
-    let failing = [number];
-    let mut call = worked(volume, SCRIPT);
+    let numbers = [number];
     if fault == Status::InputFault {
+        let mut call = failing(volume, &numbers, &[], &[]);
         call.read_piece = piece;
-        call.reads_failing = &failing;
+        outcome_of(alloc, &call)
     } else {
+        let mut call = failing(volume, &[], &numbers, &[]);
         call.write_piece = piece;
-        call.writes_failing = &failing;
+        outcome_of(alloc, &call)
     }
-    outcome_of(alloc, &call)
 }
 
 /// Each read or each write fails in turn, up to a run in which none does. How many runs that took.
@@ -179,8 +192,7 @@ fn pieces_change_nothing(rt: HostRuntime) -> Result<(), Fail> {
 #[test]
 fn every_second_call_of_the_shelf_fails(rt: HostRuntime) -> Result<(), Fail> {
     let volume = zeros(rt.alloc(), SEVENTEEN, 4913)?;
-    let mut call = worked(&volume, SCRIPT);
-    call.shelf_failing = &[2, 4, 6, 8, 10, 12];
+    let call = failing(&volume, &[], &[], &[2, 4, 6, 8, 10, 12]);
     let outcome = outcome_of(rt.alloc(), &call)?;
     assert_eq!(rt; outcome.status, Status::Done);
     let replies = b"ok\nerror 9 shelf\nok\nerror 9 shelf\nok\nerror 9 shelf\nok\nerror 9 shelf\n";

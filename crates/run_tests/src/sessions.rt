@@ -1,10 +1,12 @@
 //! Sessions on a bench.
 
-ghost use Rattle.std.specs.Prelude.{◌≡◌, ◌<◌, IfOk, IfSome, None};
+ghost use Rattle.std.specs.Prelude.{◌≡◌, ◌<◌};
 
+use crate::texts::CORNER;
 use bench_core::{Bench, Capacity};
-use iso_base::{Level, Memory, SampleKind, Sizes, Steps, VoxelData};
+use iso_base::{Level, Memory, Steps};
 use iso_io::{MemShelf, MemSink, MemSource};
+use nrrd::read_volume;
 use session::{Ending, run_session};
 use std::alloc::{AllocError, Global};
 use std::marker::Brand;
@@ -13,24 +15,11 @@ use std::sync::ledger::{Blank, Ledger};
 use std::test::Fail;
 use voxel_list::VoxelList;
 
-fn two() -> Option<Sizes>
-    ensures { IfSome result (λ g. g ≡ record { nx = 2; ny = 2; nz = 2 }) }
-{
-    Sizes::new(2, 2, 2).ok()
-}
-
-fn corner(alloc: Global, sizes: Sizes) -> Result<VoxelList, Memory>
-    requires { sizes ≡ record { nx = 2; ny = 2; nz = 2 } }
-    ensures { IfOk result (λ v. v.pad ≡ None) }
-{
-    let samples = vec![in alloc; 10, 0, 0, 0, 0, 0, 0, 0]?;
-    Ok(VoxelList::of(VoxelData::new(sizes, SampleKind::U8, samples)))
-}
-
-/// A bench on two points along each axis, of which the first has the sample 10, at level 5.
+/// A bench on the volume CORNER at level 5.
 fn corner_bench(alloc: Global) -> Option<Bench> {
-    let volume = corner(alloc, two()?).ok()?;
-    Bench::begin(alloc, volume, Level::new(5000)?, Capacity::new(1, 16)?).ok()
+    let (volume, _) = read_volume(alloc, CORNER).ok()?;
+    let capacity = Capacity::new(1, 16)?;
+    Bench::begin(alloc, VoxelList::of(volume), Level::new(5000)?, capacity).ok()
 }
 
 /// A script in pieces of at most so many bytes; the reads of these numbers fail.
