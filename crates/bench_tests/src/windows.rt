@@ -1,18 +1,16 @@
 //! Windows of the workbench: the worked examples in each format, and the windows of every box of a volume beside the filter of
 //! the text of its whole mesh.
 
-ghost use Rattle.std.specs.Prelude.{◌≡◌, ◌<◌};
-
-use crate::bench::{bench, dot_bench, four_a_side, padded_bench};
-use bench_core::{Bench, BenchFault, Written};
-use iso_base::{Memory, MeshFormat, Steps, Verdict};
+use crate::asked::{has_file, shelf, window, write};
+use crate::bench::{bench, dot_bench, four_a_side, mesh_of, padded_bench};
+use bench_core::{Bench, BenchFault};
+use iso_base::{MeshFormat, Verdict};
 use iso_io::MemShelf;
 use mesh_check::verdict;
 use mesh_read::read_ply;
+use mesh_text::TwoWayFormat;
 use std::alloc::{AllocError, Global};
-use std::marker::Brand;
 use std::process::Abort;
-use std::sync::ledger::{Blank, Ledger};
 use std::test::Fail;
 
 const ONE_FACE_OFF: &str =
@@ -24,38 +22,21 @@ const ONE_FACE_VTK: &str =
 const LAST_FACE_OBJ: &str =
     "v 1.500 1.000 1.000\nv 1.000 1.500 1.000\nv 1.000 1.000 1.500\nf 1 2 3\n";
 
-/// More bytes than a file of these tests has.
-const ROOM: u32 = 65_536;
-
-fn shelf(alloc: Global) -> Result<MemShelf, Memory> {
-    MemShelf::new(alloc, 2, ROOM, Vec::new(alloc))
-}
-
-fn one_face(bytes: u64) -> Result<Written, BenchFault> {
-    Ok(Written {
-        vertices: 3,
-        faces: 1,
-        bytes,
-    })
-}
-
-fn holds(shelf: &MemShelf, text: &str) -> bool {
-    match shelf.file("w") {
-        Some(bytes) => bytes == text.as_bytes(),
-        None => false,
+fn check_corner(rt: &impl Abort, bench: &Bench, shelf: &mut MemShelf) {
+    for (corners, format, bytes, text) in [
+        ([1, 1, 1, 0, 0, 0], MeshFormat::Off, 72, ONE_FACE_OFF),
+        ([0, 0, 0, 1, 1, 1], MeshFormat::Vtk, 149, ONE_FACE_VTK),
+    ] {
+        let written = window(bench, shelf, corners, format);
+        assert_eq!(rt; written, mesh_of(3, 1, bytes));
+        assert!(rt; has_file(shelf, "w", text));
     }
 }
 
 #[test]
 fn a_corner_in_off_and_vtk(rt: HostRuntime) -> Result<(), Fail> {
-    let bench = bench(rt.alloc()).ok_or("no bench")?;
-    let mut shelf = shelf(rt.alloc())?;
-    let off = bench.window(&mut shelf, "w", [1, 1, 1, 0, 0, 0], MeshFormat::Off);
-    assert_eq!(rt; off, one_face(72));
-    assert!(rt; holds(&shelf, ONE_FACE_OFF));
-    let vtk = bench.window(&mut shelf, "w", [0, 0, 0, 1, 1, 1], MeshFormat::Vtk);
-    assert_eq!(rt; vtk, one_face(149));
-    assert!(rt; holds(&shelf, ONE_FACE_VTK));
+    let mut shelf = shelf(rt.alloc(), &[])?;
+    check_corner(&rt, &bench(rt.alloc()).ok_or("no bench")?, &mut shelf);
     Ok(())
 }
 
@@ -72,39 +53,36 @@ fn verdict_on(alloc: Global, shelf: &MemShelf) -> Option<Verdict> {
     verdict(alloc, &triangles).ok()
 }
 
-/// The windows of a dot among three points along each axis.
+/// The windows of a dot among three points along each axis. Those that are refused leave the file before them.
 fn check_dot(rt: &impl Abort, alloc: Global, bench: &Bench) -> Result<(), Fail> {
-    let mut shelf = shelf(alloc)?;
-    let ply = bench.window(&mut shelf, "w", [1, 1, 1, 2, 2, 2], MeshFormat::Ply);
-    assert_eq!(rt; ply, one_face(216));
-    assert_eq!(rt;
-        verdict_on(alloc, &shelf),
-        Some(Verdict::Border { edges: 3 })
-    );
-    let obj = bench.window(&mut shelf, "w", [2, 1, 2, 1, 2, 1], MeshFormat::Obj);
-    assert_eq!(rt; obj, one_face(68));
-    assert!(rt; holds(&shelf, LAST_FACE_OBJ));
-    let thin = Err(BenchFault::WindowThin { axis: 0, n: 1 });
-    assert_eq!(rt;
-        bench.window(&mut shelf, "w", [1, 1, 1, 1, 2, 2], MeshFormat::Ply),
-        thin
-    );
-    let outside = Err(BenchFault::Outside);
-    assert_eq!(rt;
-        bench.window(&mut shelf, "w", [0, 0, 0, 3, 1, 1], MeshFormat::Ply),
-        outside
-    );
-    assert_eq!(rt;
-        bench.window(&mut shelf, "w", [0, 0, -1, 0, 0, 0], MeshFormat::Ply),
-        outside
-    );
-    assert!(rt; holds(&shelf, LAST_FACE_OBJ));
+    let mut shelf = shelf(alloc, &[])?;
+    let ply = window(bench, &mut shelf, [1, 1, 1, 2, 2, 2], MeshFormat::Ply);
+    assert_eq!(rt; ply, mesh_of(3, 1, 216));
+    let border = Verdict::Border { edges: 3 };
+    assert_eq!(rt; verdict_on(alloc, &shelf), Some(border));
+    for (corners, want) in [
+        ([2, 1, 2, 1, 2, 1], mesh_of(3, 1, 68)),
+        (
+            [1, 1, 1, 1, 2, 2],
+            Err(BenchFault::WindowThin { axis: 0, n: 1 }),
+        ),
+        ([0, 0, 0, 3, 1, 1], Err(BenchFault::Outside)),
+        ([0, 0, -1, 0, 0, 0], Err(BenchFault::Outside)),
+    ] {
+        let obj = window(bench, &mut shelf, corners, MeshFormat::Obj);
+        assert_eq!(rt; obj, want, "{corners:?}");
+        assert!(rt; has_file(&shelf, "w", LAST_FACE_OBJ), "{corners:?}");
+    }
     Ok(())
 }
 
 #[test]
-fn a_dot_with_and_without_a_pad(rt: HostRuntime) -> Result<(), Fail> {
-    check_dot(&rt, rt.alloc(), &dot_bench(rt.alloc()).ok_or("no bench")?)?;
+fn a_dot(rt: HostRuntime) -> Result<(), Fail> {
+    check_dot(&rt, rt.alloc(), &dot_bench(rt.alloc()).ok_or("no bench")?)
+}
+
+#[test]
+fn a_dot_in_a_pad(rt: HostRuntime) -> Result<(), Fail> {
     check_dot(
         &rt,
         rt.alloc(),
@@ -138,98 +116,125 @@ fn is_inside(position: &str, low: [u32; 3], high: [u32; 3]) -> bool {
     true
 }
 
-/// The line of a face by other numbers of its vertices; none where one has none.
-fn face_line(
-    alloc: Global,
-    face: &str,
-    numbers: &[Option<u32>],
-) -> Result<Option<String>, AllocError> {
-    let mut line = String::new(alloc);
-    line.push_str("3")?;
-    for word in face.split(' ').skip(1) {
-        let Ok(old) = word.parse::<u32>() else {
-            return Ok(None);
-        };
-        let Some(Some(new)) = numbers.get(old as usize) else {
-            return Ok(None);
-        };
-        line.push_str(&format!(in alloc; " {new}")?)?;
+/// A part of a mesh as OFF while it is gathered: its lines, and what number each vertex of the whole has in it, if any.
+#[derive(Drop)]
+struct Part {
+    lines: String,
+    numbers: Vec<Option<u32>>,
+    vertices: u32,
+    faces: u32,
+}
+
+fn push_line(lines: &mut String, line: &str) -> Result<(), AllocError> {
+    lines.push_str(line)?;
+    lines.push_str("\n")
+}
+
+fn add_vertex(part: &mut Part, line: &str, is_inside: bool) -> Result<(), AllocError> {
+    if is_inside {
+        part.numbers.push(Some(part.vertices))?;
+        part.vertices = part.vertices.wrapping_add(1);
+        push_line(&mut part.lines, line)
+    } else {
+        part.numbers.push(None)?;
+        Ok(())
     }
-    line.push_str("\n")?;
+}
+
+/// The number that a vertex of the whole has in the part.
+fn number_in(part: &Part, word: &str) -> Option<u32> {
+    let old = word.parse::<u32>().ok()?;
+    *part.numbers.get(old as usize)?
+}
+
+/// The line of a face by the numbers of the part; none where a corner of it has none.
+fn face_line(alloc: Global, part: &Part, face: &str) -> Result<Option<String>, AllocError> {
+    let mut line = String::from_str(alloc, "3")?;
+    for word in face.split(' ').skip(1) {
+        let Some(number) = number_in(part, word) else {
+            return Ok(None);
+        };
+        line.push_str(&format!(in alloc; " {number}")?)?;
+    }
     Ok(Some(line))
 }
 
-/// The part of a mesh in a box as OFF, from the text of the whole as PLY: the vertices in the box, and the faces whose corners are
-/// all among them. Each crossing lies in the middle of its edge, so a cell beside the box has a corner outside of it.
+fn add_face(alloc: Global, part: &mut Part, face: &str) -> Result<(), AllocError> {
+    if let Some(line) = face_line(alloc, part, face)? {
+        push_line(&mut part.lines, &line)?;
+        part.faces = part.faces.wrapping_add(1);
+    }
+    Ok(())
+}
+
+/// Adds the lines of the whole mesh as PLY: the vertices in the box, and the faces whose corners are all among them.
+fn gather(
+    alloc: Global,
+    part: &mut Part,
+    whole: &str,
+    low: [u32; 3],
+    high: [u32; 3],
+) -> Result<(), AllocError> {
+    for line in whole.lines() {
+        if line.contains('.') {
+            add_vertex(part, line, is_inside(line, low, high))?;
+        } else {
+            add_face(alloc, part, line)?;
+        }
+    }
+    Ok(())
+}
+
+/// The part of a mesh in a box as OFF. Each crossing lies in the middle of its edge, so a cell beside the box has a corner
+/// outside of it.
 fn part_of(
     alloc: Global,
     whole: &str,
     low: [u32; 3],
     high: [u32; 3],
 ) -> Result<String, AllocError> {
-    let mut lines = String::new(alloc);
-    let mut numbers = Vec::new(alloc);
-    let (mut vertices, mut faces): (u32, u32) = (0, 0);
-    let mut is_head = true;
-    for line in whole.lines() {
-        if is_head {
-            is_head = line != "end_header";
-        } else if line.contains('.') {
-            let inside = is_inside(line, low, high);
-            numbers.push(if inside { Some(vertices) } else { None })?;
-            if inside {
-                lines.push_str(line)?;
-                lines.push_str("\n")?;
-                vertices = vertices.wrapping_add(1);
-            }
-        } else if let Some(face) = face_line(alloc, line, &numbers)? {
-            lines.push_str(&face)?;
-            faces = faces.wrapping_add(1);
-        }
-    }
-    format!(in alloc; "OFF\n{vertices} {faces} 0\n{lines}")
+    let mut part = Part {
+        lines: String::new(alloc),
+        numbers: Vec::new(alloc),
+        vertices: 0,
+        faces: 0,
+    };
+    gather(alloc, &mut part, whole, low, high)?;
+    format!(in alloc; "OFF\n{} {} 0\n{}", part.vertices, part.faces, part.lines)
+}
+
+/// Opposite corners of a box.
+fn corners_of([ax, ay, az]: [u32; 3], [bx, by, bz]: [u32; 3]) -> [i64; 6] {
+    [bx, ay, bz, ax, by, az].map(i64::from)
 }
 
 /// Whether the window of a box is that part of the whole mesh.
 fn is_part(
     alloc: Global,
     bench: &Bench,
+    shelf: &mut MemShelf,
     whole: &str,
-    low: [u32; 3],
-    high: [u32; 3],
+    (low, high): ([u32; 3], [u32; 3]),
 ) -> Result<bool, AllocError> {
-    let Ok(mut shelf) = shelf(alloc) else {
-        return Ok(false);
-    };
-    let [ax, ay, az] = low;
-    let [bx, by, bz] = high;
-    let corners = [
-        i64::from(bx),
-        i64::from(ay),
-        i64::from(bz),
-        i64::from(ax),
-        i64::from(by),
-        i64::from(az),
-    ];
-    if bench
-        .window(&mut shelf, "w", corners, MeshFormat::Off)
-        .is_err()
-    {
-        return Ok(false);
-    }
+    let written = window(bench, shelf, corners_of(low, high), MeshFormat::Off);
     let part = part_of(alloc, whole, low, high)?;
-    Ok(holds(&shelf, &part))
+    Ok(written.is_ok() && has_file(shelf, "w", &part))
 }
 
 /// How many boxes of four points along each axis have another window.
-fn boxes_apart(alloc: Global, bench: &Bench, whole: &str) -> Result<u32, AllocError> {
+fn boxes_apart(
+    alloc: Global,
+    bench: &Bench,
+    shelf: &mut MemShelf,
+    whole: &str,
+) -> Result<u32, AllocError> {
     let mut apart: u32 = 0;
     for first in 0..64u32 {
         for last in 0..64u32 {
             let low = [first % 4, first / 4 % 4, first / 16];
             let high = [last % 4, last / 4 % 4, last / 16];
             if low[0] < high[0] && low[1] < high[1] && low[2] < high[2] {
-                if !is_part(alloc, bench, whole, low, high)? {
+                if !is_part(alloc, bench, shelf, whole, (low, high))? {
                     apart = apart.wrapping_add(1);
                 }
             }
@@ -238,27 +243,30 @@ fn boxes_apart(alloc: Global, bench: &Bench, whole: &str) -> Result<u32, AllocEr
     Ok(apart)
 }
 
-fn check_boxes<L: Ledger>(rt: &impl Abort, alloc: Global, blank: Blank) -> Result<(), Fail>
-    requires name { blank.name ≡ L.name }
-    requires parts { blank.parts ≡ L.parts }
-    requires some { 0 < blank.parts }
-{
-    let (book, share) = blank.open::<L>();
-    let mut steps = Steps::new(book, share);
-    let mut bench = four_a_side(alloc).ok_or("no bench")?;
-    let mut shelf = shelf(alloc)?;
-    let written = bench
-        .write_ply(&mut shelf, "w", &mut steps)
-        .ok()
-        .ok_or("not written")?;
-    assert!(rt; written.faces > 100);
-    let text = shelf.file("w").ok_or("no file")?;
-    let whole = std::str::from_utf8(text).ok().ok_or("no text")?;
-    assert_eq!(rt; boxes_apart(alloc, &bench, whole)?, 0);
+/// The lines of the file `w` behind its head.
+fn body_of(shelf: &MemShelf) -> Option<&str> {
+    let text = std::str::from_utf8(shelf.file("w")?).ok()?;
+    let (_, body) = text.split_once("end_header\n")?;
+    Some(body)
+}
+
+/// Writes the whole mesh, which has more than a hundred faces, and looks at its boxes.
+fn check_boxes(
+    rt: &impl Abort,
+    alloc: Global,
+    bench: &mut Bench,
+    shelf: &mut MemShelf,
+) -> Result<(), Fail> {
+    let written = write(bench, shelf, "w", TwoWayFormat::Ply);
+    assert!(rt; written.is_ok_and(|written| written.faces > 100));
+    let whole = String::from_str(alloc, body_of(shelf).ok_or("no text")?)?;
+    assert_eq!(rt; boxes_apart(alloc, bench, shelf, &whole)?, 0);
     Ok(())
 }
 
 #[test]
 fn each_box_of_a_volume(rt: HostRuntime) -> Result<(), Fail> {
-    check_boxes::<Brand>(&rt, rt.alloc(), Blank::new(1))
+    let mut shelf = shelf(rt.alloc(), &[])?;
+    let mut bench = four_a_side(rt.alloc()).ok_or("no bench")?;
+    check_boxes(&rt, rt.alloc(), &mut bench, &mut shelf)
 }

@@ -2,6 +2,7 @@ ghost use Rattle.std.specs.Prelude.{◌≡◌, IfSome, IfOk, None};
 ghost use Rattle.iso_base.specs.declared.kind.SampleKind.TheVariants.{U8};
 ghost use Rattle.iso_base.specs.Points.{IsPoint};
 
+use crate::stores::sizes_of;
 use brick_store::BrickStore;
 use edit_log::{Change, EditLog, Runs, fill_area};
 use iso_base::{Level, Memory, Point, SampleKind, Sizes, VoxelData};
@@ -12,7 +13,7 @@ use voxel_list::{FillBox, VoxelList};
 fn sizes() -> Option<Sizes>
     ensures { IfSome result (λ g. g ≡ record { nx = 3; ny = 2; nz = 2 }) }
 {
-    Sizes::new(3, 2, 2).ok()
+    sizes_of(3, 2, 2)
 }
 
 /// Samples 0 to 11 on a grid of 3, 2 and 2 points.

@@ -1,6 +1,7 @@
 //! Entries of bricks, and the cases of their rows.
 ghost use Rattle.std.specs.Prelude.{◌≡◌, ◌<◌, IfOk, IfSome};
 
+use crate::stores::sizes_of;
 use arrayvec::ArrayVec;
 use brick_mesh::{extract_brick, extract_row};
 use brick_store::{BrickId, BrickStore};
@@ -15,7 +16,7 @@ use voxel_list::VoxelList;
 fn sizes() -> Option<Sizes>
     ensures { IfSome result (λ g. g ≡ record { nx = 2; ny = 2; nz = 2 }) }
 {
-    Sizes::new(2, 2, 2).ok()
+    sizes_of(2, 2, 2)
 }
 
 /// One cell, whose lowest face is ambiguous at level 5: its products are 4 and 4, a tie.

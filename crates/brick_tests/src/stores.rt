@@ -1,5 +1,5 @@
 //! Stores that several tests start from.
-ghost use Rattle.std.specs.Prelude.{◌≡◌, IfOk, None};
+ghost use Rattle.std.specs.Prelude.{◌≡◌, IfOk, IfSome, None};
 ghost use Rattle.iso_base.specs.declared.kind.SampleKind.TheVariants.{U8};
 
 use brick_store::BrickStore;
@@ -7,13 +7,20 @@ use iso_base::{Memory, SampleKind, Sizes, VoxelData};
 use std::alloc::Global;
 use voxel_list::VoxelList;
 
+/// These sizes. Of any numbers, since the checker is long over what sizes of figures are.
+pub fn sizes_of(nx: u64, ny: u64, nz: u64) -> Option<Sizes>
+    ensures { IfSome result (λ g. g ≡ record { nx = nx; ny = ny; nz = nz }) }
+{
+    Sizes::new(nx, ny, nz).ok()
+}
+
 /// Seventeen points along each axis, all 0: two bricks along each.
 pub fn zeros(alloc: Global) -> Result<BrickStore, Memory>
     ensures grid { IfOk result (λ b. b.grid ≡ record { nx = 17; ny = 17; nz = 17 }) }
     ensures kind { IfOk result (λ b. b.kind ≡ U8) }
     ensures pad { IfOk result (λ b. b.pad ≡ None) }
 {
-    let Ok(sizes) = Sizes::new(17, 17, 17) else {
+    let Some(sizes) = sizes_of(17, 17, 17) else {
         return Err(Memory);
     };
     let samples = vec![in alloc; 0; 4913]?;

@@ -3,6 +3,7 @@ ghost use Rattle.std.specs.Prelude.{◌≡◌, IfSome, false};
 ghost use Rattle.iso_defs.specs.Bricks.{row_cases};
 ghost use Rattle.iso_base.specs.Shifted.{field};
 
+use crate::stores::sizes_of;
 use arrayvec::ArrayVec;
 use brick_mesh::extract_row;
 use brick_store::{BrickId, BrickStore};
@@ -257,7 +258,7 @@ fn padded_volume(alloc: Global, volume: VoxelList, pad: u8) -> Option<VoxelList>
 fn two_by_two() -> Option<Sizes>
     ensures { IfSome result (λ g. g ≡ record { nx = 2; ny = 2; nz = 2 }) }
 {
-    Sizes::new(2, 2, 2).ok()
+    sizes_of(2, 2, 2)
 }
 
 /// The greatest and the least samples by turns.

@@ -64,17 +64,13 @@ fn statuses_have_numbers(rt: HostRuntime) {
 
 #[test]
 fn verdicts_are_told(rt: HostRuntime) {
-    assert_eq!(rt; verdict_line(Verdict::Closed).as_str(), "closed\n");
-    assert_eq!(rt;
-        verdict_line(Verdict::Border { edges: 3 }).as_str(),
-        "border 3\n"
-    );
-    let repeated = Verdict::RepeatedCorner { t: 0 };
-    assert_eq!(rt; verdict_line(repeated).as_str(), "repeated corner 0\n");
-    let twice = Verdict::EdgeTwice { a: 0, b: 1 };
-    assert_eq!(rt; verdict_line(twice).as_str(), "edge twice 0 1\n");
-    assert_eq!(rt;
-        verdict_line(Verdict::SplitVertex { v: 0 }).as_str(),
-        "split vertex 0\n"
-    );
+    for (verdict, line) in [
+        (Verdict::Closed, "closed\n"),
+        (Verdict::Border { edges: 3 }, "border 3\n"),
+        (Verdict::RepeatedCorner { t: 0 }, "repeated corner 0\n"),
+        (Verdict::EdgeTwice { a: 0, b: 1 }, "edge twice 0 1\n"),
+        (Verdict::SplitVertex { v: 0 }, "split vertex 0\n"),
+    ] {
+        assert_eq!(rt; verdict_line(verdict).as_str(), line);
+    }
 }

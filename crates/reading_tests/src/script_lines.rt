@@ -48,17 +48,23 @@ fn is_measure(line: &[u8]) -> bool {
     }
 }
 
+// The word of a line that writes, and the name of its file.
+fn written(line: &[u8]) -> Option<(&'static str, FileName)> {
+    match read_line(line) {
+        Ok(Some(Command::Ply { name })) => Some(("ply", name)),
+        Ok(Some(Command::Obj { name })) => Some(("obj", name)),
+        Ok(Some(Command::Save { name })) => Some(("save", name)),
+        Ok(Some(Command::SaveText { name })) => Some(("savetext", name)),
+        Ok(Some(Command::SaveHex { name })) => Some(("savehex", name)),
+        _ => None,
+    }
+}
+
 // Whether a line is one of this word with this name.
 fn writes(line: &[u8], word: &str, name: &str) -> bool {
-    match read_line(line) {
-        Ok(Some(Command::Ply { name: read })) => word == "ply" && read.as_str() == name,
-        Ok(Some(Command::Obj { name: read })) => word == "obj" && read.as_str() == name,
-        Ok(Some(Command::Save { name: read })) => word == "save" && read.as_str() == name,
-        Ok(Some(Command::SaveText { name: read })) => {
-            word == "savetext" && read.as_str() == name
-        }
-        Ok(Some(Command::SaveHex { name: read })) => word == "savehex" && read.as_str() == name,
-        _ => false,
+    match written(line) {
+        Some((read, file)) => read == word && file.as_str() == name,
+        None => false,
     }
 }
 

@@ -1,25 +1,31 @@
 //! Tests of `nrrd` and `nrrd_text`.
 
-use iso_base::SampleKind;
+use iso_base::{SampleKind, VoxelData};
 use iso_io::MemSink;
 use nrrd::{
     FileVolume, NrrdFault, put_coded_head, put_nrrd_head, put_samples, read_file_volume,
     read_volume,
 };
 use nrrd_text::{put_hex, put_text};
+use std::alloc::Global;
 use std::test::Fail;
+
+/// The volume of a text, and how many bytes were left over.
+fn read(alloc: Global, text: &[u8]) -> Result<(VoxelData, u64), NrrdFault> {
+    read_volume(alloc, text)
+}
 
 #[test]
 fn a_written_volume_is_read_again(rt: HostRuntime) -> Result<(), Fail> {
     let text =
         b"NRRD0005\n# made by hand\nType: Unsigned Short\ndimension:3\nkind:=a\nsizes: 2 2 2\nendian: BIG\nencoding: raw\n\n\x00\x01\x00\x02\x00\x03\x00\x04\x00\x05\x00\x06\x00\x07\xff\xfe!";
-    let (volume, surplus) = read_volume(rt.alloc(), text)?;
+    let (volume, surplus) = read(rt.alloc(), text)?;
     assert_eq!(rt; surplus, 1);
     assert!(rt; volume.samples() == [1i64, 2, 3, 4, 5, 6, 7, 65_534].as_slice());
     let mut sink = MemSink::new(rt.alloc(), 200, Vec::new(rt.alloc()))?;
     put_nrrd_head(&mut sink, &volume.sizes(), volume.kind())?;
     put_samples(&mut sink, volume.kind(), volume.samples())?;
-    let (again, surplus) = read_volume(rt.alloc(), sink.bytes())?;
+    let (again, surplus) = read(rt.alloc(), sink.bytes())?;
     assert_eq!(rt; surplus, 0);
     assert!(rt; again.samples() == volume.samples());
     Ok(())
@@ -47,12 +53,12 @@ fn samples_in_the_bytes_of_a_file(rt: HostRuntime) -> Result<(), Fail> {
 fn samples_in_print(rt: HostRuntime) -> Result<(), Fail> {
     let text =
         b"NRRD0004\n# Complete NRRD file format specification at:\n# http://teem.sourceforge.net/nrrd/format.html\ntype: short\ndimension: 3\nsizes: 3 2 2\nencoding: ascii\n\n1 2 3 4 5 6 7 8 9 10\n-11 32767\n";
-    let (volume, surplus) = read_volume(rt.alloc(), text)?;
+    let (volume, surplus) = read(rt.alloc(), text)?;
     assert_eq!(rt; surplus, 1);
     assert!(rt; volume.samples() == [1i64, 2, 3, 4, 5, 6, 7, 8, 9, 10, -11, 32_767].as_slice());
     let hex =
         b"NRRD0004\ntype: ushort\ndimension: 3\nsizes: 2 2 2\nendian: little\nencoding: hex\n\n01000200030004000500060007\n00fFfE\n";
-    let (volume, surplus) = read_volume(rt.alloc(), hex)?;
+    let (volume, surplus) = read(rt.alloc(), hex)?;
     assert_eq!(rt; surplus, 1);
     assert!(rt; volume.samples() == [1i64, 2, 3, 4, 5, 6, 7, 65_279].as_slice());
     Ok(())
@@ -63,7 +69,7 @@ fn fault_of(rt: &HostRuntime, encoding: &str, samples: &str) -> Result<Option<Nr
     let text = format!(in rt.alloc();
         "NRRD0004\ntype: uint8\ndimension: 3\nsizes: 2 2 2\nencoding: {encoding}\n\n{samples}"
     )?;
-    Ok(read_volume(rt.alloc(), text.as_bytes()).err())
+    Ok(read(rt.alloc(), text.as_bytes()).err())
 }
 
 #[test]

@@ -102,64 +102,13 @@ fn command_lines_are_read(rt: HostRuntime) -> Result<(), Fail> {
     Ok(())
 }
 
+/// One line of words after another. The first has none.
+const OTHER_WORDS: &str =
+    "\nextract\npoints --level 5\nextract --level=5 --level=5\npoints --level=5 --pad=0\nsession --level=5\ncheck ply x\n--level=5 points\npoints --level=\npoints --level=8589934592\npoints --level=8589934592.001\npoints --level=-8589934592\npoints --level=0000000000000000005\npoints --level=0000000000000000005.5\nextract --level=0.0005\npoints --level=.5\npoints --level=5.\npoints --level=+1\npoints --level=1e3\npoints --level=1.5.5\nextract --level=5 --pad=0.5\npoints -- --level=5\npoints --level=5 -\npoints --levels=5\nextract --level=0 --pad=4294967296\nextract --level=0 --pad=-2147483649\nextract --format=PLY --level=5\nsession --level=5 -a\nsession --level=5 a b\nsession --level=5 --bricks=0 a\nsession --level=5 --bricks=65537 a\nsession --level=5 --bricks=0000000001 a\nsession --level=5 --bricks=-1 a\nsession --level=5 --bricks=1 --bricks=1 a\nsession --level=5 --pages=15 a\nsession --level=5 --pages=1048577 a\nsession --level=5 --pages= a\nextract --level=5 --bricks=1\ncheck stl\ncheck --format=ply\ngen 0 1 2 2\ngen 0 2 2\ngen 0 2 2 2 2\ngen -0 2 2 2\ngen 0 2 1027 2\ngen 0 1026 1026 1026\ngen 0 2 2 -2\ngen 1000000000000000000 2 2 2\ngen --seed=0 2 2 2\nsoak\nsoak 7 7\nsoak -0\nsoak 7.5\nsoak 1000000000000000000";
+
 #[test]
 fn other_words_are_refused(rt: HostRuntime) -> Result<(), Fail> {
-    for line in [
-        "",
-        "extract",
-        "points --level 5",
-        "extract --level=5 --level=5",
-        "points --level=5 --pad=0",
-        "session --level=5",
-        "check ply x",
-        "--level=5 points",
-        "points --level=",
-        "points --level=8589934592",
-        "points --level=8589934592.001",
-        "points --level=-8589934592",
-        "points --level=0000000000000000005",
-        "points --level=0000000000000000005.5",
-        "extract --level=0.0005",
-        "points --level=.5",
-        "points --level=5.",
-        "points --level=+1",
-        "points --level=1e3",
-        "points --level=1.5.5",
-        "extract --level=5 --pad=0.5",
-        "points -- --level=5",
-        "points --level=5 -",
-        "points --levels=5",
-        "extract --level=0 --pad=4294967296",
-        "extract --level=0 --pad=-2147483649",
-        "extract --format=PLY --level=5",
-        "session --level=5 -a",
-        "session --level=5 a b",
-        "session --level=5 --bricks=0 a",
-        "session --level=5 --bricks=65537 a",
-        "session --level=5 --bricks=0000000001 a",
-        "session --level=5 --bricks=-1 a",
-        "session --level=5 --bricks=1 --bricks=1 a",
-        "session --level=5 --pages=15 a",
-        "session --level=5 --pages=1048577 a",
-        "session --level=5 --pages= a",
-        "extract --level=5 --bricks=1",
-        "check stl",
-        "check --format=ply",
-        "gen 0 1 2 2",
-        "gen 0 2 2",
-        "gen 0 2 2 2 2",
-        "gen -0 2 2 2",
-        "gen 0 2 1027 2",
-        "gen 0 1026 1026 1026",
-        "gen 0 2 2 -2",
-        "gen 1000000000000000000 2 2 2",
-        "gen --seed=0 2 2 2",
-        "soak",
-        "soak 7 7",
-        "soak -0",
-        "soak 7.5",
-        "soak 1000000000000000000",
-    ] {
+    for line in OTHER_WORDS.split('\n') {
         assert_eq!(rt; read(rt.alloc(), line)?.as_str(), "none", "{line}");
     }
     assert!(rt; read_words(&[]).is_none());

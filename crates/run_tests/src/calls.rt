@@ -1,28 +1,54 @@
-//! Calls of the program's run over memory.
+//! Calls of the program's run over memory. `run` itself is called in one function alone, and that promises nothing, so that what
+//! `run` promises is read once and not in each test.
 
-ghost use Rattle.std.specs.Prelude.{◌≡◌, ◌<◌, ◌≤◌, length};
+ghost use Rattle.std.specs.Prelude.{◌≡◌, ◌<◌};
 
 use commands::run;
 use endings::Status;
 use iso_base::Steps;
-use iso_io::{MemShelf, MemSink, MemSource};
+use iso_io::{MemShelf, MemSink, MemSource, Source};
 use std::alloc::{AllocError, Global};
 use std::marker::Brand;
 use std::process::Abort;
 use std::sync::ledger::{Blank, Ledger};
 use std::test::Fail;
 
-/// A call: its words, its input in pieces of a length, the bytes of the shelf's file `v`, and which reads, writes and
-/// calls of the shelf fail, counted from 1.
+/// A call: its words, its input, and the bytes of the shelf's file `v`; the most bytes that a read gives, that a write takes
+/// and that a failing append takes; and which reads, writes and calls of the shelf fail, counted from 1.
 #[derive(Clone, Copy)]
 pub struct Call<'a> {
     pub words: &'a [&'a str],
     pub input: &'a [u8],
-    pub piece: u32,
     pub volume: &'a [u8],
+    pub read_piece: u32,
+    pub write_piece: u32,
+    pub cut: u32,
     pub reads_failing: &'a [u64],
     pub writes_failing: &'a [u64],
     pub shelf_failing: &'a [u64],
+}
+
+/// A call whose input comes in pieces of 9 bytes, without a volume or failures.
+pub fn call_of<'a>(words: &'a [&'a str], input: &'a [u8]) -> Call<'a> {
+    Call {
+        words,
+        input,
+        volume: b"",
+        read_piece: 9,
+        write_piece: 4096,
+        cut: 0,
+        reads_failing: &[],
+        writes_failing: &[],
+        shelf_failing: &[],
+    }
+}
+
+/// A session at level 5 on a volume of the file `v`, whose script is read in pieces of 7 bytes; no call fails.
+pub fn session_of<'a>(volume: &'a [u8], script: &'a [u8]) -> Call<'a> {
+    let mut call = call_of(&["session", "--level=5", "v"], script);
+    call.volume = volume;
+    call.read_piece = 7;
+    call
 }
 
 /// How it is to end, and what the shelf's files `a`, `b` and `c` are then to hold, where there are any.
@@ -34,26 +60,8 @@ pub struct End<'a> {
     pub files: [Option<&'static [u8]>; 3],
 }
 
-pub fn words_of(alloc: Global, words: &[&str]) -> Result<Vec<String>, AllocError> {
-    let mut all = Vec::new(alloc);
-    for word in words {
-        all.push(String::from_str(alloc, word)?)?;
-    }
-    Ok(all)
-}
-
-/// The most bytes of a file on the shelf of a test.
-const ROOM: u32 = 2_200_000;
-
-/// A shelf with a volume as the file `v`.
-fn shelf_with(alloc: Global, volume: &[u8], failing: &[u64]) -> Result<MemShelf, Fail>
-    requires { length volume.now ≤ 2200000 }
-{
-    let failing = Vec::from_slice(alloc, failing)?;
-    let mut shelf = MemShelf::new(alloc, 4, ROOM, failing).ok().ok_or("memory")?;
-    shelf.put("v", volume);
-    Ok(shelf)
-}
+/// None of the three files is there.
+pub const NO_FILES: [Option<&'static [u8]>; 3] = [None, None, None];
 
 /// What is left of a call: its status, its output, its notes and the shelf.
 #[derive(Drop)]
@@ -64,72 +72,98 @@ pub struct Outcome {
     pub shelf: MemShelf,
 }
 
-pub fn outcome_of<L: Ledger>(alloc: Global, blank: Blank, call: &Call<'_>) -> Result<Outcome, Fail>
-    requires piece { 0 < call.now.piece }
-    requires volume { length call.now.volume.now ≤ 2200000 }
+fn words_of(alloc: Global, words: &[&str]) -> Result<Vec<String>, AllocError> {
+    let mut all = Vec::new(alloc);
+    for word in words {
+        all.push(String::from_str(alloc, word)?)?;
+    }
+    Ok(all)
+}
+
+/// Reads and writes that are to give and to take something.
+fn source_of(alloc: Global, call: &Call<'_>) -> Result<MemSource, AllocError> {
+    let input = Vec::from_slice(alloc, call.input)?;
+    let failing = Vec::from_slice(alloc, call.reads_failing)?;
+    Ok(MemSource::new(input, call.read_piece.max(1), failing))
+}
+
+fn sink_of(alloc: Global, piece: u32, failing: &[u64]) -> Result<MemSink, Fail> {
+    let failing = Vec::from_slice(alloc, failing)?;
+    Ok(MemSink::cutting(alloc, 4096, piece.max(1), failing)?)
+}
+
+/// The most bytes of a file on the shelf of a test.
+const ROOM: u32 = 2_200_000;
+
+/// A shelf with the volume as the file `v`.
+fn shelf_of(alloc: Global, call: &Call<'_>) -> Result<MemShelf, Fail> {
+    let failing = Vec::from_slice(alloc, call.shelf_failing)?;
+    let mut shelf = MemShelf::cutting(alloc, 5, ROOM, call.cut, failing)?;
+    if call.volume.len() <= ROOM as usize {
+        shelf.put("v", call.volume);
+    }
+    Ok(shelf)
+}
+
+fn counted_run<S: Source, L: Ledger>(
+    alloc: Global,
+    blank: Blank,
+    words: &[String],
+    input: &mut S,
+    outcome: &mut Outcome,
+) -> Status
     requires name { blank.name ≡ L.name }
     requires parts { blank.parts ≡ L.parts }
     requires some { 0 < blank.parts }
 {
     let (book, share) = blank.open::<L>();
-    let words = words_of(alloc, call.words)?;
-    let mut source = MemSource::new(
-        Vec::from_slice(alloc, call.input)?,
-        call.piece,
-        Vec::from_slice(alloc, call.reads_failing)?,
-    );
-    let mut output = MemSink::new(alloc, 4096, Vec::from_slice(alloc, call.writes_failing)?)
-        .ok()
-        .ok_or("memory")?;
-    let mut notes = MemSink::new(alloc, 4096, Vec::new(alloc))
-        .ok()
-        .ok_or("memory")?;
-    let mut shelf = shelf_with(alloc, call.volume, call.shelf_failing)?;
-    let status = run(
+    run(
         alloc,
-        &words,
-        &mut source,
-        &mut output,
-        &mut notes,
-        &mut shelf,
+        words,
+        input,
+        &mut outcome.output,
+        &mut outcome.notes,
+        &mut outcome.shelf,
         &mut None,
         &mut Steps::new(book, share),
-    );
-    Ok(Outcome {
-        status,
-        output,
-        notes,
-        shelf,
-    })
+    )
 }
 
-pub fn check(rt: &impl Abort, alloc: Global, call: &Call<'_>, end: &End<'_>) -> Result<(), Fail>
-    requires piece { 0 < call.now.piece }
-    requires volume { length call.now.volume.now ≤ 2200000 }
-{
-    let outcome = outcome_of::<Brand>(alloc, Blank::new(1), call)?;
+/// What is left of a call whose input is another source.
+pub fn outcome_over<S: Source>(
+    alloc: Global,
+    call: &Call<'_>,
+    input: &mut S,
+) -> Result<Outcome, Fail> {
+    let words = words_of(alloc, call.words)?;
+    let mut outcome = Outcome {
+        status: Status::Done,
+        output: sink_of(alloc, call.write_piece, call.writes_failing)?,
+        notes: sink_of(alloc, 4096, &[])?,
+        shelf: shelf_of(alloc, call)?,
+    };
+    outcome.status = counted_run::<S, Brand>(alloc, Blank::new(1), &words, input, &mut outcome);
+    Ok(outcome)
+}
+
+pub fn outcome_of(alloc: Global, call: &Call<'_>) -> Result<Outcome, Fail> {
+    outcome_over(alloc, call, &mut source_of(alloc, call)?)
+}
+
+pub fn check(rt: &impl Abort, alloc: Global, call: &Call<'_>, end: &End<'_>) -> Result<(), Fail> {
+    let outcome = outcome_of(alloc, call)?;
     assert_eq!(rt; outcome.status, end.status);
     assert_eq!(rt; outcome.output.bytes(), end.output);
     assert_eq!(rt; outcome.notes.bytes(), end.notes);
-    assert_eq!(rt; outcome.shelf.file("a"), end.files[0]);
-    assert_eq!(rt; outcome.shelf.file("b"), end.files[1]);
-    assert_eq!(rt; outcome.shelf.file("c"), end.files[2]);
+    for (name, file) in [
+        ("a", end.files[0]),
+        ("b", end.files[1]),
+        ("c", end.files[2]),
+    ] {
+        assert_eq!(rt; outcome.shelf.file(name), file, "{name}");
+    }
     Ok(())
 }
-
-/// A call without input, volume or failures.
-pub const PLAIN: Call<'static> = Call {
-    words: &[],
-    input: b"",
-    piece: 9,
-    volume: b"",
-    reads_failing: &[],
-    writes_failing: &[],
-    shelf_failing: &[],
-};
-
-/// None of the three files is there.
-pub const NO_FILES: [Option<&'static [u8]>; 3] = [None, None, None];
 
 /// A call that reads its input in pieces of 9 bytes, writes to its output alone, and ends by this status.
 pub fn check_output<'a>(
@@ -141,22 +175,13 @@ pub fn check_output<'a>(
     output: &'a [u8],
     notes: &'a [u8],
 ) -> Result<(), Fail> {
-    let call = Call {
-        words,
-        input,
-        piece: 9,
-        volume: b"",
-        reads_failing: &[],
-        writes_failing: &[],
-        shelf_failing: &[],
-    };
     let end = End {
         status,
         output,
         notes,
         files: NO_FILES,
     };
-    check(rt, alloc, &call, &end)
+    check(rt, alloc, &call_of(words, input), &end)
 }
 
 pub fn check_done<'a>(
@@ -169,7 +194,24 @@ pub fn check_done<'a>(
     check_output(rt, alloc, words, input, Status::Done, output, b"")
 }
 
-/// A session at level 5 on a volume of the file `v`, whose script is read in pieces of 7 bytes; no call fails.
+/// A call that is done, with these replies and files.
+pub fn check_replies<'a>(
+    rt: &impl Abort,
+    alloc: Global,
+    call: &Call<'a>,
+    replies: &'a [u8],
+    files: [Option<&'static [u8]>; 3],
+) -> Result<(), Fail> {
+    let end = End {
+        status: Status::Done,
+        output: replies,
+        notes: b"",
+        files,
+    };
+    check(rt, alloc, call, &end)
+}
+
+/// A session at level 5 on a volume of the file `v`.
 pub fn check_session<'a>(
     rt: &impl Abort,
     alloc: Global,
@@ -177,23 +219,6 @@ pub fn check_session<'a>(
     script: &'a [u8],
     replies: &'a [u8],
     files: [Option<&'static [u8]>; 3],
-) -> Result<(), Fail>
-    requires { length volume.now ≤ 2200000 }
-{
-    let call = Call {
-        words: &["session", "--level=5", "v"],
-        input: script,
-        piece: 7,
-        volume,
-        reads_failing: &[],
-        writes_failing: &[],
-        shelf_failing: &[],
-    };
-    let end = End {
-        status: Status::Done,
-        output: replies,
-        notes: b"",
-        files,
-    };
-    check(rt, alloc, &call, &end)
+) -> Result<(), Fail> {
+    check_replies(rt, alloc, &session_of(volume, script), replies, files)
 }

@@ -1,12 +1,10 @@
 //! Commands that turn an input into an output.
 
-use crate::calls::{Call, End, NO_FILES, Outcome, check, check_done, check_output, outcome_of};
+use crate::calls::{End, NO_FILES, Outcome, call_of, check, check_done, check_output, outcome_of};
 use crate::texts::*;
 use endings::Status;
 use std::alloc::Global;
-use std::marker::Brand;
 use std::process::Abort;
-use std::sync::ledger::Blank;
 use std::test::Fail;
 
 #[test]
@@ -70,16 +68,7 @@ fn output_of<'a>(
     words: &'a [&'a str],
     input: &'a [u8],
 ) -> Result<Outcome, Fail> {
-    let call = Call {
-        words,
-        input,
-        piece: 1000,
-        volume: b"",
-        reads_failing: &[],
-        writes_failing: &[],
-        shelf_failing: &[],
-    };
-    let outcome = outcome_of::<Brand>(alloc, Blank::new(1), &call)?;
+    let outcome = outcome_of(alloc, &call_of(words, input))?;
     assert_eq!(rt; outcome.status, Status::Done);
     Ok(outcome)
 }
@@ -154,16 +143,8 @@ fn bad_volumes_are_told(rt: HostRuntime) -> Result<(), Fail> {
 #[test]
 fn faults_are_told(rt: HostRuntime) -> Result<(), Fail> {
     let alloc = rt.alloc();
-    let words = ["points", "--level=5"];
-    let mut call = Call {
-        words: &words,
-        input: CORNER,
-        piece: 10,
-        volume: b"",
-        reads_failing: &[3],
-        writes_failing: &[],
-        shelf_failing: &[],
-    };
+    let mut call = call_of(&["points", "--level=5"], CORNER);
+    call.reads_failing = &[3];
     let input_fault = End {
         status: Status::InputFault,
         output: b"",

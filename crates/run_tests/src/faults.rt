@@ -1,18 +1,11 @@
 //! The worked script with each call of the outside failing in turn.
 
-ghost use Rattle.std.specs.Prelude.{◌≡◌, ◌<◌, ◌≤◌, length};
-
-use crate::calls::{Outcome, words_of};
+use crate::calls::{Call, Outcome, call_of, outcome_of};
 use crate::scripts::{SEVENTEEN, zeros};
 use crate::texts::{MESH_AT_FOUR, MOVED_MESH};
-use commands::run;
 use endings::Status;
-use iso_base::Steps;
-use iso_io::{MemShelf, MemSink, MemSource};
 use std::alloc::{AllocError, Global};
-use std::marker::Brand;
 use std::process::Abort;
-use std::sync::ledger::{Blank, Ledger};
 use std::test::Fail;
 
 const SCRIPT: &[u8] = b"set 8 8 8 10\nply a\nwork 8\nply b\nlevel 4\nply c\nlevel 5\nply d\n";
@@ -22,111 +15,41 @@ const MESHED: &[u8] = b"ok vertices 6 faces 8 bytes 326\n";
 const REPLIES: &[u8] =
     b"ok\nok vertices 6 faces 8 bytes 326\nok\nok vertices 6 faces 8 bytes 326\nok\nok vertices 6 faces 8 bytes 326\nok\nok vertices 6 faces 8 bytes 326\n";
 
-/// The most bytes that a read gives, that a write takes and that a failing append takes, and which calls fail.
-#[derive(Clone, Copy)]
-struct Outside<'a> {
-    read_piece: u32,
-    write_piece: u32,
-    cut: u32,
-    reads_failing: &'a [u64],
-    writes_failing: &'a [u64],
-    shelf_failing: &'a [u64],
-}
-
-const SMOOTH: Outside<'static> = Outside {
-    read_piece: 4096,
-    write_piece: 4096,
-    cut: 0,
-    reads_failing: &[],
-    writes_failing: &[],
-    shelf_failing: &[],
-};
-
-/// A shelf with the volume of the worked script as the file `v`.
-fn shelf_of(alloc: Global, outside: &Outside<'_>) -> Result<MemShelf, Fail> {
-    let failing = Vec::from_slice(alloc, outside.shelf_failing)?;
-    let mut shelf = MemShelf::cutting(alloc, 5, 8192, outside.cut, failing)
-        .ok()
-        .ok_or("memory")?;
-    let volume = zeros(alloc, SEVENTEEN, 4913)?;
-    shelf.put("v", &volume);
-    Ok(shelf)
-}
-
-fn sink_of(alloc: Global, piece: u32, failing: &[u64]) -> Result<MemSink, Fail>
-    requires { 0 < piece }
-{
-    let failing = Vec::from_slice(alloc, failing)?;
-    Ok(
-        MemSink::cutting(alloc, 4096, piece, failing)
-            .ok()
-            .ok_or("memory")?,
-    )
-}
-
-/// A session at level 5 that runs a script on that volume, and keeps the least of its mesh that may be kept.
-fn run_with<L: Ledger>(
-    alloc: Global,
-    blank: Blank,
-    script: &[u8],
-    outside: &Outside<'_>,
-) -> Result<Outcome, Fail>
-    requires read { 0 < outside.now.read_piece }
-    requires write { 0 < outside.now.write_piece }
-    requires name { blank.name ≡ L.name }
-    requires parts { blank.parts ≡ L.parts }
-    requires some { 0 < blank.parts }
-{
-    let (book, share) = blank.open::<L>();
-    let words = words_of(
-        alloc,
+/// A session at level 5 that keeps the least of its mesh that may be kept.
+pub fn worked<'a>(volume: &'a [u8], script: &'a [u8]) -> Call<'a> {
+    let mut call = call_of(
         &["session", "--level=5", "--bricks=1", "--pages=16", "v"],
-    )?;
-    let mut source = MemSource::new(
-        Vec::from_slice(alloc, script)?,
-        outside.read_piece,
-        Vec::from_slice(alloc, outside.reads_failing)?,
+        script,
     );
-    let mut output = sink_of(alloc, outside.write_piece, outside.writes_failing)?;
-    let mut notes = sink_of(alloc, 4096, &[])?;
-    let mut shelf = shelf_of(alloc, outside)?;
-    let status = run(
-        alloc,
-        &words,
-        &mut source,
-        &mut output,
-        &mut notes,
-        &mut shelf,
-        &mut None,
-        &mut Steps::new(book, share),
-    );
-    Ok(Outcome {
-        status,
-        output,
-        notes,
-        shelf,
-    })
+    call.volume = volume;
+    call.read_piece = 4096;
+    call
 }
 
-fn worked(alloc: Global, outside: &Outside<'_>) -> Result<Outcome, Fail>
-    requires read { 0 < outside.now.read_piece }
-    requires write { 0 < outside.now.write_piece }
-{
-    run_with::<Brand>(alloc, Blank::new(1), SCRIPT, outside)
-}
-
-/// What another script does where nothing fails.
-pub fn script_outcome(alloc: Global, script: &[u8]) -> Result<Outcome, Fail> {
-    run_with::<Brand>(alloc, Blank::new(1), script, &SMOOTH)
+/// The worked script where reads, writes or calls of the shelf of these numbers fail.
+fn failing<'a>(
+    volume: &'a [u8],
+    reads: &'a [u64],
+    writes: &'a [u64],
+    shelf: &'a [u64],
+) -> Call<'a> {
+    let mut call = worked(volume, SCRIPT);
+    call.reads_failing = reads;
+    call.writes_failing = writes;
+    call.shelf_failing = shelf;
+    call
 }
 
 /// The replies where the shelf's call of this number fails: the volume is read by the first call, and each of the four
 /// meshes is started by one and appended by the next.
-fn replies_but(alloc: Global, call: u64) -> Result<Vec<u8>, AllocError> {
+fn replies_but(alloc: Global, number: u64) -> Result<Vec<u8>, AllocError> {
     let mut all = Vec::new(alloc);
+    if number == 1 {
+        return Ok(all);
+    }
     for start in [2, 4, 6, 8] {
         all.extend_from_slice(b"ok\n")?;
-        if call == start || call == start + 1 {
+        if number == start || number == start + 1 {
             all.extend_from_slice(b"error 9 shelf\n")?;
         } else {
             all.extend_from_slice(MESHED)?;
@@ -135,120 +58,127 @@ fn replies_but(alloc: Global, call: u64) -> Result<Vec<u8>, AllocError> {
     Ok(all)
 }
 
-/// A file is missing where the call that starts it failed, and holds a front where its append failed.
-fn check_file(
-    rt: &impl Abort,
-    outcome: &Outcome,
-    file: (&str, &[u8], u64),
-    call: u64,
-    front: &[u8],
-) -> Result<(), Fail> {
-    let held = outcome.shelf.file(file.0);
-    if call == file.2 {
-        assert_eq!(rt; held, None);
-    } else if call == file.2.saturating_add(1) {
-        assert_eq!(rt; held, Some(front));
+/// What a file then holds: nothing where the volume was not read, or the call that starts it failed, and a front where its
+/// append failed.
+fn held<'a>(mesh: &'a [u8], start: u64, number: u64, front: &'a [u8]) -> Option<&'a [u8]> {
+    if number == 1 || number == start {
+        None
+    } else if number == start.saturating_add(1) {
+        Some(front)
     } else {
-        assert_eq!(rt; held, Some(file.1));
+        Some(mesh)
+    }
+}
+
+fn check_files(rt: &impl Abort, outcome: &Outcome, number: u64, front: &[u8]) -> Result<(), Fail> {
+    for (name, mesh, start) in [
+        ("a", MOVED_MESH, 2),
+        ("b", MOVED_MESH, 4),
+        ("c", MESH_AT_FOUR, 6),
+        ("d", MOVED_MESH, 8),
+    ] {
+        let want = held(mesh, start, number, front);
+        assert_eq!(rt; outcome.shelf.file(name), want, "{name} at {number}");
     }
     Ok(())
 }
 
+/// One call of the shelf fails, and takes so many bytes.
 fn check_shelf(
     rt: &impl Abort,
     alloc: Global,
-    call: u64,
-    cut: u32,
+    volume: &[u8],
+    number: u64,
     front: &[u8],
 ) -> Result<(), Fail> {
-    let failing = [call];
-    let mut outside = SMOOTH;
-    outside.cut = cut;
-    outside.shelf_failing = &failing;
-    let outcome = worked(alloc, &outside)?;
-    if call == 1 {
-        assert_eq!(rt; outcome.status, Status::ShelfFault);
-        assert_eq!(rt; outcome.output.bytes(), b"".as_slice());
-        return Ok(());
-    }
-    let replies = replies_but(alloc, call)?;
-    assert_eq!(rt; outcome.status, Status::Done);
+    let numbers = [number];
+    let mut call = failing(volume, &[], &[], &numbers);
+    call.cut = if front.is_empty() { 0 } else { 4 };
+    let outcome = outcome_of(alloc, &call)?;
+    let replies = replies_but(alloc, number)?;
+    let status = if number == 1 {
+        Status::ShelfFault
+    } else {
+        Status::Done
+    };
+    assert_eq!(rt; outcome.status, status);
     assert_eq!(rt; outcome.output.bytes(), replies.as_slice());
-    check_file(rt, &outcome, ("a", MOVED_MESH, 2), call, front)?;
-    check_file(rt, &outcome, ("b", MOVED_MESH, 4), call, front)?;
-    check_file(rt, &outcome, ("c", MESH_AT_FOUR, 6), call, front)?;
-    check_file(rt, &outcome, ("d", MOVED_MESH, 8), call, front)
+    check_files(rt, &outcome, number, front)
 }
 
 /// Each of the nine calls of the shelf fails, and in the tenth run none.
 #[test]
 fn each_call_of_the_shelf_fails(rt: HostRuntime) -> Result<(), Fail> {
-    for call in 1..11 {
-        check_shelf(&rt, rt.alloc(), call, 0, b"")?;
-        check_shelf(&rt, rt.alloc(), call, 4, b"ply\n")?;
+    let volume = zeros(rt.alloc(), SEVENTEEN, 4913)?;
+    for number in 1..11 {
+        for front in [b"".as_slice(), b"ply\n".as_slice()] {
+            check_shelf(&rt, rt.alloc(), &volume, number, front)?;
+        }
     }
     Ok(())
 }
 
-/// Each read fails in turn, up to a run in which none does.
-fn check_reads(rt: &impl Abort, alloc: Global, piece: u32) -> Result<(), Fail>
-    requires { 0 < piece }
-{
-    for call in 1..200 {
-        let failing = [call];
-        let mut outside = SMOOTH;
-        outside.read_piece = piece;
-        outside.reads_failing = &failing;
-        let outcome = worked(alloc, &outside)?;
-        if outcome.status == Status::Done {
-            assert_eq!(rt; outcome.output.bytes(), REPLIES);
-            return Ok(());
-        }
-        assert_eq!(rt; outcome.status, Status::InputFault);
-        assert!(rt; REPLIES.starts_with(outcome.output.bytes()));
+/// The worked script where one read or one write of pieces of a length fails.
+fn with_stream_fault(
+    alloc: Global,
+    volume: &[u8],
+    fault: Status,
+    piece: u32,
+    number: u64,
+) -> Result<Outcome, Fail> {
+    let numbers = [number];
+    if fault == Status::InputFault {
+        let mut call = failing(volume, &numbers, &[], &[]);
+        call.read_piece = piece;
+        outcome_of(alloc, &call)
+    } else {
+        let mut call = failing(volume, &[], &numbers, &[]);
+        call.write_piece = piece;
+        outcome_of(alloc, &call)
     }
-    assert!(rt; false);
-    Ok(())
 }
 
-/// Each write fails in turn, up to a run in which none does.
-fn check_writes(rt: &impl Abort, alloc: Global, piece: u32) -> Result<(), Fail>
-    requires { 0 < piece }
-{
-    for call in 1..200 {
-        let failing = [call];
-        let mut outside = SMOOTH;
-        outside.write_piece = piece;
-        outside.writes_failing = &failing;
-        let outcome = worked(alloc, &outside)?;
+/// Each read or each write fails in turn, up to a run in which none does. How many runs that took.
+fn runs_to_the_end(
+    rt: &impl Abort,
+    alloc: Global,
+    volume: &[u8],
+    fault: Status,
+    piece: u32,
+) -> Result<u64, Fail> {
+    for number in 1..200 {
+        let outcome = with_stream_fault(alloc, volume, fault, piece, number)?;
         if outcome.status == Status::Done {
             assert_eq!(rt; outcome.output.bytes(), REPLIES);
-            return Ok(());
+            return Ok(number);
         }
-        assert_eq!(rt; outcome.status, Status::OutputFault);
+        assert_eq!(rt; outcome.status, fault);
         assert!(rt; REPLIES.starts_with(outcome.output.bytes()));
     }
-    assert!(rt; false);
-    Ok(())
+    Ok(200)
 }
 
 #[test]
 fn each_read_and_each_write_fails(rt: HostRuntime) -> Result<(), Fail> {
-    for piece in [1, 7, 4096] {
-        check_reads(&rt, rt.alloc(), piece)?;
-        check_writes(&rt, rt.alloc(), piece)?;
+    let volume = zeros(rt.alloc(), SEVENTEEN, 4913)?;
+    for fault in [Status::InputFault, Status::OutputFault] {
+        for piece in [1, 7, 4096] {
+            let runs = runs_to_the_end(&rt, rt.alloc(), &volume, fault, piece)?;
+            assert!(rt; 1 < runs && runs < 200);
+        }
     }
     Ok(())
 }
 
 #[test]
 fn pieces_change_nothing(rt: HostRuntime) -> Result<(), Fail> {
-    let mut outside = SMOOTH;
+    let volume = zeros(rt.alloc(), SEVENTEEN, 4913)?;
+    let mut call = worked(&volume, SCRIPT);
     for read_piece in [1, 7, 4096] {
         for write_piece in [1, 7, 4096] {
-            outside.read_piece = read_piece;
-            outside.write_piece = write_piece;
-            let outcome = worked(rt.alloc(), &outside)?;
+            call.read_piece = read_piece;
+            call.write_piece = write_piece;
+            let outcome = outcome_of(rt.alloc(), &call)?;
             assert_eq!(rt; outcome.status, Status::Done);
             assert_eq!(rt; outcome.output.bytes(), REPLIES);
             assert_eq!(rt; outcome.shelf.file("d"), Some(MOVED_MESH));
@@ -261,14 +191,12 @@ fn pieces_change_nothing(rt: HostRuntime) -> Result<(), Fail> {
 /// never appended.
 #[test]
 fn every_second_call_of_the_shelf_fails(rt: HostRuntime) -> Result<(), Fail> {
-    let mut outside = SMOOTH;
-    outside.shelf_failing = &[2, 4, 6, 8, 10, 12];
-    let outcome = worked(rt.alloc(), &outside)?;
+    let volume = zeros(rt.alloc(), SEVENTEEN, 4913)?;
+    let call = failing(&volume, &[], &[], &[2, 4, 6, 8, 10, 12]);
+    let outcome = outcome_of(rt.alloc(), &call)?;
     assert_eq!(rt; outcome.status, Status::Done);
-    assert_eq!(rt;
-        outcome.output.bytes(),
-        b"ok\nerror 9 shelf\nok\nerror 9 shelf\nok\nerror 9 shelf\nok\nerror 9 shelf\n".as_slice()
-    );
+    let replies = b"ok\nerror 9 shelf\nok\nerror 9 shelf\nok\nerror 9 shelf\nok\nerror 9 shelf\n";
+    assert_eq!(rt; outcome.output.bytes(), replies.as_slice());
     assert_eq!(rt; outcome.shelf.file("a"), None);
     assert_eq!(rt; outcome.shelf.file("d"), Some(b"".as_slice()));
     Ok(())

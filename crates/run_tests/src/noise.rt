@@ -1,23 +1,19 @@
 //! Scripts and volumes of pseudo-random bytes, and an input without an end.
 
-ghost use Rattle.std.specs.Prelude.{◌≡◌, ◌<◌};
 ghost use Rattle.iso_io.specs.Seen.{untold_feed};
 
-use crate::calls::{check_output, words_of};
-use crate::faults::script_outcome;
-use commands::run;
+use crate::calls::{call_of, check_output, outcome_of, outcome_over};
+use crate::faults::worked;
+use crate::scripts::{SEVENTEEN, zeros};
 use endings::Status;
-use iso_base::Steps;
-use iso_io::{Failed, MemShelf, MemSink, Source};
+use iso_io::{Failed, Source};
 use std::alloc::{AllocError, Global};
-use std::marker::Brand;
-use std::sync::ledger::{Blank, Ledger};
 use std::test::Fail;
 
-/// So many bytes, behind a text.
-fn noise(alloc: Global, text: &[u8], seed: u64, count: usize) -> Result<Vec<u8>, AllocError> {
+/// So many bytes.
+fn noise(alloc: Global, seed: u64, count: usize) -> Result<Vec<u8>, AllocError> {
     let mut state = seed;
-    let mut all = Vec::from_slice(alloc, text)?;
+    let mut all = Vec::new(alloc);
     for _ in 0..count {
         state = state
             .wrapping_mul(6_364_136_223_846_793_005)
@@ -31,21 +27,16 @@ fn noise(alloc: Global, text: &[u8], seed: u64, count: usize) -> Result<Vec<u8>,
 #[test]
 fn noise_is_refused(rt: HostRuntime) -> Result<(), Fail> {
     let alloc = rt.alloc();
+    let zeros = zeros(alloc, SEVENTEEN, 4913)?;
     for seed in 0..32 {
-        let script = noise(alloc, b"", seed, 1024)?;
-        let outcome = script_outcome(alloc, &script)?;
+        let script = noise(alloc, seed, 1024)?;
+        let outcome = outcome_of(alloc, &worked(&zeros, &script))?;
         assert_eq!(rt; outcome.status, Status::Done);
         assert_eq!(rt; outcome.output.bytes().len() % b"error 2 syntax\n".len(), 0);
-        let volume = noise(alloc, b"", seed, 256)?;
-        check_output(
-            &rt,
-            alloc,
-            &["points", "--level=5"],
-            &volume,
-            Status::BadVolume,
-            b"",
-            b"isobench: volume 1 not nrrd\n",
-        )?;
+        let volume = noise(alloc, seed, 256)?;
+        let note = b"isobench: volume 1 not nrrd\n";
+        let words = ["points", "--level=5"];
+        check_output(&rt, alloc, &words, &volume, Status::BadVolume, b"", note)?;
     }
     Ok(())
 }
@@ -63,38 +54,10 @@ impl Source for Zeros {
     }
 }
 
-/// The status of `points` on that source.
-fn endless<L: Ledger>(alloc: Global, blank: Blank) -> Result<Status, Fail>
-    requires name { blank.name ≡ L.name }
-    requires parts { blank.parts ≡ L.parts }
-    requires some { 0 < blank.parts }
-{
-    let (book, share) = blank.open::<L>();
-    let words = words_of(alloc, &["points", "--level=5"])?;
-    let mut output = MemSink::new(alloc, 64, Vec::new(alloc))
-        .ok()
-        .ok_or("memory")?;
-    let mut notes = MemSink::new(alloc, 64, Vec::new(alloc))
-        .ok()
-        .ok_or("memory")?;
-    let mut shelf = MemShelf::new(alloc, 1, 64, Vec::new(alloc))
-        .ok()
-        .ok_or("memory")?;
-    Ok(run(
-        alloc,
-        &words,
-        &mut Zeros,
-        &mut output,
-        &mut notes,
-        &mut shelf,
-        &mut None,
-        &mut Steps::new(book, share),
-    ))
-}
-
 #[test]
 fn an_input_without_end_is_too_long(rt: HostRuntime) -> Result<(), Fail> {
-    let status = endless::<Brand>(rt.alloc(), Blank::new(1))?;
-    assert_eq!(rt; status, Status::InputTooLong);
+    let call = call_of(&["points", "--level=5"], b"");
+    let outcome = outcome_over(rt.alloc(), &call, &mut Zeros)?;
+    assert_eq!(rt; outcome.status, Status::InputTooLong);
     Ok(())
 }

@@ -1,23 +1,18 @@
 //! Sessions of the program.
 
-ghost use Rattle.std.specs.Prelude.{◌≡◌, ◌+◌, ◌≤◌, length, IfOk};
-
-use crate::calls::{Call, End, NO_FILES, check, check_session, outcome_of};
+use crate::calls::{
+    End, NO_FILES, call_of, check, check_replies, check_session, outcome_of, session_of,
+};
 use crate::texts::*;
 use endings::Status;
 use std::alloc::{AllocError, Global};
-use std::marker::Brand;
 use std::process::Abort;
-use std::sync::ledger::Blank;
 use std::test::Fail;
 
-/// A volume of as many points along each axis, all 0.
-pub fn zeros(alloc: Global, head: &[u8], count: usize) -> Result<Vec<u8>, AllocError>
-    requires { length head.now + count ≤ 2200000 }
-    ensures { IfOk result (λ v. length v.items ≡ length head.now + count) }
-{
+/// A volume of so many samples, all 0.
+pub fn zeros(alloc: Global, head: &[u8], count: usize) -> Result<Vec<u8>, AllocError> {
     let mut volume = Vec::from_slice(alloc, head)?;
-    volume.resize(head.len() + count, 0)?;
+    volume.resize(head.len().saturating_add(count), 0)?;
     Ok(volume)
 }
 
@@ -47,30 +42,19 @@ fn an_edit_and_its_undo(rt: HostRuntime) -> Result<(), Fail> {
     )
 }
 
-/// The mesh that a script writes as the file `a`, in a session at level 5.
+/// Two scripts write the same mesh as the file `a`, and one that has vertices.
 fn same_meshes<'a>(
     rt: &impl Abort,
     alloc: Global,
     volume: &'a [u8],
     script: &'a [u8],
     other: &'a [u8],
-) -> Result<(), Fail>
-    requires { length volume.now ≤ 2200000 }
-{
-    let mut call = Call {
-        words: &["session", "--level=5", "v"],
-        input: script,
-        piece: 100,
-        volume,
-        reads_failing: &[],
-        writes_failing: &[],
-        shelf_failing: &[],
-    };
-    let one = outcome_of::<Brand>(alloc, Blank::new(1), &call)?;
-    call.input = other;
-    let two = outcome_of::<Brand>(alloc, Blank::new(1), &call)?;
-    assert!(rt; one.shelf.file("a").unwrap_or(b"").len() > 154);
-    assert_eq!(rt; one.shelf.file("a"), two.shelf.file("a"));
+) -> Result<(), Fail> {
+    let one = outcome_of(alloc, &session_of(volume, script))?;
+    let two = outcome_of(alloc, &session_of(volume, other))?;
+    let mesh = one.shelf.file("a").unwrap_or(b"");
+    assert!(rt; mesh.len() > 154);
+    assert_eq!(rt; mesh, two.shelf.file("a").unwrap_or(b""));
     Ok(())
 }
 
@@ -139,15 +123,8 @@ fn check_failing<'a>(
     failing: &'a [u64],
     end: &End<'a>,
 ) -> Result<(), Fail> {
-    let call = Call {
-        words: &["session", "--level=5", "v"],
-        input: script,
-        piece: 3,
-        volume: MIDDLE,
-        reads_failing: &[],
-        writes_failing: &[],
-        shelf_failing: failing,
-    };
+    let mut call = session_of(MIDDLE, script);
+    call.shelf_failing = failing;
     check(rt, alloc, &call, end)
 }
 
@@ -175,17 +152,7 @@ fn the_shelf_fails(rt: HostRuntime) -> Result<(), Fail> {
 
 #[test]
 fn another_level(rt: HostRuntime) -> Result<(), Fail> {
-    let alloc = rt.alloc();
-    let call = Call {
-        words: &["session", "--level=5", "v"],
-        input: b"level 9\nply a",
-        piece: 100,
-        volume: MIDDLE,
-        reads_failing: &[],
-        writes_failing: &[],
-        shelf_failing: &[],
-    };
-    let outcome = outcome_of::<Brand>(alloc, Blank::new(1), &call)?;
+    let outcome = outcome_of(rt.alloc(), &session_of(MIDDLE, b"level 9\nply a"))?;
     let mesh = outcome.shelf.file("a").ok_or("no file")?;
     let head =
         b"ply\nformat ascii 1.0\nelement vertex 6\nproperty float x\nproperty float y\nproperty float z\nelement face 8\nproperty list uchar int vertex_indices\nend_header\n";
@@ -240,23 +207,11 @@ fn reports_and_contours(rt: HostRuntime) -> Result<(), Fail> {
 
 #[test]
 fn a_report_in_a_pad(rt: HostRuntime) -> Result<(), Fail> {
-    let alloc = rt.alloc();
-    let call = Call {
-        words: &["session", "v", "--level=5", "--pad=0"],
-        input: b"report\n",
-        piece: 4,
-        volume: SOLID,
-        reads_failing: &[],
-        writes_failing: &[],
-        shelf_failing: &[],
-    };
-    let end = End {
-        status: Status::Done,
-        output: b"mesh vertices 42 edges 120 faces 80 border 0 euler 2 parts 1\npart 0 vertices 42 edges 120 faces 80 border 0 euler 2\nok\n",
-        notes: b"",
-        files: NO_FILES,
-    };
-    check(&rt, alloc, &call, &end)
+    let mut call = call_of(&["session", "v", "--level=5", "--pad=0"], b"report\n");
+    call.volume = SOLID;
+    let replies =
+        b"mesh vertices 42 edges 120 faces 80 border 0 euler 2 parts 1\npart 0 vertices 42 edges 120 faces 80 border 0 euler 2\nok\n";
+    check_replies(&rt, rt.alloc(), &call, replies, NO_FILES)
 }
 
 #[test]
@@ -268,20 +223,9 @@ fn refusals_in_a_pad(rt: HostRuntime) -> Result<(), Fail> {
     )?;
     script.extend_from_slice(&repeated(alloc, b"x", 4097)?)?;
     script.extend_from_slice(b"\ncontour 0\nlevel 0.5\nlevel -0.5\n")?;
-    let call = Call {
-        words: &["session", "v", "--pad=0", "--level=5"],
-        input: &script,
-        piece: 1000,
-        volume: CORNER,
-        reads_failing: &[],
-        writes_failing: &[],
-        shelf_failing: &[],
-    };
-    let end = End {
-        status: Status::Done,
-        output: b"error 3 outside\nerror 4 value 0 255\nerror 5 level\nerror 6 pad 0 0\nerror 7 nothing to undo\nerror 11 plane 2\nerror 2 syntax\nerror 10 line 4097\ncycle 4\n0.000 -0.500\n-0.500 0.000\n0.000 0.500\n0.500 0.000\nok\nok\nerror 6 pad -0.500 0\n",
-        notes: b"",
-        files: NO_FILES,
-    };
-    check(&rt, alloc, &call, &end)
+    let mut call = call_of(&["session", "v", "--pad=0", "--level=5"], &script);
+    call.volume = CORNER;
+    let replies =
+        b"error 3 outside\nerror 4 value 0 255\nerror 5 level\nerror 6 pad 0 0\nerror 7 nothing to undo\nerror 11 plane 2\nerror 2 syntax\nerror 10 line 4097\ncycle 4\n0.000 -0.500\n-0.500 0.000\n0.000 0.500\n0.500 0.000\nok\nok\nerror 6 pad -0.500 0\n";
+    check_replies(&rt, alloc, &call, replies, NO_FILES)
 }

@@ -1,10 +1,12 @@
 //! Sessions on a bench.
 
-ghost use Rattle.std.specs.Prelude.{◌≡◌, ◌<◌, IfOk, IfSome, None};
+ghost use Rattle.std.specs.Prelude.{◌≡◌, ◌<◌};
 
+use crate::texts::CORNER;
 use bench_core::{Bench, Capacity};
-use iso_base::{Level, Memory, SampleKind, Sizes, Steps, VoxelData};
+use iso_base::{Level, Memory, Steps};
 use iso_io::{MemShelf, MemSink, MemSource};
+use nrrd::read_volume;
 use session::{Ending, run_session};
 use std::alloc::{AllocError, Global};
 use std::marker::Brand;
@@ -13,24 +15,11 @@ use std::sync::ledger::{Blank, Ledger};
 use std::test::Fail;
 use voxel_list::VoxelList;
 
-fn two() -> Option<Sizes>
-    ensures { IfSome result (λ g. g ≡ record { nx = 2; ny = 2; nz = 2 }) }
-{
-    Sizes::new(2, 2, 2).ok()
-}
-
-fn corner(alloc: Global, sizes: Sizes) -> Result<VoxelList, Memory>
-    requires { sizes ≡ record { nx = 2; ny = 2; nz = 2 } }
-    ensures { IfOk result (λ v. v.pad ≡ None) }
-{
-    let samples = vec![in alloc; 10, 0, 0, 0, 0, 0, 0, 0]?;
-    Ok(VoxelList::of(VoxelData::new(sizes, SampleKind::U8, samples)))
-}
-
-/// A bench on two points along each axis, of which the first has the sample 10, at level 5.
+/// A bench on the volume CORNER at level 5.
 fn corner_bench(alloc: Global) -> Option<Bench> {
-    let volume = corner(alloc, two()?).ok()?;
-    Bench::begin(alloc, volume, Level::new(5000)?, Capacity::new(1, 16)?).ok()
+    let (volume, _) = read_volume(alloc, CORNER).ok()?;
+    let capacity = Capacity::new(1, 16)?;
+    Bench::begin(alloc, VoxelList::of(volume), Level::new(5000)?, capacity).ok()
 }
 
 /// A script in pieces of at most so many bytes; the reads of these numbers fail.
@@ -46,36 +35,45 @@ fn source(
     Ok(MemSource::new(script, piece, Vec::from_slice(alloc, failing)?))
 }
 
-/// Runs a script, and compares the ending, the replies and the size of the file `a`.
-fn check<L: Ledger>(
-    rt: &impl Abort,
+fn counted_ending<L: Ledger>(
     alloc: Global,
     blank: Blank,
-    bench: Option<Bench>,
-    mut input: MemSource,
-    want: (Ending, &[u8], usize),
-) -> Result<(), Fail>
+    bench: &mut Bench,
+    shelf: &mut MemShelf,
+    input: &mut MemSource,
+    output: &mut MemSink,
+) -> Result<Ending, Memory>
     requires name { blank.name ≡ L.name }
     requires parts { blank.parts ≡ L.parts }
     requires some { 0 < blank.parts }
 {
     let (book, share) = blank.open::<L>();
     let mut steps = Steps::new(book, share);
-    let mut bench = bench.ok_or("no bench")?;
-    let mut shelf = MemShelf::new(alloc, 2, 256, Vec::new(alloc))
-        .ok()
-        .ok_or("memory")?;
-    let mut output = MemSink::new(alloc, 4096, Vec::new(alloc))
-        .ok()
-        .ok_or("memory")?;
-    let ending = run_session(
-        alloc,
-        &mut bench,
-        &mut shelf,
-        &mut steps,
-        &mut input,
-        &mut output,
-    );
+    run_session(alloc, bench, shelf, &mut steps, input, output)
+}
+
+/// How a script ends, with a counter of its own.
+fn ending_of(
+    alloc: Global,
+    bench: &mut Bench,
+    shelf: &mut MemShelf,
+    input: &mut MemSource,
+    output: &mut MemSink,
+) -> Result<Ending, Memory> {
+    counted_ending::<Brand>(alloc, Blank::new(1), bench, shelf, input, output)
+}
+
+/// Runs a script on the bench of the corner, and compares the ending, the replies and the size of the file `a`.
+fn check(
+    rt: &impl Abort,
+    alloc: Global,
+    mut input: MemSource,
+    want: (Ending, &[u8], usize),
+) -> Result<(), Fail> {
+    let mut bench = corner_bench(alloc).ok_or("no bench")?;
+    let mut shelf = MemShelf::new(alloc, 2, 256, Vec::new(alloc))?;
+    let mut output = MemSink::new(alloc, 4096, Vec::new(alloc))?;
+    let ending = ending_of(alloc, &mut bench, &mut shelf, &mut input, &mut output);
     assert_eq!(rt; ending, Ok(want.0));
     assert_eq!(rt; output.bytes(), want.1);
     assert_eq!(rt; shelf.file("a").unwrap_or(b"").len(), want.2);
@@ -87,11 +85,9 @@ fn edits_are_run_and_undone(rt: HostRuntime) -> Result<(), Fail> {
     let script =
         b"# a comment\r\n\nset 0 0 0 1\nply a\nundo\nply a\nlevel 11\nundo\n undo \nredo\nredo\nsett\nquit\nply a\n";
     for piece in [1, 7, 1000] {
-        check::<Brand>(
+        check(
             &rt,
             rt.alloc(),
-            Blank::new(1),
-            corner_bench(rt.alloc()),
             source(rt.alloc(), script, piece, &[])?,
             (
                 Ending::Done,
@@ -105,11 +101,9 @@ fn edits_are_run_and_undone(rt: HostRuntime) -> Result<(), Fail> {
 
 #[test]
 fn a_read_fails(rt: HostRuntime) -> Result<(), Fail> {
-    check::<Brand>(
+    check(
         &rt,
         rt.alloc(),
-        Blank::new(1),
-        corner_bench(rt.alloc()),
         source(rt.alloc(), b"level 11\nply a\nundo\n", 9, &[2])?,
         (Ending::InputFault, b"ok\n", 0),
     )

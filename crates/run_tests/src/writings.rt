@@ -1,8 +1,7 @@
 //! Sessions that measure a mesh, and that write volumes as text and the meshes of windows.
 
-use crate::calls::{Call, End, NO_FILES, check, check_done, check_session};
+use crate::calls::{NO_FILES, call_of, check_done, check_replies, check_session};
 use crate::texts::*;
-use endings::Status;
 use std::test::Fail;
 
 #[test]
@@ -24,22 +23,10 @@ fn measures_of_parts(rt: HostRuntime) -> Result<(), Fail> {
         b"measure parts 1\npart 0 six 1000000000 area 0 0 0 border 0\nok\n",
         NO_FILES,
     )?;
-    let padded = Call {
-        words: &["session", "v", "--level=5", "--pad=0"],
-        input: b"measure\n",
-        piece: 4,
-        volume: SOLID,
-        reads_failing: &[],
-        writes_failing: &[],
-        shelf_failing: &[],
-    };
-    let end = End {
-        status: Status::Done,
-        output: b"measure parts 1\npart 0 six 34000000000 area 0 0 0 border 0\nok\n",
-        notes: b"",
-        files: NO_FILES,
-    };
-    check(&rt, alloc, &padded, &end)
+    let mut padded = call_of(&["session", "v", "--level=5", "--pad=0"], b"measure\n");
+    padded.volume = SOLID;
+    let replies = b"measure parts 1\npart 0 six 34000000000 area 0 0 0 border 0\nok\n";
+    check_replies(&rt, alloc, &padded, replies, NO_FILES)
 }
 
 #[test]

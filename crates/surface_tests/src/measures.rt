@@ -7,7 +7,7 @@ ghost use Rattle.iso_base.specs.Volume.{Volume};
 ghost use Rattle.iso_base.specs.declared.kind.SampleKind.TheVariants.{U8};
 ghost use Rattle.measure.specs.Positions.{IsWithin, vector_of};
 
-use crate::grids::{three_a_side, two_a_side};
+use crate::grids::{sizes_of, three_a_side, two_a_side};
 use crate::lists::{TETRAHEDRON, surface_of};
 use crate::volumes::{one_above, one_below};
 use iso_base::{Level, Memory, Point, SampleKind, Sizes, VoxelData, point_of};
@@ -173,7 +173,7 @@ fn put_shape(volume: &mut VoxelList, shape: Shape)
 fn grid() -> Option<Sizes>
     ensures { IfSome result (λ g. g ≡ record { nx = 13; ny = 13; nz = 7 }) }
 {
-    Sizes::new(13, 13, 7).ok()
+    sizes_of(13, 13, 7)
 }
 
 fn zeros(alloc: Global, sizes: Sizes) -> Result<VoxelList, Memory>

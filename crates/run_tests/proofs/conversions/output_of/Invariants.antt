@@ -1,4 +1,0 @@
-use Rattle.run_tests.proofs.conversions.output_of.Given as goal
-
-abbrev pub ghosts-outcome_of : goal.ghosts-outcome_of
-ghosts-outcome_of g a = record { name = a.blank.name; parts = a.blank.parts }
