@@ -1,5 +1,5 @@
 -- Windows: boxes of points of a volume, each meshed as a volume of its own.
-use Rattle.std.specs.Prelude.{◌≡◌, ◌⊎◌, ℕ, ◌+◌, ◌-◌, ◌≤◌, List, [], get_or, length, Option, Some, None, Result, Ok, Err, IfOk, IfErr, OnOk, ℤ, pos}
+use Rattle.std.specs.Prelude.{◌≡◌, ◌⊎◌, ℕ, ◌+◌, ◌-◌, ◌≤◌, List, [], length, Option, Some, None, Result, Ok, Err, IfOk, IfErr, OnOk, ℤ}
 use Rattle.iso_defs.specs.Grid.{Grid, size}
 use Rattle.iso_base.specs.Shifted.{field}
 use Rattle.iso_base.specs.Volume.{Volume, layer}
@@ -14,12 +14,8 @@ use Rattle.mesh_more.specs.Texts.{moved_text}
 use Rattle.window_laws.specs.Windows.{thin_axis}
 use Rattle.window_mesh.specs.Crops.{cropped, window_of}
 use Rattle.inner_volume.specs.Places.{place_of}
-use Rattle.bench_core.specs.Machine.{State, area_by}
+use Rattle.bench_core.specs.Machine.{State, area_by, three_from}
 use Rattle.bench_core.specs.Texts.{FailsToWrite}
-
--- three of the numbers of a list, from a place on
-abbrev pub three_from : List ℤ → ℕ → ℤ × ℤ × ℤ
-three_from numbers i = (get_or numbers i (pos 0), get_or numbers (i + 1) (pos 0), get_or numbers (i + 2) (pos 0))
 
 -- the stored box of two corners, six numbers that do not count the pad's layer, where both are inside
 abbrev pub window_area : Volume → List ℤ → Option Area

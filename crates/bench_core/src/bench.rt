@@ -1,13 +1,13 @@
-ghost use Rattle.std.specs.Prelude.{◌≡◌, ◌⊎◌, ◌+◌, ◌*◌, ◌<◌, ◌≤◌, take, get_or, pos, length, is_some, IfSome, IfNone, IsSomeAnd, None, Some, Ok, IfOk, IfErr, OnOk, IsErrOf, All};
+ghost use Rattle.std.specs.Prelude.{◌≡◌, ◌⊎◌, ◌+◌, ◌*◌, ◌<◌, ◌≤◌, take, length, is_some, IfSome, IfNone, IsSomeAnd, None, Some, Ok, IfOk, IfErr, OnOk, IsErrOf, All};
 ghost use Rattle.iso_base.specs.Samples.{IsSample, least_of, greatest_of};
 ghost use Rattle.inner_volume.specs.Places.{IsInside, place_of, plane_of};
 ghost use Rattle.measure.specs.Measures.{HasNoArea};
 ghost use Rattle.mesh_measures.specs.Printed.{HasNoBorder, HasOneVolumeIn};
 ghost use Rattle.bench_core.specs.Surface.{IsCutOfMesh, IsWatertight};
-ghost use Rattle.bench_core.specs.Texts.{WritesFile, contour_of, hex_save, measure_of, mesh_text, mesh_written, obj_text, obj_written, ply_text, ply_written, report_of, save_text, text_save};
+ghost use Rattle.bench_core.specs.Texts.{WritesFile, contour_of, hex_save, measure_of, mesh_text, mesh_written, obj_text, obj_written, ply_text, ply_written, raw_save, report_of, text_save};
 ghost use Rattle.voxel_list.specs.Areas.{between};
 ghost use Rattle.edit_log.specs.Changes.{Suits, after, area_of, before, moment};
-ghost use Rattle.bench_core.specs.Machine.{IsAbovePad, IsState, IsStep, IsSureStep, area_by, begin_fault, changed, checked_level, contour_step, fill_at, fill_step, level_step, pad_fault, redo_step, set_at, set_step, undo_step};
+ghost use Rattle.bench_core.specs.Machine.{IsAbovePad, IsState, IsStep, IsSureStep, area_by, begin_fault, changed, checked_level, contour_step, fill_at, fill_step, level_step, pad_fault, redo_step, set_at, set_step, three_from, undo_step};
 ghost use Rattle.bench_core.specs.Keeping.{IsRightBench, Keeps, Refreshes, fill_area, first_area, first_bench, set_area, turn_steps, waiting_bricks, without_points, write_steps};
 ghost use Rattle.bench_core.specs.Windows.{WritesWindow, window_area};
 ghost use Rattle.window_mesh.specs.Crops.{IsWindowOfMesh};
@@ -162,8 +162,8 @@ impl Bench {
     /// order: `Outside` and `ValueOutside` as for `set`; `FillTooLarge` exactly where the box has more than 1,048,576
     /// points; `Memory`.
     pub fn fill(&mut self, corners: [i64; 6], value: i64) -> Result<(), BenchFault>
-        ensures step { IsStep self.old.state self.new.state result (fill_step self.old.state (get_or corners 0 (pos 0), get_or corners 1 (pos 0), get_or corners 2 (pos 0)) (get_or corners 3 (pos 0), get_or corners 4 (pos 0), get_or corners 5 (pos 0)) value) }
-        ensures kept { Keeps self.old self.new result (fill_area self.old.state (get_or corners 0 (pos 0), get_or corners 1 (pos 0), get_or corners 2 (pos 0)) (get_or corners 3 (pos 0), get_or corners 4 (pos 0), get_or corners 5 (pos 0))) }
+        ensures step { IsStep self.old.state self.new.state result (fill_step self.old.state (three_from corners 0) (three_from corners 3) value) }
+        ensures kept { Keeps self.old self.new result (fill_area self.old.state (three_from corners 0) (three_from corners 3)) }
         ensures not_shelf { IsErrOf result BenchFault.ShelfFailed → ⊥ }
     {
         let [ax, ay, az, bx, by, bz] = corners;
@@ -219,7 +219,8 @@ impl Bench {
         requires suits { Suits self.old.state.volume change }
         requires back { before change (after change (moment self.old.state.volume self.old.state.level)) ≡ moment self.old.state.volume self.old.state.level }
         requires above { IsAbovePad self.old.state.volume.pad (after change (moment self.old.state.volume self.old.state.level)).level }
-        ensures state { let next = after change (moment self.old.state.volume self.old.state.level) in self.new.state ≡ changed self.old.state next.volume.samples next.level (area_of self.old.state.volume.grid change) }
+        ensures state { let next = after change (moment self.old.state.volume self.old.state.level) in
+            self.new.state ≡ changed self.old.state next.volume.samples next.level (area_of self.old.state.volume.grid change) }
         ensures kept { self.new.cache ≡ without_points self.old.state.volume.grid (area_of self.old.state.volume.grid change) self.old.cache }
     {
         let area = change.area(&self.store);
@@ -358,8 +359,8 @@ impl Bench {
     /// the shelf's count of faults rose; the file is then as before or a front of the text, and all other files are as
     /// before. No memory is taken.
     pub fn save<H: Shelf>(&self, shelf: &mut H, name: &str) -> Result<u64, BenchFault>
-        ensures file { WritesFile (H.seen shelf.old) (H.seen shelf.new) result name.now (save_text self.now.state) (length (save_text self.now.state)) }
-        ensures read_again { nrrd_of (save_text self.now.state) ≡ Ok (inner_voxels self.now.state.volume, 0) }
+        ensures file { WritesFile (H.seen shelf.old) (H.seen shelf.new) result name.now (raw_save self.now.state) (length (raw_save self.now.state)) }
+        ensures read_again { nrrd_of (raw_save self.now.state) ≡ Ok (inner_voxels self.now.state.volume, 0) }
         ensures no_memory { IsErrOf result BenchFault.Memory → ⊥ }
     {
         match write_volume(shelf, name, &self.store) {
@@ -407,7 +408,8 @@ impl Bench {
         corners: [i64; 6],
         format: MeshFormat,
     ) -> Result<Written, BenchFault>
-        ensures window { let v = self.now.state.volume in WritesWindow v self.now.state.level (window_area v corners) format (H.seen shelf.old) (H.seen shelf.new) result name.now }
+        ensures window { let v = self.now.state.volume in
+            WritesWindow v self.now.state.level (window_area v corners) format (H.seen shelf.old) (H.seen shelf.new) result name.now }
         ensures part { let v = self.now.state.volume in OnOk result (IsSomeAnd (window_area v corners) (IsWindowOfMesh v self.now.state.level)) }
     {
         let Some(area) = self.box_of(corners) else {

@@ -42,7 +42,8 @@ fn mesh_of_box(
     ensures mesh { IfOk result (λ m. m ≡ mesh_in store.now level area.now) }
     ensures part { OnOk result (IsWindowOfMesh store.now level area.now) }
     ensures window { OnOk result (window_fault (Some area.now) ≡ None) }
-    ensures fault { IfErr result (λ fault. (window_fault (Some area.now) ≡ Some fault) ⊎ ((fault ≡ BenchFault.Memory) × (window_fault (Some area.now) ≡ None))) }
+    ensures fault { IfErr result (λ fault. (window_fault (Some area.now) ≡ Some fault)
+        ⊎ ((fault ≡ BenchFault.Memory) × (window_fault (Some area.now) ≡ None))) }
 {
     let _ = (store.sizes(), area.low());
     match named_window(alloc, store, area, level) {

@@ -7,7 +7,7 @@ use Rattle.iso_base.specs.Volume.{Volume}
 use Rattle.iso_io.specs.Causes.{Rose}
 use Rattle.iso_io.specs.Files.{Files}
 use Rattle.iso_io.specs.Shelves.{Lacks, content}
-use Rattle.session.specs.Sessions.{EndsAfter, Session, script_limit}
+use Rattle.session.specs.Sessions.{Course, EndsAfter, script_limit}
 use Rattle.session.specs.declared.ending.Ending.{Ending}
 use Rattle.session.specs.declared.ending.Ending.TheVariants as endings
 use Rattle.endings.specs.Status.{status_of}
@@ -107,7 +107,7 @@ shut asked call answers.Memory files bytes v h told has within gives = inr (inl 
 shut asked call answers.ShelfFault files bytes v h told has within gives = by_shelf call h.cause (lacking call.store.files files asked.name bytes told has)
 shut asked call (answers.BadMesh fault) files bytes v h told has within gives = absurd h.cause
 
-ended : (s : Session) (ending : Ending) (lines : List (List ℕ)) (script : List ℕ) → EndsAfter s ending lines → s.input.left ≡ Some script → length script ≤ script_limit
+ended : (s : Course) (ending : Ending) (lines : List (List ℕ)) (script : List ℕ) → EndsAfter s ending lines → s.input.left ≡ Some script → length script ≤ script_limit
     → (Rose s.input.faults s.input_after.faults → ⊥) → (Rose s.world.tape.faults s.world_after.tape.faults → ⊥) → status_of (answer_of ending) ≡ statuses.Done
 ended s endings.Done lines script h told within reads writes = refl
 ended s endings.InputFault lines script h told within reads writes = absurd (reads h.3)

@@ -4,7 +4,7 @@ use Rattle.std.specs.Prelude.{Option}
 use Rattle.std.proofs.lemmas.List.{append-nil}
 use Rattle.bench_core.specs.Keeping.{Workbench}
 use Rattle.session.specs.Kept.{Kept}
-use Rattle.session.specs.Sessions.{EndsAfter, Session}
+use Rattle.session.specs.Sessions.{Course, EndsAfter}
 use Rattle.session.specs.Worlds.{Breaks, World, joined, scene_of}
 use Rattle.session.specs.declared.ending.Ending.{Ending}
 use Rattle.session.specs.declared.ending.Ending.TheVariants as endings
@@ -40,7 +40,7 @@ broken w v lines b = record {
   written = (joined b.replies ++ b.front, b.back, cut_text b.replies b.reply b.front b.back b.cut, b.written);
 }
 
-pub led : (s : Session) (ending : Ending) (lines : List (List ℕ)) → EndsAfter s ending lines → Led s.world s.world_after ending lines
+pub led : (s : Course) (ending : Ending) (lines : List (List ℕ)) → EndsAfter s ending lines → Led s.world s.world_after ending lines
 led s endings.Done lines h = record { replies = h.0.replies; kept = h.0.kept; written = h.0.written }
 led s endings.InputFault lines h = record { replies = h.0.replies; kept = h.0.kept; written = h.0.written }
 led s endings.InputTooLong lines h = record { replies = h.0.replies; kept = h.0.kept; written = h.0.written }

@@ -8,7 +8,7 @@ use Rattle.bench_core.specs.Keeping.{Workbench}
 use Rattle.std.specs.FinMap.{get}
 use Rattle.session.specs.declared.ending.Ending.TheVariants as endings
 use Rattle.session.specs.declared.ending.Ending.{Ending}
-use Rattle.session.specs.Sessions.{EndsAfter, Session, script_limit}
+use Rattle.session.specs.Sessions.{Course, EndsAfter, script_limit}
 use Rattle.mesh_text.specs.declared.format.TwoWayFormat.{TwoWayFormat}
 use Rattle.command_words.specs.declared.request.Request.{Request}
 use Rattle.command_words.specs.declared.request.Request.TheVariants as requests
@@ -211,7 +211,7 @@ served_mesh_refused (requests.Soak seed) call h = not_soaked seed call answers.M
 pub why_mesh_refused : (r : Request) (call : Call) (a : Answer) → status_of a ≡ statuses.MeshRefused → Serves r call a → HasBrokenMesh r call
 why_mesh_refused r call a e h = served_mesh_refused r call (as_answer r call a answers.MeshRefused h (is_mesh_refused a e))
 
-long_script : (s : Session) (ending : Ending) (lines : List (List ℕ)) → answers.InputTooLong ≡ answer_of ending → EndsAfter s ending lines → IfSome s.input.left (λ script. script_limit < length script)
+long_script : (s : Course) (ending : Ending) (lines : List (List ℕ)) → answers.InputTooLong ≡ answer_of ending → EndsAfter s ending lines → IfSome s.input.left (λ script. script_limit < length script)
 long_script s endings.Done lines e h = absurd cc
 long_script s endings.InputFault lines e h = absurd cc
 long_script s endings.InputTooLong lines e h = if_told _ _ s.input.left (λ script p. p.long) h.2

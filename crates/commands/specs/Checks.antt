@@ -52,7 +52,8 @@ Checks format call answers.OutputFault =
     (v : Verdict) × ReadWhole mesh_limit call × IfSome call.input.left (HasVerdict format v) × WritesFront call (verdict_text v)
 Checks format call answers.InputFault = Rose call.input.faults call.input_after.faults × NothingWritten call
 Checks format call answers.InputTooLong = IfSome call.input.left (λ bytes. mesh_limit < length bytes) × NothingWritten call
-Checks format call (answers.BadMesh fault) = ReadWhole mesh_limit call × IfSome call.input.left (λ bytes. mesh_in format bytes ≡ Err fault) × NothingWritten call
+Checks format call (answers.BadMesh fault) =
+    ReadWhole mesh_limit call × IfSome call.input.left (λ bytes. mesh_in format bytes ≡ Err fault) × NothingWritten call
 Checks format call answers.Memory = NothingWritten call
 Checks format call answer = ⊥
 

@@ -26,16 +26,31 @@ pub record Call : Type 0 where
   pub steps : ℕ
   pub steps_after : ℕ
 
--- a call, by what it was given and what it leaves
-abbrev pub call_between : Feed → Feed → Tape → Tape → Store → Store → Option Workbench → ℕ → ℕ → Call
-call_between input input_after output output_after store store_after left steps steps_after = record {
-  streams = record { input = input; input_after = input_after; output = output; output_after = output_after };
-  store = store;
-  store_after = store_after;
+-- the input and the output of a call, by how they are seen and what they are before it and after it
+abbrev pub streams_between : {S K : Type 0} → (S → Feed) → (K → Tape) → S → S → K → K → Streams
+streams_between feed tape input input_after output output_after =
+    record { input = feed input; input_after = feed input_after; output = tape output; output_after = tape output_after }
+
+-- those of a call that reads nothing
+abbrev pub unread_between : {K : Type 0} → Feed → (K → Tape) → K → K → Streams
+unread_between input tape output output_after =
+    record { input = input; input_after = input; output = tape output; output_after = tape output_after }
+
+-- a call, by its streams, how its shelf is seen, and what is left
+abbrev pub call_with : {H : Type 0} → Streams → (H → Store) → H → H → Option Workbench → ℕ → ℕ → Call
+call_with streams store shelf shelf_after left steps steps_after = record {
+  streams = streams;
+  store = store shelf;
+  store_after = store shelf_after;
   left = left;
   steps = steps;
   steps_after = steps_after;
 }
+
+-- a call, by how what it is given is seen, and what that is before it and after it
+abbrev pub call_between : {S K H : Type 0} → (S → Feed) → (K → Tape) → (H → Store) → S → S → K → K → H → H → Option Workbench → ℕ → ℕ → Call
+call_between feed tape store input input_after output output_after shelf shelf_after left steps steps_after =
+    call_with (streams_between feed tape input input_after output output_after) store shelf shelf_after left steps steps_after
 
 -- the input was read to its end, and has no more than this many bytes
 pub record ReadWhole (limit : ℕ) (call : Streams) : Type 0 where
@@ -65,11 +80,14 @@ pub record LeavesShelf (call : Call) : Type 0 where
 
 -- A command that reads a volume from its input and then writes. `given` is the text that an input gives, or why it gives none.
 abbrev pub Converts : (List ℕ → Result (List ℕ) VolumeFault) → Streams → Answer → Type 0
-Converts given call answers.Done = (text : List ℕ) × ReadWhole volume_limit call × IfSome call.input.left (λ bytes. given bytes ≡ Ok text) × Writes call text
-Converts given call answers.OutputFault = (text : List ℕ) × ReadWhole volume_limit call × IfSome call.input.left (λ bytes. given bytes ≡ Ok text) × WritesFront call text
+Converts given call answers.Done =
+    (text : List ℕ) × ReadWhole volume_limit call × IfSome call.input.left (λ bytes. given bytes ≡ Ok text) × Writes call text
+Converts given call answers.OutputFault =
+    (text : List ℕ) × ReadWhole volume_limit call × IfSome call.input.left (λ bytes. given bytes ≡ Ok text) × WritesFront call text
 Converts given call answers.InputFault = Rose call.input.faults call.input_after.faults × NothingWritten call
 Converts given call answers.InputTooLong = IfSome call.input.left (λ bytes. volume_limit < length bytes) × NothingWritten call
-Converts given call (answers.BadVolume fault) = ReadWhole volume_limit call × IfSome call.input.left (λ bytes. given bytes ≡ Err fault) × NothingWritten call
+Converts given call (answers.BadVolume fault) =
+    ReadWhole volume_limit call × IfSome call.input.left (λ bytes. given bytes ≡ Err fault) × NothingWritten call
 Converts given call answers.Memory = NothingWritten call
 Converts given call answer = ⊥
 

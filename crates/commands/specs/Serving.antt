@@ -28,7 +28,8 @@ asked_for level pad name bricks pages = record { level = level; pad = pad; name 
 -- what a command does
 abbrev pub Serves : Request → Call → Answer → Type 0
 Serves (requests.Points level) call answer = Converts (points_given level) call.streams answer × LeavesShelf call
-Serves (requests.Extract level pad format) call answer = Converts (mesh_given level pad format) call.streams answer × LeavesShelf call × ShowsMesh level pad call.streams.input answer
+Serves (requests.Extract level pad format) call answer =
+    Converts (mesh_given level pad format) call.streams answer × LeavesShelf call × ShowsMesh level pad call.streams.input answer
 Serves (requests.Session level pad name bricks pages) call answer = RunsSession (asked_for level pad name bricks pages) call answer
 Serves (requests.Check format) call answer = Checks format call.streams answer × LeavesShelf call
 Serves (requests.Gen seed sizes) call answer = Generates seed sizes call.streams answer × LeavesShelf call
@@ -45,9 +46,12 @@ pub record Brings (call : Call) (limit : ℕ) (bytes : List ℕ) : Type 0 where
 
 -- what a command needs is there
 abbrev pub CanServe : Request → Call → Type 0
-CanServe (requests.Points level) call = (bytes : List ℕ) × (text : List ℕ) × Brings call volume_limit bytes × (points_given level bytes ≡ Ok text)
-CanServe (requests.Extract level pad format) call = (bytes : List ℕ) × (text : List ℕ) × Brings call volume_limit bytes × (mesh_given level pad format bytes ≡ Ok text)
-CanServe (requests.Session level pad name bricks pages) call = (script : List ℕ) × (files : Files) × (bytes : List ℕ) × (v : Volume) × Brings call script_limit script
+CanServe (requests.Points level) call =
+    (bytes : List ℕ) × (text : List ℕ) × Brings call volume_limit bytes × (points_given level bytes ≡ Ok text)
+CanServe (requests.Extract level pad format) call =
+    (bytes : List ℕ) × (text : List ℕ) × Brings call volume_limit bytes × (mesh_given level pad format bytes ≡ Ok text)
+CanServe (requests.Session level pad name bricks pages) call =
+    (script : List ℕ) × (files : Files) × (bytes : List ℕ) × (v : Volume) × Brings call script_limit script
     × (call.store.files ≡ Some files) × (get files name ≡ Some bytes) × (length bytes ≤ volume_limit) × (volume_of pad level bytes ≡ Ok v)
 CanServe (requests.Gen seed sizes) call = Unit {0}
 CanServe (requests.Soak seed) call = Unit {0}

@@ -5,7 +5,7 @@ use Rattle.mesh_cache.specs.Cache.{Limits}
 use Rattle.bench_core.specs.Keeping.{Workbench, first_bench}
 use Rattle.bench_core.specs.Machine.{IsState}
 use Rattle.session.specs.Worlds.{World, world}
-use Rattle.session.specs.Sessions.{EndsAfter, Session}
+use Rattle.session.specs.Sessions.{Course, EndsAfter}
 use Rattle.session.specs.declared.ending.Ending.{Ending}
 use Rattle.session.specs.declared.ending.Ending.TheVariants as endings
 use Rattle.commands.specs.Outcome.{Call}
@@ -39,7 +39,7 @@ abbrev pub world_after : Call → Workbench → World
 world_after call last = world last call.steps_after call.store_after call.streams.output_after
 
 -- and its script
-abbrev pub session_between : Asked → Call → Volume → Workbench → Session
+abbrev pub session_between : Asked → Call → Volume → Workbench → Course
 session_between asked call volume last = record {
   input = call.streams.input;
   input_after = call.streams.input_after;

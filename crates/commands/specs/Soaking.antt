@@ -142,7 +142,8 @@ DoesSoak seed call answer = (call.streams.input_after ≡ call.streams.input) ×
 
 -- lines and their replies led to the bench that is left
 abbrev pub SoakLedTo : ℕ → Call → Workbench → Type 0
-SoakLedTo seed call last = (lines : List (List ℕ)) × (replies : List (List ℕ)) × Kept (scene_of (soak_world seed call)) lines replies (scene_of (world_after call last))
+SoakLedTo seed call last =
+    (lines : List (List ℕ)) × (replies : List (List ℕ)) × Kept (scene_of (soak_world seed call)) lines replies (scene_of (world_after call last))
 
 -- so it is where a bench is left; where none is, no cell was classified
 abbrev pub SoakLeaves : ℕ → Call → Type 0
@@ -164,7 +165,8 @@ may_want says = false
 abbrev pub Shows : Tape → Tape → List ℕ → Bool → Pace → Type 0
 Shows old new text is_shown On = PutAll old new (if is_shown then text else [])
 Shows old new text is_shown Wanting = ⊥
-Shows old new text is_shown Fault = (is_shown ≡ true) × (front : List ℕ) × (back : List ℕ) × (text ≡ front ++ back) × Appends old.taken new.taken front × (new.beside ≡ old.beside) × Rose old.faults new.faults
+Shows old new text is_shown Fault = (is_shown ≡ true) × (front : List ℕ) × (back : List ℕ) × (text ≡ front ++ back)
+    × Appends old.taken new.taken front × (new.beside ≡ old.beside) × Rose old.faults new.faults
 
 -- one line was run; or memory was wanting for it, and it left everything as it was; or its reply was not written whole
 abbrev pub SoaksLine : World → World → List ℕ → Pace → Type 0

@@ -3,6 +3,7 @@ ghost use Rattle.std.specs.Prelude.{◌≡◌, ◌^◌, ◌≤◌, length, Ok, I
 ghost use Rattle.iso_io.specs.Seen.{Puts};
 ghost use Rattle.mesh_read.specs.Answers.{Answers};
 ghost use Rattle.commands.specs.Checks.{answer_to, Checks, HasMesh, HasNoMesh, HasVerdict, IsNoMesh, is_broken, mesh_in};
+ghost use Rattle.commands.specs.Outcome.{streams_between};
 ghost use Rattle.endings.specs.Verdicts.{verdict_text};
 
 use endings::{Answer, verdict_line};
@@ -99,7 +100,7 @@ pub fn check<S: Source, K: Sink>(
     input: &mut S,
     output: &mut K,
 ) -> Answer
-    ensures { Checks format (record { input = S.seen input.old; input_after = S.seen input.new; output = K.seen output.old; output_after = K.seen output.new }) result }
+    ensures { Checks format (streams_between S.seen K.seen input.old input.new output.old output.new) result }
 {
     let verdict = match verdict_of_input(alloc, format, input) {
         Ok(verdict) => verdict,

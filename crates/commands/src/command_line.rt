@@ -52,8 +52,7 @@ fn carry_out<S: Source, K: Sink, H: Shelf, L: Ledger>(
     requires pad { HasSamplePad request }
     requires capacity { HasCapacity request }
     ensures { Serves request
-        (call_between (S.seen input.old) (S.seen input.new) (K.seen output.old) (K.seen output.new)
-        (H.seen shelf.old) (H.seen shelf.new) left.new steps.old steps.new) result }
+        (call_between S.seen K.seen H.seen input.old input.new output.old output.new shelf.old shelf.new left.new steps.old steps.new) result }
 {
     match request {
         Request::Points { level } => points(alloc, level, input, output),
@@ -96,8 +95,7 @@ fn serve<S: Source, K: Sink, H: Shelf, L: Ledger>(
 ) -> Answer
     requires { left.old ≡ None }
     ensures { Ends (map string_bytes words.now)
-        (call_between (S.seen input.old) (S.seen input.new) (K.seen output.old) (K.seen output.new)
-        (H.seen shelf.old) (H.seen shelf.new) left.new steps.old steps.new) result }
+        (call_between S.seen K.seen H.seen input.old input.new output.old output.new shelf.old shelf.new left.new steps.old steps.new) result }
 {
     match read_words(words) {
         None => Answer::BadWords,
@@ -128,8 +126,7 @@ pub fn run<S: Source, K: Sink, N: Sink, H: Shelf, L: Ledger>(
     // What was read, written and left, and what the note says.
     ensures outcome { (answer : Answer) × (result ≡ status_of answer)
         × Ends (map string_bytes words.now)
-        (call_between (S.seen input.old) (S.seen input.new) (K.seen output.old) (K.seen output.new)
-        (H.seen shelf.old) (H.seen shelf.new) left.new steps.old steps.new) answer
+        (call_between S.seen K.seen H.seen input.old input.new output.old output.new shelf.old shelf.new left.new steps.old steps.new) answer
         × Tries (N.seen notes.old) (N.seen notes.new) (note_of answer) }
 
     // The cause of each status but done and want of memory.
@@ -137,54 +134,47 @@ pub fn run<S: Source, K: Sink, N: Sink, H: Shelf, L: Ledger>(
     ensures input_fault { result ≡ Status.InputFault → Rose (S.seen input.old).faults (S.seen input.new).faults }
     ensures output_fault { result ≡ Status.OutputFault → Rose (K.seen output.old).faults (K.seen output.new).faults }
     ensures too_long { result ≡ Status.InputTooLong → Asks (request_of (map string_bytes words.now)) HasTooMany
-        (call_between (S.seen input.old) (S.seen input.new) (K.seen output.old) (K.seen output.new)
-        (H.seen shelf.old) (H.seen shelf.new) left.new steps.old steps.new) }
+        (call_between S.seen K.seen H.seen input.old input.new output.old output.new shelf.old shelf.new left.new steps.old steps.new) }
     ensures bad_volume { result ≡ Status.BadVolume → Asks (request_of (map string_bytes words.now)) HasBadVolume
-        (call_between (S.seen input.old) (S.seen input.new) (K.seen output.old) (K.seen output.new)
-        (H.seen shelf.old) (H.seen shelf.new) left.new steps.old steps.new) }
+        (call_between S.seen K.seen H.seen input.old input.new output.old output.new shelf.old shelf.new left.new steps.old steps.new) }
     ensures shelf_fault { result ≡ Status.ShelfFault → Asks (request_of (map string_bytes words.now)) HasNoFile
-        (call_between (S.seen input.old) (S.seen input.new) (K.seen output.old) (K.seen output.new)
-        (H.seen shelf.old) (H.seen shelf.new) left.new steps.old steps.new) }
+        (call_between S.seen K.seen H.seen input.old input.new output.old output.new shelf.old shelf.new left.new steps.old steps.new) }
     ensures bad_mesh { result ≡ Status.BadMesh → Asks (request_of (map string_bytes words.now)) HasBadMesh
-        (call_between (S.seen input.old) (S.seen input.new) (K.seen output.old) (K.seen output.new)
-        (H.seen shelf.old) (H.seen shelf.new) left.new steps.old steps.new) }
+        (call_between S.seen K.seen H.seen input.old input.new output.old output.new shelf.old shelf.new left.new steps.old steps.new) }
     ensures mesh_refused { result ≡ Status.MeshRefused → Asks (request_of (map string_bytes words.now)) HasBrokenMesh
-        (call_between (S.seen input.old) (S.seen input.new) (K.seen output.old) (K.seen output.new)
-        (H.seen shelf.old) (H.seen shelf.new) left.new steps.old steps.new) }
+        (call_between S.seen K.seen H.seen input.old input.new output.old output.new shelf.old shelf.new left.new steps.old steps.new) }
 
     // The headline, where a mesh is extracted: the mesh that was written is watertight.
-    ensures headline { (level : ℤ) (pad : Option ℤ) (format : TwoWayFormat) → request_of (map string_bytes words.now) ≡ Some (Extract level pad format)
+    ensures headline { (level : ℤ) (pad : Option ℤ) (format : TwoWayFormat)
+        → request_of (map string_bytes words.now) ≡ Some (Extract level pad format)
         → result ≡ Status.Done → HoldsWatertight level pad (S.seen input.old) }
 
     // The headline, in a session, however it ended: each line `ply` or `obj` that was run wrote the mesh of the state that the
     // lines before it led to, and that mesh is watertight; or it was answered that the shelf failed.
-    ensures session_headline { (level : ℤ) (pad : Option ℤ) (name : List ℕ) (bricks pages : ℕ) → request_of (map string_bytes words.now) ≡ Some (Session level pad name bricks pages)
+    ensures session_headline { (level : ℤ) (pad : Option ℤ) (name : List ℕ) (bricks pages : ℕ)
+        → request_of (map string_bytes words.now) ≡ Some (Session level pad name bricks pages)
         → HoldsWatertightMeshes (asked_for level pad name bricks pages)
-        (call_between (S.seen input.old) (S.seen input.new) (K.seen output.old) (K.seen output.new)
-        (H.seen shelf.old) (H.seen shelf.new) left.new steps.old steps.new) result }
+        (call_between S.seen K.seen H.seen input.old input.new output.old output.new shelf.old shelf.new left.new steps.old steps.new) result }
 
     // A bench that a session leaves is one to which lines with their replies led, with what they keep of the mesh, and the
     // counter rose by no more than they allow; where none is left, no cell was classified.
-    ensures economy { (level : ℤ) (pad : Option ℤ) (name : List ℕ) (bricks pages : ℕ) → request_of (map string_bytes words.now) ≡ Some (Session level pad name bricks pages)
+    ensures economy { (level : ℤ) (pad : Option ℤ) (name : List ℕ) (bricks pages : ℕ)
+        → request_of (map string_bytes words.now) ≡ Some (Session level pad name bricks pages)
         → LeavesBench (asked_for level pad name bricks pages)
-        (call_between (S.seen input.old) (S.seen input.new) (K.seen output.old) (K.seen output.new)
-        (H.seen shelf.old) (H.seen shelf.new) left.new steps.old steps.new) }
+        (call_between S.seen K.seen H.seen input.old input.new output.old output.new shelf.old shelf.new left.new steps.old steps.new) }
 
     // So it is with the bench that a soak leaves.
     ensures soak_economy { (seed : ℕ) → request_of (map string_bytes words.now) ≡ Some (Soak seed) → SoakLeaves seed
-        (call_between (S.seen input.old) (S.seen input.new) (K.seen output.old) (K.seen output.new)
-        (H.seen shelf.old) (H.seen shelf.new) left.new steps.old steps.new) }
+        (call_between S.seen K.seen H.seen input.old input.new output.old output.new shelf.old shelf.new left.new steps.old steps.new) }
 
     // Nothing else stands in the way of a command.
     ensures complete { (request : Request) → request_of (map string_bytes words.now) ≡ Some request
         → CanServe request
-        (call_between (S.seen input.old) (S.seen input.new) (K.seen output.old) (K.seen output.new)
-        (H.seen shelf.old) (H.seen shelf.new) left.new steps.old steps.new)
+        (call_between S.seen K.seen H.seen input.old input.new output.old output.new shelf.old shelf.new left.new steps.old steps.new)
         → (Rose (S.seen input.old).faults (S.seen input.new).faults → ⊥)
         → (Rose (K.seen output.old).faults (K.seen output.new).faults → ⊥)
         → IsCarriedOut request
-        (call_between (S.seen input.old) (S.seen input.new) (K.seen output.old) (K.seen output.new)
-        (H.seen shelf.old) (H.seen shelf.new) left.new steps.old steps.new) result }
+        (call_between S.seen K.seen H.seen input.old input.new output.old output.new shelf.old shelf.new left.new steps.old steps.new) result }
 {
     let answer = serve(alloc, words, input, output, shelf, left, steps);
     put_note(notes, &answer);

@@ -2,6 +2,7 @@
 
 ghost use Rattle.iso_io.specs.Seen.{Feed};
 ghost use Rattle.commands.specs.Generating.{WritesGenerated};
+ghost use Rattle.commands.specs.Outcome.{unread_between};
 
 use endings::Answer;
 use iso_base::Sizes;
@@ -12,7 +13,7 @@ use volume_gen::put_generated;
 
 /// Writes the file of the generated volume of a seed and sizes, row by row.
 pub fn generate<K: Sink>(alloc: Global, seed: u64, sizes: &Sizes, output: &mut K) -> Answer
-    ensures { (input : Feed) → WritesGenerated seed sizes.now (record { input = input; input_after = input; output = K.seen output.old; output_after = K.seen output.new }) result }
+    ensures { (input : Feed) → WritesGenerated seed sizes.now (unread_between input K.seen output.old output.new) result }
 {
     let Ok(mut waiting) = Vec::with_capacity(alloc, STAGE) else {
         return Answer::Memory;

@@ -8,7 +8,7 @@ ghost use Rattle.iso_io.specs.Seen.{Puts};
 ghost use Rattle.flat_mesh.specs.Mesh.{mesh_of};
 ghost use Rattle.commands.specs.Meaning.{mesh_given, mesh_text};
 ghost use Rattle.commands.specs.Headline.{ShowsMesh};
-ghost use Rattle.commands.specs.Outcome.{Converts};
+ghost use Rattle.commands.specs.Outcome.{Converts, streams_between};
 
 use crate::volumes::volume_of_input;
 use bench_core::watertight;
@@ -30,7 +30,8 @@ fn put_text<K: Sink>(
     format: TwoWayFormat,
 ) -> Result<Written, Failed>
     requires { waiting.old.items ≡ [] }
-    ensures { (v : Volume) (level : ℤ) → padded ≡ is_some v.pad → mesh.now ≡ mesh_of v.grid (field v.samples level) → Puts (K.seen sink.old) (K.seen sink.new) result (mesh_text format level v) }
+    ensures { (v : Volume) (level : ℤ) → padded ≡ is_some v.pad → mesh.now ≡ mesh_of v.grid (field v.samples level)
+        → Puts (K.seen sink.old) (K.seen sink.new) result (mesh_text format level v) }
 {
     put_mesh_as(sink, waiting, mesh, format, padded)
 }
@@ -51,7 +52,7 @@ pub fn extract<S: Source, K: Sink>(
     output: &mut K,
 ) -> Answer
     requires { IfSome pad IsSample }
-    ensures converts { Converts (mesh_given level pad format) (record { input = S.seen input.old; input_after = S.seen input.new; output = K.seen output.old; output_after = K.seen output.new }) result }
+    ensures converts { Converts (mesh_given level pad format) (streams_between S.seen K.seen input.old input.new output.old output.new) result }
     ensures shows { ShowsMesh level pad (S.seen input.old) result }
 {
     let volume = match volume_of_input(alloc, input, pad, level) {

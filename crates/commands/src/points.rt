@@ -7,7 +7,7 @@ ghost use Rattle.mesh_text.specs.Lines.{points_head};
 ghost use Rattle.mesh_write.specs.Edges.{placed_lines};
 ghost use Rattle.file_points.specs.Edges.{AreEdgesOf, AreEdgesOfFile};
 ghost use Rattle.commands.specs.Meaning.{points_given};
-ghost use Rattle.commands.specs.Outcome.{Converts};
+ghost use Rattle.commands.specs.Outcome.{Converts, streams_between};
 ghost use Rattle.commands.specs.Volumes.{HoldsEdges, HoldsNone, IsNoVolume};
 
 use crate::volumes::{bytes_of_input, refusal};
@@ -63,7 +63,7 @@ pub fn points<S: Source, K: Sink>(
     input: &mut S,
     output: &mut K,
 ) -> Answer
-    ensures { Converts (points_given level) (record { input = S.seen input.old; input_after = S.seen input.new; output = K.seen output.old; output_after = K.seen output.new }) result }
+    ensures { Converts (points_given level) (streams_between S.seen K.seen input.old input.new output.old output.new) result }
 {
     let edges = match edges_of_input(alloc, input, level) {
         Ok(edges) => edges,

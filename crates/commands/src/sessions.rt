@@ -42,8 +42,7 @@ pub fn run_script<S: Source, K: Sink, H: Shelf, L: Ledger>(
     requires left { left.old ≡ None }
     requires pad { IfSome pad IsSample }
     ensures { RunsSession (asked_for level pad name.now capacity.bricks capacity.pages)
-        (call_between (S.seen input.old) (S.seen input.new) (K.seen output.old) (K.seen output.new)
-        (H.seen shelf.old) (H.seen shelf.new) left.new steps.old steps.new) result }
+        (call_between S.seen K.seen H.seen input.old input.new output.old output.new shelf.old shelf.new left.new steps.old steps.new) result }
 {
     let volume = match volume_of_file(alloc, shelf, name, pad, level) {
         Ok(volume) => volume,

@@ -6,7 +6,7 @@ ghost use Rattle.volume_gen.specs.Soak.{soak_lines};
 ghost use Rattle.script.specs.Commands.{read_of};
 ghost use Rattle.session.specs.Responses.{response_text};
 ghost use Rattle.session.specs.Worlds.{world};
-ghost use Rattle.commands.specs.Outcome.{call_between};
+ghost use Rattle.commands.specs.Outcome.{call_with, unread_between};
 ghost use Rattle.commands.specs.Soaking.{DoesSoak, RunsLines, Shows, SoaksLine, is_ply, is_want_response, soak_level, soak_limits, soak_sizes, soak_volume};
 
 use arrayvec::ArrayString;
@@ -163,8 +163,7 @@ pub fn soak<K: Sink, H: Shelf, L: Ledger>(
 ) -> Answer
     requires { left.old ≡ None }
     ensures { (input : Feed) → DoesSoak seed
-        (call_between input input (K.seen output.old) (K.seen output.new)
-        (H.seen shelf.old) (H.seen shelf.new) left.new steps.old steps.new) result }
+        (call_with (unread_between input K.seen output.old output.new) H.seen shelf.old shelf.new left.new steps.old steps.new) result }
 {
     let Ok(mut bench) = open(alloc, seed) else {
         return Answer::Memory;

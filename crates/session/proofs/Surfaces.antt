@@ -4,7 +4,7 @@ use Rattle.std.specs.Prelude.{Option, Some, None, Result}
 use Rattle.iso_defs.specs.Texts.{line}
 use Rattle.iso_base.specs.declared.fault.BenchFault.{BenchFault}
 use Rattle.iso_io.specs.Files.{Files}
-use Rattle.bench_core.specs.Machine.{IsState, State}
+use Rattle.bench_core.specs.Machine.{IsState, State, three_from}
 use Rattle.bench_core.specs.Surface.{IsWatertight}
 use Rattle.bench_core.proofs.Surfaces.{watertight_of}
 use Rattle.session.proofs.StateLaws.{contour_state, fill_state, level_state, redo_state, same_state, set_state, undo_state, window_state}
@@ -14,11 +14,11 @@ use Rattle.script.specs.declared.command.Command.{Command}
 use Rattle.script.specs.declared.command.Command.TheVariants.{Set, Fill, Level, Undo, Redo, Contour, Window}
 use Rattle.session.specs.Following.{Followed, LineTurn}
 use Rattle.session.specs.Lines.{Saying}
-use Rattle.session.specs.Table.{Turn, after_writing, at_place, says_of, step_of, writes_of}
+use Rattle.session.specs.Table.{Turn, after_writing, says_of, step_of, writes_of}
 
 step_state : (s s' : State) (c : Command) → IsState s → step_of s c ≡ Ok s' → IsState s'
-step_state s s' (Set at value) is e = set_state s s' is (at_place at 0 1 2) value e
-step_state s s' (Fill corners value) is e = fill_state s s' is (at_place corners 0 1 2) (at_place corners 3 4 5) value e
+step_state s s' (Set at value) is e = set_state s s' is (three_from at 0) value e
+step_state s s' (Fill corners value) is e = fill_state s s' is (three_from corners 0) (three_from corners 3) value e
 step_state s s' (Level value) is e = level_state s s' is value e
 step_state s s' Undo is e = undo_state s s' is e
 step_state s s' Redo is e = redo_state s s' is e

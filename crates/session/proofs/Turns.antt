@@ -15,7 +15,7 @@ use Rattle.measure.specs.declared.share.Share.{Share}
 use Rattle.mesh_report.specs.Report.{Summary}
 use Rattle.bench_core.specs.Keeping.{Keeps, Refreshes, Workbench, turn_steps, waiting_bricks, write_steps}
 use Rattle.bench_core.specs.Machine.{State, IsStep, IsSureStep}
-use Rattle.bench_core.specs.Texts.{ply_text, ply_written, obj_text, obj_written, save_text, text_save, hex_save, contour_of, report_of, measure_of, WritesFile, FailsToWrite}
+use Rattle.bench_core.specs.Texts.{ply_text, ply_written, obj_text, obj_written, raw_save, text_save, hex_save, contour_of, report_of, measure_of, WritesFile, FailsToWrite}
 use Rattle.bench_core.specs.Windows.{FailsAsWindow, WritesWindow, stays_unless, thin_fault, window_area, window_fault, window_text, window_written}
 use Rattle.script.specs.Replies.{reply_text, fault_text, written_text, saved_text}
 use Rattle.script.specs.declared.command.Command.{Command}
@@ -273,9 +273,9 @@ saved_by b n shelf after c name text made response a never file step writes says
     (keeps _ (no_area_keeps b c (reply_by (λ (k : ℕ). line (saved_text k)) made) none)))
 
 pub save_by : (b : Workbench) (n : ℕ) (shelf after : Store) (name : List ℕ) (made : Result ℕ BenchFault) (response : Response) → response ≡ Line (reply_to_save made) → (made ≡ Err faults.Memory → ⊥)
-    → WritesFile shelf after made name (save_text b.state) (length (save_text b.state)) → TakesTurn b n shelf (Save name) (response_text response) b n after
+    → WritesFile shelf after made name (raw_save b.state) (length (raw_save b.state)) → TakesTurn b n shelf (Save name) (response_text response) b n after
 save_by b n shelf after name made response a never file =
-    saved_by b n shelf after (Save name) name (save_text b.state) made response a never file refl refl refl refl (λ reply same. (same, refl))
+    saved_by b n shelf after (Save name) name (raw_save b.state) made response a never file refl refl refl refl (λ reply same. (same, refl))
 
 pub savetext_by : (b : Workbench) (n : ℕ) (shelf after : Store) (name : List ℕ) (made : Result ℕ BenchFault) (response : Response) → response ≡ Line (reply_to_save made) → (made ≡ Err faults.Memory → ⊥)
     → WritesFile shelf after made name (text_save b.state) (length (text_save b.state)) → TakesTurn b n shelf (SaveText name) (response_text response) b n after

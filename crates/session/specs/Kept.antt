@@ -5,13 +5,12 @@ use Rattle.iso_io.specs.Files.{Files}
 use Rattle.voxel_list.specs.Areas.{Area}
 use Rattle.mesh_cache.specs.Cache.{Cache}
 use Rattle.bench_core.specs.Keeping.{Refreshes, Workbench, fill_area, first_area, set_area, turn_steps, waiting_bricks, without_points, write_steps}
-use Rattle.bench_core.specs.Machine.{State}
+use Rattle.bench_core.specs.Machine.{State, three_from}
 use Rattle.script.specs.Commands.{read_of}
 use Rattle.script.specs.declared.command.Command.{Command}
 use Rattle.script.specs.declared.command.Command.TheVariants.{Set, Fill, Undo, Redo, Work, Ply, Obj}
 use Rattle.session.specs.Following.{LineTurn}
 use Rattle.session.specs.Lines.{Saying}
-use Rattle.session.specs.Table.{at_place}
 
 -- what lines act on: a bench, the files of a shelf, and the counter of classified cells
 pub record Scene : Type 0 where
@@ -21,8 +20,8 @@ pub record Scene : Type 0 where
 
 -- the points that a command changes, where it is done
 abbrev pub area_of : State → Command → Option Area
-area_of s (Set at value) = set_area s (at_place at 0 1 2)
-area_of s (Fill corners value) = fill_area s (at_place corners 0 1 2) (at_place corners 3 4 5)
+area_of s (Set at value) = set_area s (three_from at 0)
+area_of s (Fill corners value) = fill_area s (three_from corners 0) (three_from corners 3)
 area_of s Undo = first_area s.past
 area_of s Redo = first_area s.future
 area_of s _ = None

@@ -1,11 +1,11 @@
 -- The commands of a script on the machine's state.
-use Rattle.std.specs.Prelude.{◌≡◌, ◌⊎◌, ℕ, Bool, true, false, List, ◌++◌, length, get_or, codes, is_some, Option, Some, None, Result, Ok, Err, MatchResult, ℤ, pos}
+use Rattle.std.specs.Prelude.{◌≡◌, ◌⊎◌, ℕ, Bool, true, false, List, ◌++◌, length, codes, is_some, Option, Some, None, Result, Ok, Err, MatchResult}
 use Rattle.iso_base.specs.declared.fault.BenchFault.{BenchFault}
 use Rattle.iso_base.specs.declared.fault.BenchFault.TheVariants as faults
 use Rattle.iso_io.specs.Files.{Files}
 use Rattle.iso_io.specs.Shelves.{with_file, FilesCut}
-use Rattle.bench_core.specs.Machine.{State, set_step, fill_step, level_step, undo_step, redo_step, contour_step}
-use Rattle.bench_core.specs.Texts.{ply_text, ply_written, obj_text, obj_written, save_text, text_save, hex_save, contour_of, report_of, measure_of}
+use Rattle.bench_core.specs.Machine.{State, set_step, fill_step, level_step, undo_step, redo_step, contour_step, three_from}
+use Rattle.bench_core.specs.Texts.{ply_text, ply_written, obj_text, obj_written, raw_save, text_save, hex_save, contour_of, report_of, measure_of}
 use Rattle.bench_core.specs.Windows.{window_area, window_step, window_text, window_written}
 use Rattle.plane_contour.specs.Points.{DrawnLine}
 use Rattle.plane_contour.specs.Texts.{contours_text}
@@ -21,14 +21,10 @@ use Rattle.script.specs.Replies.{fault_text, written_text, saved_text}
 use Rattle.script.specs.Reports.{report_text}
 use Rattle.script.specs.Measures.{measures_text}
 
--- three numbers of a list, from this place on
-abbrev pub at_place : List ℤ → ℕ → ℕ → ℕ → ℤ × ℤ × ℤ
-at_place numbers i j k = (get_or numbers i (pos 0), get_or numbers j (pos 0), get_or numbers k (pos 0))
-
 -- the new state, or the first refusal
 abbrev pub step_of : State → Command → Result State BenchFault
-step_of s (Set at value) = set_step s (at_place at 0 1 2) value
-step_of s (Fill corners value) = fill_step s (at_place corners 0 1 2) (at_place corners 3 4 5) value
+step_of s (Set at value) = set_step s (three_from at 0) value
+step_of s (Fill corners value) = fill_step s (three_from corners 0) (three_from corners 3) value
 step_of s (Level value) = level_step s value
 step_of s Undo = undo_step s
 step_of s Redo = redo_step s
@@ -40,7 +36,7 @@ step_of s command = Ok s
 abbrev pub writes_of : State → Command → Option (List ℕ × List ℕ)
 writes_of s (Ply name) = Some (name, ply_text s)
 writes_of s (Obj name) = Some (name, obj_text s)
-writes_of s (Save name) = Some (name, save_text s)
+writes_of s (Save name) = Some (name, raw_save s)
 writes_of s (SaveText name) = Some (name, text_save s)
 writes_of s (SaveHex name) = Some (name, hex_save s)
 writes_of s (Window corners format name) = Some (name, window_text s.volume s.level (window_area s.volume corners) format)
@@ -62,7 +58,7 @@ measures_reply shares = measures_text shares ++ line (codes "ok")
 abbrev pub says_of : State → Command → List ℕ
 says_of s (Ply name) = line (written_text (ply_written s))
 says_of s (Obj name) = line (written_text (obj_written s))
-says_of s (Save name) = line (saved_text (length (save_text s)))
+says_of s (Save name) = line (saved_text (length (raw_save s)))
 says_of s (SaveText name) = line (saved_text (length (text_save s)))
 says_of s (SaveHex name) = line (saved_text (length (hex_save s)))
 says_of s (Window corners format name) = line (written_text (window_written s.volume s.level (window_area s.volume corners) format))
@@ -112,7 +108,8 @@ pub record FailsToStore (s : State) (files : Option Files) (command : Command) (
 
 -- one command and its reply
 abbrev pub Turn : State → Option Files → Command → List ℕ → State → Option Files → Type 0
-Turn s files command reply s' files' = TakesStep s files command reply s' files' ⊎ WantsMemory s files command reply s' files' ⊎ FailsToStore s files command reply s' files'
+Turn s files command reply s' files' =
+    TakesStep s files command reply s' files' ⊎ WantsMemory s files command reply s' files' ⊎ FailsToStore s files command reply s' files'
 
 -- what is answered to a change, to a written mesh, and to a saved volume
 abbrev pub reply_to_change : Result (Unit {0}) BenchFault → Reply

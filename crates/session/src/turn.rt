@@ -4,9 +4,10 @@ ghost use Rattle.iso_io.specs.Shelves.{Store};
 ghost use Rattle.session.specs.Table.{reply_to_change, reply_to_mesh, reply_to_save};
 ghost use Rattle.session.specs.Responses.{response_text};
 ghost use Rattle.session.specs.Loop.{RanLine, TakesTurn, Told, quits_by};
-ghost use Rattle.session.specs.Worlds.{world};
+ghost use Rattle.session.specs.Worlds.{SameLoans, world_of};
 
 use crate::after::After;
+use crate::loans::Session;
 use crate::response::{Response, put_response};
 use bench_core::{Bench, BenchFault, Written};
 use iso_base::{MeshFormat, Steps};
@@ -97,7 +98,8 @@ fn run_window<H: Shelf>(
     corners: [i64; 6],
     format: MeshFormat,
 ) -> Response
-    ensures { (steps : ℕ) → TakesTurn bench.now steps (H.seen shelf.old) (Command.Window corners format name.now) (response_text result) bench.now steps (H.seen shelf.new) }
+    ensures { (steps : ℕ) → TakesTurn bench.now steps (H.seen shelf.old) (Command.Window corners format name.now) (response_text result)
+        bench.now steps (H.seen shelf.new) }
 {
     meshed(bench.window(shelf, name, corners, format))
 }
@@ -190,23 +192,18 @@ fn tell<K: Sink>(output: &mut K, response: &Response, quits: bool) -> After
 
 /// Runs one line, and writes its reply.
 pub fn run_line<K: Sink, H: Shelf, L: Ledger>(
-    bench: &mut Bench,
-    shelf: &mut H,
-    steps: &mut Steps<L>,
-    output: &mut K,
+    session: &mut Session<K, H, L>,
     says: Result<Option<Command>, LineFault>,
 ) -> After
-    ensures { RanLine
-        (world bench.old steps.old (H.seen shelf.old) (K.seen output.old))
-        (world bench.new steps.new (H.seen shelf.new) (K.seen output.new))
-        says result }
+    ensures same_reference { SameLoans session.old session.new }
+    ensures ran { RanLine (world_of H.seen K.seen session.old) (world_of H.seen K.seen session.new) says result }
 {
     match says {
         Ok(None) => After::On,
         Ok(Some(command)) => {
-            let response = run_command(bench, shelf, steps, &command);
-            tell(output, &response, quits(&command))
+            let response = run_command(session.bench, session.shelf, session.steps, &command);
+            tell(session.output, &response, quits(&command))
         }
-        Err(fault) => tell(output, &Response::Line(Reply::Line(fault)), false),
+        Err(fault) => tell(session.output, &Response::Line(Reply::Line(fault)), false),
     }
 }

@@ -1,23 +1,22 @@
 use Rattle.std.proofs.Common.{refl, rules}
 use Rattle.bench_core.specs.Keeping.{Keeps, fill_area, set_area}
-use Rattle.bench_core.specs.Machine.{IsStep, IsSureStep, set_step, fill_step, level_step}
+use Rattle.bench_core.specs.Machine.{IsStep, IsSureStep, set_step, fill_step, level_step, three_from}
 use Rattle.script.specs.declared.command.Command.TheVariants.{Set, Fill, Level, Undo, Redo, Save, SaveText, SaveHex, Window, Contour, Report, Measure}
 use Rattle.session.specs.Responses.{response_text}
-use Rattle.session.specs.Table.{at_place}
 use Rattle.session.specs.Loop.{TakesTurn}
 use Rattle.session.proofs.Turns.{change_by, fill_by, stays_keeps, turn_by, work_by}
 use Rattle.session.proofs.turn.run_command.Goals as goal
 
 pub returns-in-Set : goal.returns-in-Set
 returns-in-Set g c =
-    let step : IsSureStep {T = Unit {0}} c.args.bench.now.state c.set.new.self.state c.set.result (set_step c.args.bench.now.state (at_place c.in-Set.at 0 1 2) c.in-Set.value) = search (rules, c.set.ensures.step) in
-    let kept : Keeps c.args.bench.now c.set.new.self c.set.result (set_area c.args.bench.now.state (at_place c.in-Set.at 0 1 2)) = search (rules, c.set.ensures.kept) in
+    let step : IsSureStep {T = Unit {0}} c.args.bench.now.state c.set.new.self.state c.set.result (set_step c.args.bench.now.state (three_from c.in-Set.at 0) c.in-Set.value) = search (rules, c.set.ensures.step) in
+    let kept : Keeps c.args.bench.now c.set.new.self c.set.result (set_area c.args.bench.now.state (three_from c.in-Set.at 0)) = search (rules, c.set.ensures.kept) in
     change_by _ _ _ _ _ (Set c.in-Set.at c.in-Set.value) _ _ c.in-Set.is c.changed.ensures step c.set.ensures.not_shelf refl refl (λ reply same. (same, refl)) kept
 
 pub returns-in-Fill : goal.returns-in-Fill
 returns-in-Fill g c =
-    let step : IsStep {T = Unit {0}} c.args.bench.now.state c.fill.new.self.state c.fill.result (fill_step c.args.bench.now.state (at_place c.in-Fill.corners 0 1 2) (at_place c.in-Fill.corners 3 4 5) c.in-Fill.value) = search (rules, c.fill.ensures.step) in
-    let kept : Keeps c.args.bench.now c.fill.new.self c.fill.result (fill_area c.args.bench.now.state (at_place c.in-Fill.corners 0 1 2) (at_place c.in-Fill.corners 3 4 5)) = search (rules, c.fill.ensures.kept) in
+    let step : IsStep {T = Unit {0}} c.args.bench.now.state c.fill.new.self.state c.fill.result (fill_step c.args.bench.now.state (three_from c.in-Fill.corners 0) (three_from c.in-Fill.corners 3) c.in-Fill.value) = search (rules, c.fill.ensures.step) in
+    let kept : Keeps c.args.bench.now c.fill.new.self c.fill.result (fill_area c.args.bench.now.state (three_from c.in-Fill.corners 0) (three_from c.in-Fill.corners 3)) = search (rules, c.fill.ensures.kept) in
     fill_by _ _ _ _ _ (Fill c.in-Fill.corners c.in-Fill.value) _ _ c.in-Fill.is c.changed-in-Fill.ensures step c.fill.ensures.not_shelf refl refl refl (λ reply same. (same, refl)) kept
 
 pub returns-in-Level : goal.returns-in-Level
