@@ -79,7 +79,7 @@ fn counted_write<L: Ledger>(
     blank: Blank,
     bench: &mut Bench,
     shelf: &mut MemShelf,
-    name: &str,
+    file: &str,
     format: TwoWayFormat,
 ) -> Result<Written, BenchFault>
     requires name { blank.name ≡ L.name }
@@ -89,8 +89,8 @@ fn counted_write<L: Ledger>(
     let (book, share) = blank.open::<L>();
     let mut steps = Steps::new(book, share);
     match format {
-        TwoWayFormat::Ply => bench.write_ply(shelf, name, &mut steps),
-        TwoWayFormat::Obj => bench.write_obj(shelf, name, &mut steps),
+        TwoWayFormat::Ply => bench.write_ply(shelf, file, &mut steps),
+        TwoWayFormat::Obj => bench.write_obj(shelf, file, &mut steps),
     }
 }
 
@@ -98,10 +98,10 @@ fn counted_write<L: Ledger>(
 pub fn write(
     bench: &mut Bench,
     shelf: &mut MemShelf,
-    name: &str,
+    file: &str,
     format: TwoWayFormat,
 ) -> Result<Written, BenchFault> {
-    counted_write::<Brand>(Blank::new(1), bench, shelf, name, format)
+    counted_write::<Brand>(Blank::new(1), bench, shelf, file, format)
 }
 
 fn counted_work<L: Ledger>(blank: Blank, bench: &mut Bench, n: u32)

@@ -150,8 +150,7 @@ pub fn outcome_of(alloc: Global, call: &Call<'_>) -> Result<Outcome, Fail> {
     outcome_over(alloc, call, &mut source_of(alloc, call)?)
 }
 
-pub fn check(rt: &impl Abort, alloc: Global, call: &Call<'_>, end: &End<'_>) -> Result<(), Fail> {
-    let outcome = outcome_of(alloc, call)?;
+fn check_end(rt: &impl Abort, outcome: &Outcome, end: &End<'_>) {
     assert_eq!(rt; outcome.status, end.status);
     assert_eq!(rt; outcome.output.bytes(), end.output);
     assert_eq!(rt; outcome.notes.bytes(), end.notes);
@@ -162,6 +161,10 @@ pub fn check(rt: &impl Abort, alloc: Global, call: &Call<'_>, end: &End<'_>) -> 
     ] {
         assert_eq!(rt; outcome.shelf.file(name), file, "{name}");
     }
+}
+
+pub fn check(rt: &impl Abort, alloc: Global, call: &Call<'_>, end: &End<'_>) -> Result<(), Fail> {
+    check_end(rt, &outcome_of(alloc, call)?, end);
     Ok(())
 }
 

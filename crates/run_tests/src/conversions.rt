@@ -1,6 +1,7 @@
 //! Commands that turn an input into an output.
 
-use crate::calls::{End, NO_FILES, Outcome, call_of, check, check_done, check_output, outcome_of};
+use crate::calls::{End, NO_FILES, call_of, check, check_done, check_output, outcome_of};
+use crate::scripts::zeros;
 use crate::texts::*;
 use endings::Status;
 use std::alloc::Global;
@@ -61,40 +62,44 @@ fn worked_meshes_as_obj(rt: HostRuntime) -> Result<(), Fail> {
     Ok(())
 }
 
-/// The outcome of a call that is done.
+/// The output of a call that is done.
 fn output_of<'a>(
     rt: &impl Abort,
     alloc: Global,
     words: &'a [&'a str],
     input: &'a [u8],
-) -> Result<Outcome, Fail> {
+) -> Result<Vec<u8>, Fail> {
     let outcome = outcome_of(alloc, &call_of(words, input))?;
     assert_eq!(rt; outcome.status, Status::Done);
-    Ok(outcome)
+    Ok(Vec::from_slice(alloc, outcome.output.bytes())?)
 }
+
+/// The front of the mesh of SOLID in a pad of 0.
+const PADDED_MESH: &[u8] =
+    b"ply\nformat ascii 1.0\nelement vertex 42\nproperty float x\nproperty float y\nproperty float z\nelement face 80\nproperty list uchar int vertex_indices\nend_header\n0.000 0.000 -0.500\n";
 
 #[test]
 fn a_mesh_in_a_pad_is_closed(rt: HostRuntime) -> Result<(), Fail> {
     let alloc = rt.alloc();
-    let outcome = output_of(&rt, alloc, &["extract", "--pad=0", "--level=5"], SOLID)?;
-    let head =
-        b"ply\nformat ascii 1.0\nelement vertex 42\nproperty float x\nproperty float y\nproperty float z\nelement face 80\nproperty list uchar int vertex_indices\nend_header\n0.000 0.000 -0.500\n";
-    assert!(rt; outcome.output.bytes().starts_with(head.as_slice()));
-    let checked = output_of(&rt, alloc, &["check", "ply"], outcome.output.bytes())?;
-    assert_eq!(rt; checked.output.bytes(), b"closed\n".as_slice());
-    let mut long = Vec::from_slice(
-        alloc,
-        b"NRRD0004\ntype: uint8\ndimension: 3\nsizes: 1025 2 2\nencoding: raw\n\n",
-    )?;
-    long.resize(long.len() + 4100, 0)?;
+    let mesh = output_of(&rt, alloc, &["extract", "--pad=0", "--level=5"], SOLID)?;
+    assert!(rt; mesh.starts_with(PADDED_MESH));
+    check_done(&rt, alloc, &["check", "ply"], &mesh, b"closed\n")
+}
+
+#[test]
+fn a_pad_may_make_an_axis_too_long(rt: HostRuntime) -> Result<(), Fail> {
+    let head = b"NRRD0004\ntype: uint8\ndimension: 3\nsizes: 1025 2 2\nencoding: raw\n\n";
+    let volume = zeros(rt.alloc(), head, 4100)?;
+    let words = ["extract", "--level=5", "--pad=0"];
+    let note = b"isobench: volume 16 pad size axis 0 1027\n";
     check_output(
         &rt,
-        alloc,
-        &["extract", "--level=5", "--pad=0"],
-        &long,
+        rt.alloc(),
+        &words,
+        &volume,
         Status::BadVolume,
         b"",
-        b"isobench: volume 16 pad size axis 0 1027\n",
+        note,
     )
 }
 

@@ -70,7 +70,7 @@ fn held<'a>(mesh: &'a [u8], start: u64, number: u64, front: &'a [u8]) -> Option<
     }
 }
 
-fn check_files(rt: &impl Abort, outcome: &Outcome, number: u64, front: &[u8]) -> Result<(), Fail> {
+fn check_files(rt: &impl Abort, outcome: &Outcome, number: u64, front: &[u8]) {
     for (name, mesh, start) in [
         ("a", MOVED_MESH, 2),
         ("b", MOVED_MESH, 4),
@@ -80,7 +80,11 @@ fn check_files(rt: &impl Abort, outcome: &Outcome, number: u64, front: &[u8]) ->
         let want = held(mesh, start, number, front);
         assert_eq!(rt; outcome.shelf.file(name), want, "{name} at {number}");
     }
-    Ok(())
+}
+
+fn check_replies(rt: &impl Abort, outcome: &Outcome, status: Status, replies: &[u8]) {
+    assert_eq!(rt; outcome.status, status);
+    assert_eq!(rt; outcome.output.bytes(), replies);
 }
 
 /// One call of the shelf fails, and takes so many bytes.
@@ -91,19 +95,19 @@ fn check_shelf(
     number: u64,
     front: &[u8],
 ) -> Result<(), Fail> {
+    let replies = replies_but(alloc, number)?;
     let numbers = [number];
     let mut call = failing(volume, &[], &[], &numbers);
     call.cut = if front.is_empty() { 0 } else { 4 };
     let outcome = outcome_of(alloc, &call)?;
-    let replies = replies_but(alloc, number)?;
     let status = if number == 1 {
         Status::ShelfFault
     } else {
         Status::Done
     };
-    assert_eq!(rt; outcome.status, status);
-    assert_eq!(rt; outcome.output.bytes(), replies.as_slice());
-    check_files(rt, &outcome, number, front)
+    check_replies(rt, &outcome, status, &replies);
+    check_files(rt, &outcome, number, front);
+    Ok(())
 }
 
 /// Each of the nine calls of the shelf fails, and in the tenth run none.
@@ -138,6 +142,17 @@ fn with_stream_fault(
     }
 }
 
+/// Whether nothing failed in a run; it ended by this fault otherwise, and its replies are a front of all.
+fn is_whole(rt: &impl Abort, outcome: &Outcome, fault: Status) -> bool {
+    if outcome.status == Status::Done {
+        assert_eq!(rt; outcome.output.bytes(), REPLIES);
+        return true;
+    }
+    assert_eq!(rt; outcome.status, fault);
+    assert!(rt; REPLIES.starts_with(outcome.output.bytes()));
+    false
+}
+
 /// Each read or each write fails in turn, up to a run in which none does. How many runs that took.
 fn runs_to_the_end(
     rt: &impl Abort,
@@ -147,13 +162,13 @@ fn runs_to_the_end(
     piece: u32,
 ) -> Result<u64, Fail> {
     for number in 1..200 {
-        let outcome = with_stream_fault(alloc, volume, fault, piece, number)?;
-        if outcome.status == Status::Done {
-            assert_eq!(rt; outcome.output.bytes(), REPLIES);
+        if is_whole(
+            rt,
+            &with_stream_fault(alloc, volume, fault, piece, number)?,
+            fault,
+        ) {
             return Ok(number);
         }
-        assert_eq!(rt; outcome.status, fault);
-        assert!(rt; REPLIES.starts_with(outcome.output.bytes()));
     }
     Ok(200)
 }
@@ -170,34 +185,48 @@ fn each_read_and_each_write_fails(rt: HostRuntime) -> Result<(), Fail> {
     Ok(())
 }
 
+fn check_pieces(
+    rt: &impl Abort,
+    alloc: Global,
+    volume: &[u8],
+    read_piece: u32,
+    write_piece: u32,
+) -> Result<(), Fail> {
+    let mut call = worked(volume, SCRIPT);
+    call.read_piece = read_piece;
+    call.write_piece = write_piece;
+    let outcome = outcome_of(alloc, &call)?;
+    check_replies(rt, &outcome, Status::Done, REPLIES);
+    check_files(rt, &outcome, 0, b"");
+    Ok(())
+}
+
 #[test]
 fn pieces_change_nothing(rt: HostRuntime) -> Result<(), Fail> {
     let volume = zeros(rt.alloc(), SEVENTEEN, 4913)?;
-    let mut call = worked(&volume, SCRIPT);
     for read_piece in [1, 7, 4096] {
         for write_piece in [1, 7, 4096] {
-            call.read_piece = read_piece;
-            call.write_piece = write_piece;
-            let outcome = outcome_of(rt.alloc(), &call)?;
-            assert_eq!(rt; outcome.status, Status::Done);
-            assert_eq!(rt; outcome.output.bytes(), REPLIES);
-            assert_eq!(rt; outcome.shelf.file("d"), Some(MOVED_MESH));
+            check_pieces(&rt, rt.alloc(), &volume, read_piece, write_piece)?;
         }
     }
     Ok(())
 }
 
+const EACH_REFUSED: &[u8] =
+    b"ok\nerror 9 shelf\nok\nerror 9 shelf\nok\nerror 9 shelf\nok\nerror 9 shelf\n";
+
 /// A shelf that fails at every second call fails each mesh: that of `a` is never started, and those of `b`, `c` and `d` are
 /// never appended.
+fn check_second(rt: &impl Abort, outcome: &Outcome) {
+    check_replies(rt, outcome, Status::Done, EACH_REFUSED);
+    assert_eq!(rt; outcome.shelf.file("a"), None);
+    assert_eq!(rt; outcome.shelf.file("d"), Some(b"".as_slice()));
+}
+
 #[test]
 fn every_second_call_of_the_shelf_fails(rt: HostRuntime) -> Result<(), Fail> {
     let volume = zeros(rt.alloc(), SEVENTEEN, 4913)?;
     let call = failing(&volume, &[], &[], &[2, 4, 6, 8, 10, 12]);
-    let outcome = outcome_of(rt.alloc(), &call)?;
-    assert_eq!(rt; outcome.status, Status::Done);
-    let replies = b"ok\nerror 9 shelf\nok\nerror 9 shelf\nok\nerror 9 shelf\nok\nerror 9 shelf\n";
-    assert_eq!(rt; outcome.output.bytes(), replies.as_slice());
-    assert_eq!(rt; outcome.shelf.file("a"), None);
-    assert_eq!(rt; outcome.shelf.file("d"), Some(b"".as_slice()));
+    check_second(&rt, &outcome_of(rt.alloc(), &call)?);
     Ok(())
 }

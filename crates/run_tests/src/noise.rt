@@ -2,12 +2,13 @@
 
 ghost use Rattle.iso_io.specs.Seen.{untold_feed};
 
-use crate::calls::{call_of, check_output, outcome_of, outcome_over};
+use crate::calls::{Outcome, call_of, check_output, outcome_of, outcome_over};
 use crate::faults::worked;
 use crate::scripts::{SEVENTEEN, zeros};
 use endings::Status;
 use iso_io::{Failed, Source};
 use std::alloc::{AllocError, Global};
+use std::process::Abort;
 use std::test::Fail;
 
 /// So many bytes.
@@ -23,20 +24,30 @@ fn noise(alloc: Global, seed: u64, count: usize) -> Result<Vec<u8>, AllocError> 
     Ok(all)
 }
 
-/// No line of such a script is a command, and no such bytes are a volume.
+/// No line of such a script is a command.
+fn check_script(rt: &impl Abort, outcome: &Outcome) {
+    let refused = b"error 2 syntax\n";
+    let replies = outcome.output.bytes();
+    assert_eq!(rt; outcome.status, Status::Done);
+    assert!(rt; replies.starts_with(refused.as_slice()));
+    assert_eq!(rt; replies.len() % refused.len(), 0);
+}
+
+/// No such bytes are a volume.
+fn check_volume(rt: &impl Abort, alloc: Global, volume: &[u8]) -> Result<(), Fail> {
+    let note = b"isobench: volume 1 not nrrd\n";
+    let words = ["points", "--level=5"];
+    check_output(rt, alloc, &words, volume, Status::BadVolume, b"", note)
+}
+
 #[test]
 fn noise_is_refused(rt: HostRuntime) -> Result<(), Fail> {
     let alloc = rt.alloc();
     let zeros = zeros(alloc, SEVENTEEN, 4913)?;
     for seed in 0..32 {
         let script = noise(alloc, seed, 1024)?;
-        let outcome = outcome_of(alloc, &worked(&zeros, &script))?;
-        assert_eq!(rt; outcome.status, Status::Done);
-        assert_eq!(rt; outcome.output.bytes().len() % b"error 2 syntax\n".len(), 0);
-        let volume = noise(alloc, seed, 256)?;
-        let note = b"isobench: volume 1 not nrrd\n";
-        let words = ["points", "--level=5"];
-        check_output(&rt, alloc, &words, &volume, Status::BadVolume, b"", note)?;
+        check_script(&rt, &outcome_of(alloc, &worked(&zeros, &script))?);
+        check_volume(&rt, alloc, &noise(alloc, seed, 256)?)?;
     }
     Ok(())
 }

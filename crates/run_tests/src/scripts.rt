@@ -1,7 +1,7 @@
 //! Sessions of the program.
 
 use crate::calls::{
-    End, NO_FILES, call_of, check, check_replies, check_session, outcome_of, session_of,
+    End, NO_FILES, Outcome, call_of, check, check_replies, check_session, outcome_of, session_of,
 };
 use crate::texts::*;
 use endings::Status;
@@ -42,6 +42,12 @@ fn an_edit_and_its_undo(rt: HostRuntime) -> Result<(), Fail> {
     )
 }
 
+/// The file `a` that a script leaves.
+fn file_of<'a>(alloc: Global, volume: &'a [u8], script: &'a [u8]) -> Result<Vec<u8>, Fail> {
+    let outcome = outcome_of(alloc, &session_of(volume, script))?;
+    Ok(Vec::from_slice(alloc, outcome.shelf.file("a").unwrap_or(b""))?)
+}
+
 /// Two scripts write the same mesh as the file `a`, and one that has vertices.
 fn same_meshes<'a>(
     rt: &impl Abort,
@@ -50,11 +56,9 @@ fn same_meshes<'a>(
     script: &'a [u8],
     other: &'a [u8],
 ) -> Result<(), Fail> {
-    let one = outcome_of(alloc, &session_of(volume, script))?;
-    let two = outcome_of(alloc, &session_of(volume, other))?;
-    let mesh = one.shelf.file("a").unwrap_or(b"");
+    let mesh = file_of(alloc, volume, script)?;
     assert!(rt; mesh.len() > 154);
-    assert_eq!(rt; mesh, two.shelf.file("a").unwrap_or(b""));
+    assert_eq!(rt; mesh, file_of(alloc, volume, other)?);
     Ok(())
 }
 
@@ -150,19 +154,26 @@ fn the_shelf_fails(rt: HostRuntime) -> Result<(), Fail> {
     check_failing(&rt, alloc, b"ply a\n", &[1], &shut)
 }
 
+/// The front of the mesh of MIDDLE at level 9.
+const MESH_AT_NINE: &[u8] =
+    b"ply\nformat ascii 1.0\nelement vertex 6\nproperty float x\nproperty float y\nproperty float z\nelement face 8\nproperty list uchar int vertex_indices\nend_header\n1.000 1.000 0.900\n1.000 0.900 1.000\n0.900 1.000 1.000\n1.100 1.000 1.000\n";
+
+fn check_mesh_at_nine(rt: &impl Abort, outcome: &Outcome) {
+    let replies = b"ok\nok vertices 6 faces 8 bytes 326\n";
+    assert_eq!(rt; outcome.output.bytes(), replies.as_slice());
+    assert!(rt;
+        outcome
+            .shelf
+            .file("a")
+            .unwrap_or(b"")
+            .starts_with(MESH_AT_NINE)
+    );
+}
+
 #[test]
 fn another_level(rt: HostRuntime) -> Result<(), Fail> {
-    let outcome = outcome_of(rt.alloc(), &session_of(MIDDLE, b"level 9\nply a"))?;
-    let mesh = outcome.shelf.file("a").ok_or("no file")?;
-    let head =
-        b"ply\nformat ascii 1.0\nelement vertex 6\nproperty float x\nproperty float y\nproperty float z\nelement face 8\nproperty list uchar int vertex_indices\nend_header\n";
-    let vertices = b"1.000 1.000 0.900\n1.000 0.900 1.000\n0.900 1.000 1.000\n1.100 1.000 1.000\n";
-    assert_eq!(rt;
-        outcome.output.bytes(),
-        b"ok\nok vertices 6 faces 8 bytes 326\n".as_slice()
-    );
-    let rest = mesh.strip_prefix(head.as_slice()).ok_or("no head")?;
-    assert!(rt; rest.starts_with(vertices.as_slice()));
+    let call = session_of(MIDDLE, b"level 9\nply a");
+    check_mesh_at_nine(&rt, &outcome_of(rt.alloc(), &call)?);
     Ok(())
 }
 

@@ -63,7 +63,24 @@ fn ending_of(
     counted_ending::<Brand>(alloc, Blank::new(1), bench, shelf, input, output)
 }
 
-/// Runs a script on the bench of the corner, and compares the ending, the replies and the size of the file `a`.
+/// Runs a script, and compares the ending, the replies and the size of the file `a`.
+fn check_ending(
+    rt: &impl Abort,
+    alloc: Global,
+    bench: &mut Bench,
+    input: &mut MemSource,
+    want: (Ending, &[u8], usize),
+) -> Result<(), Fail> {
+    let mut shelf = MemShelf::new(alloc, 2, 256, Vec::new(alloc))?;
+    let mut output = MemSink::new(alloc, 4096, Vec::new(alloc))?;
+    let ending = ending_of(alloc, bench, &mut shelf, input, &mut output);
+    assert_eq!(rt; ending, Ok(want.0));
+    assert_eq!(rt; output.bytes(), want.1);
+    assert_eq!(rt; shelf.file("a").unwrap_or(b"").len(), want.2);
+    Ok(())
+}
+
+/// The same on the bench of the corner.
 fn check(
     rt: &impl Abort,
     alloc: Global,
@@ -71,13 +88,7 @@ fn check(
     want: (Ending, &[u8], usize),
 ) -> Result<(), Fail> {
     let mut bench = corner_bench(alloc).ok_or("no bench")?;
-    let mut shelf = MemShelf::new(alloc, 2, 256, Vec::new(alloc))?;
-    let mut output = MemSink::new(alloc, 4096, Vec::new(alloc))?;
-    let ending = ending_of(alloc, &mut bench, &mut shelf, &mut input, &mut output);
-    assert_eq!(rt; ending, Ok(want.0));
-    assert_eq!(rt; output.bytes(), want.1);
-    assert_eq!(rt; shelf.file("a").unwrap_or(b"").len(), want.2);
-    Ok(())
+    check_ending(rt, alloc, &mut bench, &mut input, want)
 }
 
 #[test]
