@@ -1,7 +1,6 @@
 //! A volume in bricks at a level: its shifted values, and its active bricks.
 ghost use Rattle.std.specs.Prelude.{◌≡◌, ℕ, ◌+◌, ◌-◌, ◌*◌, ◌<◌, ◌^◌, All, length, min, pos, slice_index_or, true, unsigned_abs};
 ghost use Rattle.iso_defs.specs.Grid.{index, is_cell, point_count};
-ghost use Rattle.iso_base.specs.Points.{IsPoint, index_of};
 ghost use Rattle.iso_base.specs.Samples.{IsSample};
 ghost use Rattle.iso_base.specs.Shifted.{shifted};
 ghost use Rattle.iso_base.specs.Volume.{IsVolume, sample};
@@ -14,7 +13,7 @@ ghost use Rattle.stitch_rows.specs.Rows.{at_level};
 
 use crate::bricks::BrickRow;
 use brick_store::{BrickId, BrickStore};
-use iso_base::{CellName, Level, Point, Sizes};
+use iso_base::{CellName, Level, Sizes};
 use span_tree::SpanTree;
 use std::marker::Model;
 
@@ -65,16 +64,6 @@ impl<'a> Field<'a> {
         ensures leveled { IsLeveled self.now }
     {
         self.store.sizes()
-    }
-
-    /// The shifted value of a point.
-    #[inline(always)]
-    pub fn height(&self, point: Point) -> i64
-        requires { IsPoint self.now.grid point }
-        ensures value { result ≡ heights self.now (index_of self.now.grid point) }
-        ensures bound { unsigned_abs result < 2 ^ 44 }
-    {
-        self.level.shifted(self.store.get(point))
     }
 
     /// The shifted values of the corners of a cell.
