@@ -75,12 +75,18 @@ pub fn contour(bench: &Bench, k: i64) -> Result<Contours, BenchFault> {
     bench.contour(k)
 }
 
+/// Which file is written, and in which format.
+#[derive(Clone, Copy)]
+struct Order<'a> {
+    file: &'a str,
+    format: TwoWayFormat,
+}
+
 fn counted_write<L: Ledger>(
     blank: Blank,
     bench: &mut Bench,
     shelf: &mut MemShelf,
-    file: &str,
-    format: TwoWayFormat,
+    order: &Order<'_>,
 ) -> Result<Written, BenchFault>
     requires name { blank.name ≡ L.name }
     requires parts { blank.parts ≡ L.parts }
@@ -88,9 +94,9 @@ fn counted_write<L: Ledger>(
 {
     let (book, share) = blank.open::<L>();
     let mut steps = Steps::new(book, share);
-    match format {
-        TwoWayFormat::Ply => bench.write_ply(shelf, file, &mut steps),
-        TwoWayFormat::Obj => bench.write_obj(shelf, file, &mut steps),
+    match order.format {
+        TwoWayFormat::Ply => bench.write_ply(shelf, order.file, &mut steps),
+        TwoWayFormat::Obj => bench.write_obj(shelf, order.file, &mut steps),
     }
 }
 
@@ -101,7 +107,8 @@ pub fn write(
     file: &str,
     format: TwoWayFormat,
 ) -> Result<Written, BenchFault> {
-    counted_write::<Brand>(Blank::new(1), bench, shelf, file, format)
+    let order = Order { file, format };
+    counted_write::<Brand>(Blank::new(1), bench, shelf, &order)
 }
 
 fn counted_work<L: Ledger>(blank: Blank, bench: &mut Bench, n: u32)
