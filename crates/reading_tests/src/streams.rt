@@ -5,7 +5,6 @@ use iso_io::{
     StdSink, read_all_of, stage, write_all_of,
 };
 use std::alloc::{AllocError, Global};
-use std::process::Abort;
 use std::test::Fail;
 
 fn list(alloc: Global, numbers: &[u64]) -> Result<Vec<u64>, AllocError> {
@@ -56,62 +55,27 @@ fn staged_bytes_come_in_order(rt: HostRuntime) -> Result<(), Fail> {
     Ok(())
 }
 
-fn is_started<H: Shelf>(shelf: &mut H, name: &str) -> bool {
-    shelf.start(name).is_ok()
-}
-
-fn is_appended(shelf: &mut MemShelf, name: &str, bytes: &[u8]) -> bool {
-    shelf.append(name, bytes).is_ok()
-}
-
-/// What is wrong with reading a file of at most so many bytes.
-fn read_fault<H: Shelf>(
-    alloc: Global,
-    shelf: &mut H,
-    name: &str,
-    limit: u64,
-) -> Option<ShelfError> {
-    shelf.read(alloc, name, limit).err()
-}
-
-/// The shelf has room for two files of four bytes, and its third call fails.
-fn check_writes(rt: &impl Abort, shelf: &mut MemShelf) {
-    assert!(rt; is_started(shelf, "a") && is_appended(shelf, "a", b"abc"));
-    assert!(rt; !is_appended(shelf, "a", b"d") && !is_appended(shelf, "a", b"de"));
-    assert!(rt; is_appended(shelf, "b", b"xyz") && !is_started(shelf, "c"));
-    assert_eq!(rt; shelf.file("a"), Some(b"abc".as_slice()));
-}
-
-fn check_reads(rt: &impl Abort, alloc: Global, shelf: &mut MemShelf) {
-    let too_long = ShelfError::TooLong { limit: 2 };
-    assert_eq!(rt; read_fault(alloc, shelf, "b", 2), Some(too_long));
-    assert_eq!(rt; read_fault(alloc, shelf, "c", 2), Some(ShelfError::Failed));
-    assert!(rt; is_started(shelf, "b"));
-    assert_eq!(rt; shelf.file("b"), Some(b"".as_slice()));
-    assert_eq!(rt; shelf.file("c"), None);
-}
-
 #[test]
 fn a_shelf_fails_where_told(rt: HostRuntime) -> Result<(), Fail> {
     let mut shelf = MemShelf::new(rt.alloc(), 2, 4, list(rt.alloc(), &[3])?)?;
-    check_writes(&rt, &mut shelf);
-    check_reads(&rt, rt.alloc(), &mut shelf);
-    Ok(())
-}
-
-/// Writes a file in two pieces.
-fn write_pieces<H: Shelf>(shelf: &mut H) -> Result<(), Failed> {
-    let mut file = ShelfFile::new(shelf, "a");
-    write_all_of(&mut file, b"abc")?;
-    write_all_of(&mut file, b"def")
-}
-
-/// Reads it within its length and beyond.
-fn check_bytes<H: Shelf>(rt: &impl Abort, alloc: Global, shelf: &mut H) -> Result<(), Fail> {
-    let too_long = ShelfError::TooLong { limit: 5 };
-    assert_eq!(rt; read_fault(alloc, shelf, "a", 5), Some(too_long));
-    let bytes = shelf.read(alloc, "a", 6).ok().ok_or("not read")?;
-    assert_eq!(rt; bytes.as_slice(), b"abcdef".as_slice());
+    assert_eq!(rt; shelf.start("a"), Ok(()));
+    assert_eq!(rt; shelf.append("a", b"abc"), Ok(()));
+    assert_eq!(rt; shelf.append("a", b"d"), Err(Failed));
+    assert_eq!(rt; shelf.append("a", b"de"), Err(Failed));
+    assert_eq!(rt; shelf.append("b", b"xyz"), Ok(()));
+    assert_eq!(rt; shelf.start("c"), Err(Failed));
+    assert_eq!(rt; shelf.file("a"), Some(b"abc".as_slice()));
+    assert_eq!(rt;
+        shelf.read(rt.alloc(), "b", 2).err(),
+        Some(ShelfError::TooLong { limit: 2 })
+    );
+    assert_eq!(rt;
+        shelf.read(rt.alloc(), "c", 2).err(),
+        Some(ShelfError::Failed)
+    );
+    assert_eq!(rt; shelf.start("b"), Ok(()));
+    assert_eq!(rt; shelf.file("b"), Some(b"".as_slice()));
+    assert_eq!(rt; shelf.file("c"), None);
     Ok(())
 }
 
@@ -119,14 +83,23 @@ fn check_bytes<H: Shelf>(rt: &impl Abort, alloc: Global, shelf: &mut H) -> Resul
 #[test]
 fn files_are_written_and_read(rt: HostRuntime) -> Result<(), Fail> {
     let mut shelf = FileShelf::new(&rt);
-    let missing = read_fault(rt.alloc(), &mut shelf, "a", 9);
-    assert_eq!(rt; missing, Some(ShelfError::Failed));
-    assert!(rt; is_started(&mut shelf, "a") && write_pieces(&mut shelf).is_ok());
-    assert!(rt; !is_started(&mut shelf, "no/such/folder"));
-    check_bytes(&rt, rt.alloc(), &mut shelf)
-}
-
-#[test]
-fn nothing_is_written(rt: HostRuntime) {
+    assert_eq!(rt;
+        shelf.read(rt.alloc(), "a", 9).err(),
+        Some(ShelfError::Failed)
+    );
+    assert_eq!(rt; shelf.start("a"), Ok(()));
+    {
+        let mut file = ShelfFile::new(&mut shelf, "a");
+        assert_eq!(rt; write_all_of(&mut file, b"abc"), Ok(()));
+        assert_eq!(rt; write_all_of(&mut file, b"def"), Ok(()));
+    }
+    assert_eq!(rt;
+        shelf.read(rt.alloc(), "a", 5).err(),
+        Some(ShelfError::TooLong { limit: 5 })
+    );
+    let bytes = shelf.read(rt.alloc(), "a", 6).ok().ok_or("not read")?;
+    assert_eq!(rt; bytes.as_slice(), b"abcdef".as_slice());
+    assert_eq!(rt; shelf.start("no/such/folder"), Err(Failed));
     assert_eq!(rt; write_all_of(&mut StdSink::new(rt.stdout()), b""), Ok(()));
+    Ok(())
 }
