@@ -1,31 +1,11 @@
 //! The parts of a line: words and numbers. A line has at most 128 bytes.
 
-ghost use Rattle.std.specs.Prelude.{◌≡◌, ◌+◌, ◌≤◌, ◌++◌, length, decimal};
-ghost use Rattle.std.specs.Fmt.{signed_decimal};
+ghost use Rattle.std.specs.Prelude.{◌≡◌, ◌+◌, ◌≤◌, ◌++◌, length};
 ghost use Rattle.arrayvec.specs.ArrayString.{array_string_len};
 ghost use Rattle.iso_defs.specs.Texts.{counted, counted_twice, level_and_pad};
 
 use arrayvec::ArrayString;
-use iso_base::put_level;
-use itoa::Buffer;
-
-fn put_number(n: u64, into: &mut ArrayString<128>)
-    requires room { array_string_len into.old + 40 ≤ 128 }
-    ensures text { into.new.bytes ≡ into.old.bytes ++ decimal n }
-    ensures room { array_string_len into.new ≤ array_string_len into.old + 20 }
-{
-    let mut buffer = Buffer::new();
-    into.push_str(buffer.format(n));
-}
-
-fn put_signed(n: i64, into: &mut ArrayString<128>)
-    requires room { array_string_len into.old + 40 ≤ 128 }
-    ensures text { into.new.bytes ≡ into.old.bytes ++ signed_decimal n }
-    ensures room { array_string_len into.new ≤ array_string_len into.old + 40 }
-{
-    let mut buffer = Buffer::new();
-    into.push_str(buffer.format(n));
-}
+use iso_base::{put_level, put_number};
 
 /// Appends words and a number.
 pub fn put_counted(words: &str, n: u64, into: &mut ArrayString<128>)
@@ -60,7 +40,7 @@ pub fn put_level_and_pad(words: &str, level: i64, pad: i64, into: &mut ArrayStri
     into.push_str(words);
     into.push_str(level_text.as_str());
     into.push(' ');
-    put_signed(pad, into);
+    put_number(pad, into);
 }
 
 /// Appends words and a name.

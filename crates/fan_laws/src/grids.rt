@@ -16,7 +16,8 @@ use iso_base::{EdgeName, Sizes};
 
 /// Two different lattice edges lie together in at most one unit face of the grid.
 pub fn pair_determines_face(a: EdgeName, b: EdgeName, sizes: &Sizes)
-    ensures { (p m r n : ℕ) → a.0 ≢ b.0 → LiesInFace sizes.now p m a.0 → LiesInFace sizes.now p m b.0 → LiesInFace sizes.now r n a.0 → LiesInFace sizes.now r n b.0 → (p ≡ r) × (m ≡ n) }
+    ensures { (p m r n : ℕ) → a.0 ≢ b.0 → LiesInFace sizes.now p m a.0 → LiesInFace sizes.now p m b.0 →
+        LiesInFace sizes.now r n a.0 → LiesInFace sizes.now r n b.0 → (p ≡ r) × (m ≡ n) }
 {
     let _ = sizes.nx();
 }
@@ -47,7 +48,8 @@ pub fn lines_hold_segments()
 /// crossing edges stand in earlier rows and earlier in its own row.
 pub fn mesh_by_rows()
     ensures edges { (g : Grid) (s : ℕ → ℤ) → crossing_edges g s ≡ flat_map (row_edges g s) (below (row_count g)) }
-    ensures centres { (g : Grid) (s : ℕ → ℤ) → flat_map (cell_centres g s) (cells g) ≡ flat_map (λ r. flat_map (cell_centres g s) (row_cells g r)) (below (row_count g)) }
+    ensures centres { (g : Grid) (s : ℕ → ℤ) → flat_map (cell_centres g s) (cells g)
+        ≡ flat_map (λ r. flat_map (cell_centres g s) (row_cells g r)) (below (row_count g)) }
     ensures faces { (g : Grid) (s : ℕ → ℤ) → named_triangles g s ≡ flat_map (λ r. flat_map (cell_triangles g s) (row_cells g r)) (below (row_count g)) }
     ensures numbers { (g : Grid) (s : ℕ → ℤ) (r n : ℕ) → r < row_count g → r * (3 * g.nx) ≤ n → n < r * (3 * g.nx) + 3 * g.nx →
         number_of g s n ≡ length (flat_map (row_edges g s) (below r)) + count_by (λ u. nat_lt u n) (row_edges g s r) }

@@ -36,7 +36,8 @@ pub fn one_fan(volume: &VoxelList, level: Level)
 /// Where a volume has a pad below the level, no edge of the mesh is a border edge, and the mesh is closed.
 pub fn closed_when_padded(volume: &VoxelList, level: Level)
     requires { HasPadBelow volume.now level }
-    ensures inside { (a b : ℕ) → 0 < times_run (triangles volume.now.grid (field volume.now.samples level)) a b → on_border volume.now.grid (field volume.now.samples level) a b ≡ false }
+    ensures inside { (a b : ℕ) → 0 < times_run (triangles volume.now.grid (field volume.now.samples level)) a b →
+        on_border volume.now.grid (field volume.now.samples level) a b ≡ false }
     ensures closed { IsVerdict (triangles volume.now.grid (field volume.now.samples level)) Closed }
 {
     let _ = volume.sizes();
@@ -45,6 +46,8 @@ pub fn closed_when_padded(volume: &VoxelList, level: Level)
 /// At a level that is a whole number, in units of samples, the mesh is that of each sample less the level.
 pub fn whole_levels_stay(volume: &VoxelList, level: i64)
     requires { unsigned_abs level < 2 ^ 33 }
-    ensures vertices { vertices volume.now.grid (field volume.now.samples (pos 1000 *ℤ level)) ≡ vertices volume.now.grid (λ p. sample volume.now.samples p -ℤ level) }
-    ensures triangles { triangles volume.now.grid (field volume.now.samples (pos 1000 *ℤ level)) ≡ triangles volume.now.grid (λ p. sample volume.now.samples p -ℤ level) }
+    ensures vertices { vertices volume.now.grid (field volume.now.samples (pos 1000 *ℤ level))
+        ≡ vertices volume.now.grid (λ p. sample volume.now.samples p -ℤ level) }
+    ensures triangles { triangles volume.now.grid (field volume.now.samples (pos 1000 *ℤ level))
+        ≡ triangles volume.now.grid (λ p. sample volume.now.samples p -ℤ level) }
 {}

@@ -1,9 +1,9 @@
-ghost use Rattle.std.specs.Prelude.{◌≡◌, ◌+◌, ◌<◌, ◌≤◌, ◌^◌, ◌++◌, ◌∷◌, [], unsigned_abs, length, decimal};
+ghost use Rattle.std.specs.Prelude.{◌≡◌, ◌+◌, ◌/◌, ◌<◌, ◌≤◌, ◌^◌, ◌++◌, ◌∷◌, [], unsigned_abs, length, decimal};
 ghost use Rattle.arrayvec.specs.ArrayString.{array_string_len};
 ghost use Rattle.iso_defs.specs.Texts.{decimal_text, level_size_text, level_text, thousandths};
 
+use crate::number::put_number;
 use arrayvec::ArrayString;
-use itoa::Buffer;
 
 /// A number of thousandths of a voxel.
 #[derive(Clone, Copy, Debug, PartialEq, Eq)]
@@ -18,15 +18,15 @@ fn put_digit(digit: u64, into: &mut ArrayString<24>)
     into.push((b'0' + digit as u8) as char);
 }
 
-fn put_whole(n: u64, into: &mut ArrayString<24>)
-    requires bound { n < 10 ^ 17 }
-    requires room { array_string_len into.old + 17 ≤ 24 }
-    ensures text { into.new.bytes ≡ into.old.bytes ++ decimal n }
+/// Appends the whole part of a number of thousandths.
+#[tactic(auto, using(crate::proofs::Digits::whole_part, crate::proofs::Digits::short_whole_part))]
+fn put_whole_part(n: u64, into: &mut ArrayString<24>)
+    requires room { array_string_len into.old + 20 ≤ 24 }
+    ensures text { into.new.bytes ≡ into.old.bytes ++ decimal (n / 1000) }
     ensures room { array_string_len into.new ≤ array_string_len into.old + 17 }
-    ensures short { n < 10 ^ 11 → array_string_len into.new ≤ array_string_len into.old + 11 }
+    ensures short { n ≤ 2 ^ 44 → array_string_len into.new ≤ array_string_len into.old + 11 }
 {
-    let mut buffer = Buffer::new();
-    into.push_str(buffer.format(n));
+    put_number(n / 1000, into);
 }
 
 fn put_thousandths(n: u64, into: &mut ArrayString<24>)
@@ -34,7 +34,7 @@ fn put_thousandths(n: u64, into: &mut ArrayString<24>)
     ensures text { into.new.bytes ≡ into.old.bytes ++ thousandths n }
     ensures short { n ≤ 2 ^ 44 → array_string_len into.new ≤ array_string_len into.old + 15 }
 {
-    put_whole(n / 1000, into);
+    put_whole_part(n, into);
     into.push('.');
     let rest = n % 1000;
     put_digit(rest / 100, into);
@@ -62,7 +62,7 @@ fn put_level_size(n: u64, into: &mut ArrayString<24>)
     ensures text { into.new.bytes ≡ into.old.bytes ++ level_size_text n }
 {
     if n % 1000 == 0 {
-        put_whole(n / 1000, into);
+        put_whole_part(n, into);
     } else {
         put_thousandths(n, into);
     }

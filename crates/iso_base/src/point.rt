@@ -1,7 +1,7 @@
 ghost use Rattle.std.specs.Prelude.{◌≡◌, ◌<◌};
 ghost use Rattle.iso_defs.specs.Grid.{point_count};
 ghost use Rattle.iso_base.specs.Sizing.{IsGrid};
-ghost use Rattle.iso_base.specs.Points.{IsPoint, point_at, index_of, next_along, is_point};
+ghost use Rattle.iso_base.specs.Points.{IsPoint, point_at, index_of, is_point};
 
 use crate::sizes::Sizes;
 
@@ -26,22 +26,6 @@ pub fn point_of(sizes: &Sizes, index: u32) -> Point
         y: row % sizes.ny(),
         z: row / sizes.ny(),
     }
-}
-
-/// The point one further along an axis: 0 is x, 1 is y, 2 is z.
-pub fn next_point(sizes: &Sizes, point: Point, axis: u8) -> Point
-    requires axis { axis < 3 }
-    requires in_grid { IsPoint sizes.now point }
-    ensures { result ≡ next_along axis point }
-{
-    let _ = sizes.nx();
-    let mut next = point;
-    match axis {
-        0 => next.x += 1,
-        1 => next.y += 1,
-        _ => next.z += 1,
-    }
-    next
 }
 
 /// The index of a point: x is fastest, z slowest.

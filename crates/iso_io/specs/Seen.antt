@@ -10,7 +10,8 @@ pub record Feed : Type 0 where
   pub left : Option (List ℕ)
   pub faults : ℕ
 
--- What lies beside the bytes of a sink, and no call changes: the shelf that it writes to, by the name of the loan, with the file's name; and that name and the other files, where they are told.
+-- What lies beside the bytes of a sink, and no call changes: the shelf that it writes to, by the name of the loan,
+-- with the file's name; and that name and the other files, where they are told.
 pub record Side : Type 0 where
   pub held : List (GName × List ℕ)
   pub others : Option (List ℕ × Files)
@@ -65,6 +66,7 @@ pub record TakesPiece (old new : Feed) (before after : List ℕ) (n : ℕ) : Typ
 
 -- A text was put behind what waits in a buffer. What was written is a front of both, and the rest waits.
 pub record Stages {T E : Type 0} (old new : Tape) (waiting after : List ℕ) (result : Result T E) (text : List ℕ) : Type 0 where
-  pub gained : MatchResult result (λ _. (front : List ℕ) × (waiting ++ text ≡ front ++ after) × Appends old.taken new.taken front) (λ _. AppendsFront old.taken new.taken (waiting ++ text))
+  pub gained : MatchResult result (λ _. (front : List ℕ) × (waiting ++ text ≡ front ++ after) × Appends old.taken new.taken front)
+      (λ _. AppendsFront old.taken new.taken (waiting ++ text))
   pub beside : new.beside ≡ old.beside
   pub cause : HasCause old.faults new.faults result

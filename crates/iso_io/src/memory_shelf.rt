@@ -3,7 +3,7 @@ ghost use Rattle.std.specs.FinMap.{get};
 ghost use Rattle.std.specs.Option.{option_map};
 ghost use Rattle.iso_io.specs.Files.{no_files};
 ghost use Rattle.iso_io.specs.Places.{has_place};
-ghost use Rattle.iso_io.specs.Memory.{KeptFiles, stored, one_more};
+ghost use Rattle.iso_io.specs.Memory.{KeptFiles, empty_shelf, stored, one_more};
 
 use crate::Failed;
 use crate::places::Places;
@@ -39,7 +39,7 @@ impl MemShelf {
     /// `append` whose numbers stand in `failing` fail, all counted together from 1, and change no file.
     pub fn new(alloc: Global, files: u32, room: u32, failing: Vec<u64>) -> Result<MemShelf, Memory>
         requires { files * room ≤ 2 ^ 32 }
-        ensures { IfOk result (λ m. m ≡ record { places = record { files = no_files; free = files; room = room }; cut = 0; failing = failing.items; calls = 0; faults = 0 }) }
+        ensures { IfOk result (λ m. m ≡ empty_shelf files room 0 failing.items) }
     {
         MemShelf::cutting(alloc, files, room, 0, failing)
     }
@@ -54,7 +54,7 @@ impl MemShelf {
         failing: Vec<u64>,
     ) -> Result<MemShelf, Memory>
         requires { files * room ≤ 2 ^ 32 }
-        ensures { IfOk result (λ m. m ≡ record { places = record { files = no_files; free = files; room = room }; cut = cut; failing = failing.items; calls = 0; faults = 0 }) }
+        ensures { IfOk result (λ m. m ≡ empty_shelf files room cut failing.items) }
     {
         let places = Places::new(alloc, files, room)?;
         Ok(MemShelf {
@@ -88,7 +88,7 @@ impl Shelf for MemShelf {
     ghost use Rattle.std.specs.Prelude.{◌≡◌, ◌⊎◌, ◌+◌, ◌<◌, ◌≤◌, ◌↔◌, ◌++◌, [], length, false, None, Some, IfOk, IfErr, IfSome, IsErr, IsErrOf, OnOk, OnErr};
     ghost use Rattle.std.specs.FinMap.{get};
     ghost use Rattle.iso_io.specs.Causes.{Rose};
-    ghost use Rattle.iso_io.specs.Memory.{store_of, stored, called, missed, cut_short, IsFailing};
+    ghost use Rattle.iso_io.specs.Memory.{store_of, stored, called, missed, cut_short, IsFailing, RefusesAppend};
     ghost use Rattle.iso_io.specs.Places.{has_place, content_in};
     ghost use Rattle.iso_io.specs.Shelves.{Starts, Grows};
 
@@ -137,7 +137,7 @@ impl Shelf for MemShelf {
 
     fn append(&mut self, name: &str, bytes: &[u8]) -> Result<(), Failed>
         ensures grows { Grows (store_of self.old) (store_of self.new) result name.now bytes.now }
-        ensures fails { IsErr result ↔ (IsFailing self.old ⊎ (has_place self.old.places name.now ≡ false) ⊎ (self.old.places.room < length (content_in self.old.places name.now) + length bytes.now)) }
+        ensures fails { IsErr result ↔ RefusesAppend self.old name.now bytes.now }
         ensures appended { OnOk result (self.new ≡ stored (called self.old) name.now (content_in self.old.places name.now ++ bytes.now)) }
         ensures cut { IsFailing self.old → self.new ≡ cut_short self.old name.now bytes.now }
         ensures kept { (IsFailing self.old → ⊥) → OnErr result (self.new ≡ missed self.old) }

@@ -6,17 +6,16 @@ ghost use Rattle.iso_io.specs.Seen.{Puts};
 ghost use Rattle.mesh_text.specs.Lines.{ply_head, ply_head_bytes, points_head, points_head_bytes};
 
 use arrayvec::ArrayString;
+use iso_base::put_number;
 use iso_io::{Failed, Sink, write_all_of};
-use itoa::Buffer;
 
 #[tactic(auto, unfolding(crate::specs::Lines::points_head_bytes))]
 fn points_head_parts(vertices: u32) -> ArrayString<160>
     ensures { result.bytes ≡ points_head_bytes vertices }
 {
     let mut text = ArrayString::new();
-    let mut buffer = Buffer::new();
     text.push_str("ply\nformat ascii 1.0\nelement vertex ");
-    text.push_str(buffer.format(vertices));
+    put_number(vertices, &mut text);
     text.push_str("\nproperty float x\nproperty float y\nproperty float z\nend_header\n");
     text
 }
@@ -36,14 +35,14 @@ pub fn put_points_head<K: Sink>(sink: &mut K, vertices: u32) -> Result<(), Faile
     write_all_of(sink, points_head_text(vertices).as_str().as_bytes())
 }
 
+/// Appends words and a number.
 fn put_count(before: &str, count: u32, text: &mut ArrayString<256>)
     requires { array_string_len text.old + length before.now + 10 ≤ 256 }
     ensures text { text.new.bytes ≡ text.old.bytes ++ (before.now ++ decimal count) }
     ensures room { array_string_len text.new ≤ array_string_len text.old + length before.now + 10 }
 {
-    let mut buffer = Buffer::new();
     text.push_str(before);
-    text.push_str(buffer.format(count));
+    put_number(count, text);
 }
 
 #[tactic(auto, unfolding(crate::specs::Lines::ply_head_bytes))]

@@ -1,5 +1,6 @@
 -- What the values of the fields must be, and the refusals where they are not.
-use Rattle.std.specs.Prelude.{ℕ, zero, Bool, true, false, ◌==◌, ◌||◌, List, ℤ, pos, Option, Some, None, Result, Ok, Err, ok_or, option_and_then, if◌then◌else◌, codes, ⊤}
+use Rattle.std.specs.Prelude.{ℕ, zero, Bool, true, false, ◌==◌, ◌||◌, List, ℤ, pos, Option, Some, None, Result, Ok, Err, ok_or, option_and_then}
+use Rattle.std.specs.Prelude.{if◌then◌else◌, codes, ⊤}
 use Rattle.iso_defs.specs.Grid.{Grid}
 use Rattle.iso_base.specs.Sizing.{sized}
 use Rattle.iso_base.specs.declared.kind.SampleKind.{SampleKind}
@@ -14,7 +15,8 @@ use Rattle.nrrd.specs.declared.encoding.Encoding.{Encoding}
 use Rattle.nrrd.specs.declared.encoding.Encoding.TheVariants.{Raw, Text, Hex}
 use Rattle.nrrd.specs.declared.layout.Layout.{Layout}
 use Rattle.nrrd.specs.declared.fault.NrrdFault.{NrrdFault}
-use Rattle.nrrd.specs.declared.fault.NrrdFault.TheVariants.{MissingField, BadValue, NotThreeAxes, UnsupportedKind, UnsupportedEncoding, SkipUnsupported, Size, NoEndian}
+use Rattle.nrrd.specs.declared.fault.NrrdFault.TheVariants.{MissingField, BadValue, NotThreeAxes, UnsupportedKind, UnsupportedEncoding}
+use Rattle.nrrd.specs.declared.fault.NrrdFault.TheVariants.{SkipUnsupported, Size, NoEndian}
 use Rattle.text_lines.specs.Words.{is_word, words_of, three_in}
 use Rattle.text_lines.specs.Numbers.{number_of, whole_of}
 use Rattle.text_lines.specs.Refusals.{◌>>=◌}
@@ -43,10 +45,14 @@ unfoldable pub is_u8 : List ℕ → Bool
 is_u8 w = is_word w (codes "uchar") || is_word w (codes "unsigned char") || is_word w (codes "uint8") || is_word w (codes "uint8_t")
 
 unfoldable pub is_i16 : List ℕ → Bool
-is_i16 w = is_word w (codes "short") || is_word w (codes "short int") || is_word w (codes "signed short") || is_word w (codes "signed short int") || is_word w (codes "int16") || is_word w (codes "int16_t")
+is_i16 w =
+    is_word w (codes "short") || is_word w (codes "short int") || is_word w (codes "signed short")
+    || is_word w (codes "signed short int") || is_word w (codes "int16") || is_word w (codes "int16_t")
 
 unfoldable pub is_u16 : List ℕ → Bool
-is_u16 w = is_word w (codes "ushort") || is_word w (codes "unsigned short") || is_word w (codes "unsigned short int") || is_word w (codes "uint16") || is_word w (codes "uint16_t")
+is_u16 w =
+    is_word w (codes "ushort") || is_word w (codes "unsigned short") || is_word w (codes "unsigned short int")
+    || is_word w (codes "uint16") || is_word w (codes "uint16_t")
 
 unfoldable pub is_i32 : List ℕ → Bool
 is_i32 w = is_word w (codes "int") || is_word w (codes "signed int") || is_word w (codes "int32") || is_word w (codes "int32_t")
@@ -94,7 +100,8 @@ no_skip (Some text) f = skip_number f (number_of text)
 -- three numbers of three words
 abbrev pub three_numbers : Option (List ℕ × List ℕ × List ℕ) → Option Grid
 three_numbers None = None
-three_numbers (Some words) = option_and_then (λ nx. option_and_then (λ ny. option_and_then (λ nz. Some (record { nx = nx; ny = ny; nz = nz })) (whole_of words.2)) (whole_of words.1)) (whole_of words.0)
+three_numbers (Some words) =
+    option_and_then (λ nx. option_and_then (λ ny. option_and_then (λ nz. Some (record { nx = nx; ny = ny; nz = nz })) (whole_of words.2)) (whole_of words.1)) (whole_of words.0)
 
 -- the sizes within the limits
 abbrev pub size_checked : Result Grid SizeFault → Result Grid NrrdFault

@@ -1,5 +1,6 @@
 -- What the lines of a header say.
-use Rattle.std.specs.Prelude.{ℕ, ◌+◌, Bool, ◌==◌, ◌||◌, List, map, take, drop, length, get_or, position, filter_map, Option, Some, None, option_and_then, is_some, if◌then◌else◌, codes}
+use Rattle.std.specs.Prelude.{ℕ, ◌+◌, Bool, ◌==◌, ◌||◌, List, map, take, drop, length, get_or, position, filter_map, Option, Some, None}
+use Rattle.std.specs.Prelude.{option_and_then, is_some, if◌then◌else◌, codes}
 use Rattle.std.specs.List.{slice_get, range_with_len}
 use Rattle.nrrd.specs.declared.fault.Field.{Field}
 use Rattle.nrrd.specs.declared.fault.Field.TheVariants.{Dimension, Kind, Sizes, Encoding, Endian, LineSkip, ByteSkip}

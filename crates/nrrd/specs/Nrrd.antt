@@ -23,7 +23,9 @@ use Rattle.nrrd_text.specs.Hex.{hex_samples}
 
 -- the first line, of any of the five versions
 unfoldable pub is_first : List ℕ → Bool
-is_first text = bytes_eq text (codes "NRRD0001") || bytes_eq text (codes "NRRD0002") || bytes_eq text (codes "NRRD0003") || bytes_eq text (codes "NRRD0004") || bytes_eq text (codes "NRRD0005")
+is_first text =
+    bytes_eq text (codes "NRRD0001") || bytes_eq text (codes "NRRD0002") || bytes_eq text (codes "NRRD0003")
+    || bytes_eq text (codes "NRRD0004") || bytes_eq text (codes "NRRD0005")
 
 -- what the lines say, where the whole header has this many bytes
 abbrev pub header_of : ℕ → List Line → Result (Fields × List ℕ) NrrdFault

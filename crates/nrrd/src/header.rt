@@ -106,7 +106,8 @@ pub fn behind_header(bytes: &[u8]) -> &[u8]
 
 /// The first line of what is left of a header, if it is not its end.
 fn header_line(bytes: &[u8]) -> Option<(&[u8], &[u8])>
-    ensures texts { MatchOption result (header_texts (lines_of bytes.now) ≡ []) (λ x. header_texts (lines_of bytes.now) ≡ x.0.now ∷ header_texts (lines_of x.1.now)) }
+    ensures texts { MatchOption result (header_texts (lines_of bytes.now) ≡ [])
+        (λ x. header_texts (lines_of bytes.now) ≡ x.0.now ∷ header_texts (lines_of x.1.now)) }
     ensures samples { IfSome result (λ x. sample_bytes (lines_of bytes.now) ≡ sample_bytes (lines_of x.1.now)) }
     ensures shorter { IfSome result (λ x. length x.1.now + 1 ≤ length bytes.now) }
 {
@@ -121,7 +122,8 @@ fn header_line(bytes: &[u8]) -> Option<(&[u8], &[u8])>
 /// its second line on, which is line 2, and of the samples.
 pub fn read_fields(bytes: &[u8]) -> Result<Header<'_>, NrrdFault>
     requires { length bytes.now ≤ 65536 + length (sample_bytes (lines_of bytes.now)) }
-    ensures { map_ok seen_fields result ≡ unless_fault (first_fault (meanings (header_texts (lines_of bytes.now)))) (Ok (fields_in (meanings (header_texts (lines_of bytes.now))))) }
+    ensures { map_ok seen_fields result
+        ≡ unless_fault (first_fault (meanings (header_texts (lines_of bytes.now)))) (Ok (fields_in (meanings (header_texts (lines_of bytes.now))))) }
 {
     let mut header = Header::empty();
     let mut number = 2u32;

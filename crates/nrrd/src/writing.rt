@@ -9,9 +9,8 @@ ghost use Rattle.nrrd.specs.Writing.{coded_by, coded_head_text, encoding_text, h
 use crate::encoding::Encoding;
 use arrayvec::ArrayString;
 use byteorder::{ByteOrder, LittleEndian};
-use iso_base::{SampleKind, Sizes};
+use iso_base::{SampleKind, Sizes, put_number};
 use iso_io::{Failed, Sink, write_all_of};
-use itoa::Buffer;
 
 /// The name of a kind in print.
 #[tactic(auto, unfolding(crate::specs::Writing::kind_text))]
@@ -50,29 +49,18 @@ fn encoding_name(encoding: Encoding) -> &'static str
     }
 }
 
-/// One size in print.
-fn put_size(n: u32, into: &mut ArrayString<16>)
-    requires bound { n ≤ 1026 }
-    requires room { array_string_len into.old + 4 ≤ 16 }
-    ensures text { into.new.bytes ≡ into.old.bytes ++ decimal n }
-    ensures room { array_string_len into.new ≤ array_string_len into.old + 4 }
-{
-    let mut buffer = Buffer::new();
-    into.push_str(buffer.format(n));
-}
-
 /// The three sizes in print.
 #[tactic(auto, unfolding(crate::specs::Writing::sizes_text))]
-fn made_sizes(sizes: &Sizes) -> ArrayString<16>
+fn made_sizes(sizes: &Sizes) -> ArrayString<32>
     ensures text { result.bytes ≡ sizes_text sizes.now }
-    ensures short { array_string_len result ≤ 14 }
+    ensures short { array_string_len result ≤ 32 }
 {
     let mut text = ArrayString::new();
-    put_size(sizes.nx(), &mut text);
+    put_number(sizes.nx(), &mut text);
     text.push_str(" ");
-    put_size(sizes.ny(), &mut text);
+    put_number(sizes.ny(), &mut text);
     text.push_str(" ");
-    put_size(sizes.nz(), &mut text);
+    put_number(sizes.nz(), &mut text);
     text
 }
 
@@ -315,7 +303,8 @@ pub fn put_samples<K: Sink>(sink: &mut K, kind: SampleKind, values: &[i64]) -> R
 
 /// The number of bytes of a volume in print, its head and its samples.
 pub fn volume_bytes(sizes: &Sizes, kind: SampleKind) -> u64
-    ensures { (samples : List ℤ) → length samples ≡ point_count sizes.now → result ≡ length (save_text (record { grid = sizes.now; kind = kind; samples = samples })) }
+    ensures { (samples : List ℤ) → length samples ≡ point_count sizes.now →
+        result ≡ length (save_text (record { grid = sizes.now; kind = kind; samples = samples })) }
 {
     let head = made_head(Encoding::Raw, sizes, kind).len() as u64;
     head + u64::from(kind.width()) * u64::from(sizes.count())

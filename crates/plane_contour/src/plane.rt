@@ -129,7 +129,8 @@ impl Plane<'_> {
         requires plane { IsPlane self.now }
         requires x { x + 1 < self.now.sizes.nx }
         requires y { y + 1 < self.now.sizes.ny }
-        ensures { (i k : ℕ) → i < 4 → k < 4 → (slice_index result.next i == k) ≡ has_pair (side_pairs self.now.sizes (field_of self.now) (index self.now.sizes x y self.now.k)) i k }
+        ensures { (i k : ℕ) → i < 4 → k < 4 →
+            (slice_index result.next i == k) ≡ has_pair (side_pairs self.now.sizes (field_of self.now) (index self.now.sizes x y self.now.k)) i k }
     {
         square_segments(
             self.value(x, y),
@@ -183,7 +184,8 @@ fn square_segments(a: i64, b: i64, c: i64, d: i64) -> FaceSegs
     requires b { unsigned_abs b < 2 ^ 44 }
     requires c { unsigned_abs c < 2 ^ 44 }
     requires d { unsigned_abs d < 2 ^ 44 }
-    ensures { (i k : ℕ) → i < 4 → k < 4 → (slice_index result.next i == k) ≡ has_pair (value_segments a b c d) i k }
+    ensures { (i k : ℕ) → i < 4 → k < 4 →
+            (slice_index result.next i == k) ≡ has_pair (value_segments a b c d) i k }
 {
     let (first, second) = (is_above(a), is_above(b));
     let (third, fourth) = (is_above(c), is_above(d));

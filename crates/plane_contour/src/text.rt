@@ -9,9 +9,8 @@ ghost use Rattle.plane_contour.specs.Texts.{contours_text, head_line, line_text,
 
 use crate::line::{Contours, Line};
 use arrayvec::ArrayString;
-use iso_base::{EdgeName, Thousandth, put_decimal};
+use iso_base::{EdgeName, Thousandth, put_decimal, put_number};
 use iso_io::{Failed, LINES, Sink, gather, write_all_of};
-use itoa::Buffer;
 
 /// A pad's layer along an axis, in thousandths.
 const LAYER: i64 = 1000;
@@ -61,8 +60,7 @@ fn head_text(line: &Line) -> ArrayString<32>
 {
     let mut text = ArrayString::new();
     text.push_str(if line.cycle() { "cycle " } else { "path " });
-    let mut buffer = Buffer::new();
-    text.push_str(buffer.format(line.points().len()));
+    put_number(line.points().len(), &mut text);
     text.push('\n');
     text
 }

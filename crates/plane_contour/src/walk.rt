@@ -81,7 +81,8 @@ impl Plane<'_> {
         requires active { IsActive (pairs_of self.now) (name_at self.now.sizes self.now.k start) }
         requires room { length seen.old ≡ 2 * plane_size self.now.sizes }
         requires near { All IsNear points.old.items }
-        ensures points { OnOk result (points.new.items ≡ points.old.items ++ map (point_at self.now.sizes (field_of self.now)) (line_from (pairs_of self.now) (name_at self.now.sizes self.now.k start))) }
+        ensures points { OnOk result (points.new.items ≡ points.old.items
+            ++ map (point_at self.now.sizes (field_of self.now)) (line_from (pairs_of self.now) (name_at self.now.sizes self.now.k start))) }
         ensures near { OnOk result (All IsNear points.new.items) }
         ensures marks { OnOk result (AreMarked self.now (name_at self.now.sizes self.now.k start) seen.old seen.new) }
     {

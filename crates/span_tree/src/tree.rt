@@ -86,7 +86,8 @@ impl SpanTree {
     /// Where the tree is right for a volume, that is its next brick with a crossing edge. None: there is none from `from` on.
     pub fn next_active(&self, from: u32, level: Level) -> Option<BrickId>
         ensures value { IsNext (λ b. straddles level (span_at self.now.spans b)) from (length self.now.spans) result }
-        ensures active { (v : Volume) → IsVolume v → IsRightFor self.now v → IsNext (is_active v.grid (field v.samples level)) from (brick_count v.grid) result }
+        ensures active { (v : Volume) → IsVolume v → IsRightFor self.now v →
+            IsNext (is_active v.grid (field v.samples level)) from (brick_count v.grid) result }
     {
         let half = places_below(self.height);
         let leaf = next_leaf(&self.nodes, 1, self.height, half + from as usize, level)?;

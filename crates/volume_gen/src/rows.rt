@@ -59,7 +59,8 @@ fn stage_rows<K: Sink>(
     seed: u64,
     sizes: &Sizes,
 ) -> Result<(), Failed>
-    ensures { Stages (K.seen sink.old) (K.seen sink.new) waiting.old.items waiting.new.items result (samples_text U8 (first_samples seed sizes.now (point_count sizes.now))) }
+    ensures { Stages (K.seen sink.old) (K.seen sink.new) waiting.old.items waiting.new.items result
+        (samples_text U8 (first_samples seed sizes.now (point_count sizes.now))) }
 {
     let (nx, ny) = (sizes.nx(), sizes.ny());
     for row in 0..ny * sizes.nz() {

@@ -47,7 +47,7 @@ impl SoakLines {
     }
 
     /// Replaces `line` by the next line. Where none is left, `line` stays and the answer is false.
-    pub fn next_line(&mut self, line: &mut ArrayString<32>) -> bool
+    pub fn next_line(&mut self, line: &mut ArrayString<96>) -> bool
         ensures more { OnTrue result (self.old ≡ line.new.bytes ∷ self.new) }
         ensures end { OnFalse result ((self.old ≡ []) × (self.new ≡ []) × (line.new.bytes ≡ line.old.bytes)) }
     {
