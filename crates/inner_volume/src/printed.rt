@@ -55,7 +55,8 @@ fn gather_rows<K: Sink>(
 ) -> Result<u64, Failed>
     requires sizes { sizes.now ≡ inner_grid store.now }
     requires room { length row.old ≡ sizes.now.nx }
-    ensures lines { Stages (K.seen sink.old) (K.seen sink.new) waiting.old waiting.new result (flat_map (coded_line hex store.now.kind) (rows_of (inner_voxels store.now))) }
+    ensures lines { Stages (K.seen sink.old) (K.seen sink.new) waiting.old waiting.new result
+        (flat_map (coded_line hex store.now.kind) (rows_of (inner_voxels store.now))) }
     ensures bytes { IfOk result (λ n. n ≡ length (flat_map (coded_line hex store.now.kind) (rows_of (inner_voxels store.now)))) }
     ensures bound { IfOk result (λ n. n ≤ 25000 * (sizes.now.ny * sizes.now.nz)) }
 {
@@ -112,7 +113,8 @@ fn fill_file<H: Shelf>(
     store: &BrickStore,
     hex: bool,
 ) -> Result<u64, Failed>
-    ensures text { Puts (file_tape file.old.shelf.ghost_name (H.seen file.old.shelf.now) file.old.name.now) (file_tape file.new.shelf.ghost_name (H.seen file.new.shelf.now) file.new.name.now) result (saved_in_print hex store.now) }
+    ensures text { Puts (file_tape file.old.shelf.ghost_name (H.seen file.old.shelf.now) file.old.name.now)
+        (file_tape file.new.shelf.ghost_name (H.seen file.new.shelf.now) file.new.name.now) result (saved_in_print hex store.now) }
     ensures bytes { IfOk result (λ n. n ≡ length (saved_in_print hex store.now)) }
     ensures same_reference { file.new.shelf.ghost_name ≡ file.old.shelf.ghost_name }
 {

@@ -23,7 +23,8 @@ const BLOCK: usize = 4096;
 fn row_front(store: &BrickStore, sizes: &Sizes, row: u32) -> Point
     requires sizes { sizes.now ≡ inner_grid store.now }
     requires row { row < sizes.now.ny * sizes.now.nz }
-    ensures value { (x : ℕ) → x < sizes.now.nx → sample store.now.samples (index_of store.now.grid result + x) ≡ get_or (inner_samples store.now) (row * sizes.now.nx + x) (pos 0) }
+    ensures value { (x : ℕ) → x < sizes.now.nx → sample store.now.samples (index_of store.now.grid result + x)
+        ≡ get_or (inner_samples store.now) (row * sizes.now.nx + x) (pos 0) }
     ensures in_grid { IsPoint store.now.grid result }
     ensures fits { result.x + sizes.now.nx ≤ store.now.grid.nx }
 {
@@ -134,7 +135,8 @@ fn put_volume<K: Sink>(sink: &mut K, store: &BrickStore, sizes: &Sizes) -> Resul
 
 // Apart, so that its caller learns that it is the same shelf afterwards.
 fn fill_file<H: Shelf>(file: &mut ShelfFile<H>, store: &BrickStore) -> Result<u64, Failed>
-    ensures text { Puts (file_tape file.old.shelf.ghost_name (H.seen file.old.shelf.now) file.old.name.now) (file_tape file.new.shelf.ghost_name (H.seen file.new.shelf.now) file.new.name.now) result (saved_text store.now) }
+    ensures text { Puts (file_tape file.old.shelf.ghost_name (H.seen file.old.shelf.now) file.old.name.now)
+        (file_tape file.new.shelf.ghost_name (H.seen file.new.shelf.now) file.new.name.now) result (saved_text store.now) }
     ensures bytes { IfOk result (λ n. n ≡ length (saved_text store.now)) }
     ensures same_reference { file.new.shelf.ghost_name ≡ file.old.shelf.ghost_name }
 {

@@ -101,7 +101,8 @@ no_skip (Some text) f = skip_number f (number_of text)
 abbrev pub three_numbers : Option (List ℕ × List ℕ × List ℕ) → Option Grid
 three_numbers None = None
 three_numbers (Some words) =
-    option_and_then (λ nx. option_and_then (λ ny. option_and_then (λ nz. Some (record { nx = nx; ny = ny; nz = nz })) (whole_of words.2)) (whole_of words.1)) (whole_of words.0)
+    option_and_then (λ nx. option_and_then (λ ny. option_and_then (λ nz.
+    Some (record { nx = nx; ny = ny; nz = nz })) (whole_of words.2)) (whole_of words.1)) (whole_of words.0)
 
 -- the sizes within the limits
 abbrev pub size_checked : Result Grid SizeFault → Result Grid NrrdFault

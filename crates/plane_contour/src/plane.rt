@@ -185,7 +185,7 @@ fn square_segments(a: i64, b: i64, c: i64, d: i64) -> FaceSegs
     requires c { unsigned_abs c < 2 ^ 44 }
     requires d { unsigned_abs d < 2 ^ 44 }
     ensures { (i k : ℕ) → i < 4 → k < 4 →
-            (slice_index result.next i == k) ≡ has_pair (value_segments a b c d) i k }
+        (slice_index result.next i == k) ≡ has_pair (value_segments a b c d) i k }
 {
     let (first, second) = (is_above(a), is_above(b));
     let (third, fourth) = (is_above(c), is_above(d));

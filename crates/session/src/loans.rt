@@ -1,3 +1,4 @@
+//! What a session is lent.
 ghost use Rattle.std.specs.Prelude.{◌≡◌};
 
 use bench_core::Bench;
@@ -15,6 +16,7 @@ pub struct Session<'a, K: Sink, H: Shelf, L: Ledger> {
 }
 
 impl<'a, K: Sink, H: Shelf, L: Ledger> Session<'a, K, H, L> {
+    /// The four loans as one value: each call of a session keeps them, and what it does to them is seen by its caller.
     pub fn new(
         bench: &'a mut Bench,
         shelf: &'a mut H,
