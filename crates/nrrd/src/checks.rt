@@ -185,10 +185,7 @@ pub fn sizes_of(text: &[u8]) -> Result<Sizes, NrrdFault>
             field: Field::Sizes,
         });
     };
-    match Sizes::new(nx, ny, nz) {
-        Ok(sizes) => Ok(sizes),
-        Err(fault) => Err(NrrdFault::Size(fault)),
-    }
+    Sizes::new(nx, ny, nz).map_err(NrrdFault::Size)
 }
 
 /// Whether the high bytes come first. It is asked only of samples that have a byte order.
