@@ -1,5 +1,4 @@
-ghost use Rattle.std.specs.Prelude.{◌≡◌, ℕ, ◌+◌, ◌*◌, ◌/◌, ◌%◌, ◌^◌, ◌<◌, ◌≤◌, ◌==◌, ◌||◌, IsTrue, if◌then◌else◌, slice_index, length, map};
-ghost use Rattle.std.specs.Prelude.{unsigned_abs, nat_lt};
+ghost use Rattle.std.specs.Prelude.{◌≡◌, ℕ, ◌+◌, ◌*◌, ◌/◌, ◌%◌, ◌^◌, ◌<◌, ◌≤◌, ◌==◌, ◌||◌, IsTrue, if◌then◌else◌, slice_index, length, map, unsigned_abs, nat_lt};
 ghost use Rattle.std.specs.List.{All, filter, sum};
 ghost use Rattle.iso_defs.specs.Lists.{below, has_pair};
 ghost use Rattle.iso_defs.specs.Face.{holds_at};

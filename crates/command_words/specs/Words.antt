@@ -1,6 +1,5 @@
 -- What the words of a command line ask for.
-use Rattle.std.specs.Prelude.{◌&&◌, ◌≤◌, nat_le, nat_lt, int_le, if◌then◌else◌, ℕ, Bool, true, false, List, [], ◌∷◌, codes, bytes_eq, Option, Some}
-use Rattle.std.specs.Prelude.{None, Result, Ok, Err, ℤ, pos, negsuc, unsigned_abs, IfSome}
+use Rattle.std.specs.Prelude.{◌&&◌, ◌≤◌, nat_le, nat_lt, int_le, if◌then◌else◌, ℕ, Bool, true, false, List, [], ◌∷◌, codes, bytes_eq, Option, Some, None, Result, Ok, Err, ℤ, pos, negsuc, unsigned_abs, IfSome}
 use Rattle.std.specs.Option.{option_map, option_and_then}
 use Rattle.text_lines.specs.Numbers.{number_of, whole_of}
 use Rattle.text_lines.specs.Levels.{level_number_of}

@@ -3,8 +3,7 @@ ghost use Rattle.std.specs.Prelude.{◌≡◌, ◌≤◌, length, ℤ, Option, N
 ghost use Rattle.iso_base.specs.Samples.{IsSample};
 ghost use Rattle.iso_io.specs.Seen.{ReadsAll};
 ghost use Rattle.bench_core.specs.Machine.{begin_fault, IsAbovePad};
-ghost use Rattle.commands.specs.Volumes.{answer_of, volume_limit, FileIs, HoldsNone, HoldsVolume, IsNotRaised, IsNoVolume, IsRead, LacksVolume};
-ghost use Rattle.commands.specs.Volumes.{volume_of, with_pad};
+ghost use Rattle.commands.specs.Volumes.{answer_of, volume_limit, FileIs, HoldsNone, HoldsVolume, IsNotRaised, IsNoVolume, IsRead, LacksVolume, volume_of, with_pad};
 
 use endings::{Answer, VolumeFault};
 use iso_base::Level;

@@ -1,6 +1,5 @@
 -- The triangle list that an OBJ text gives, or the first refusal.
-use Rattle.std.specs.Prelude.{ℕ, suc, ◌+◌, ◌-◌, Bool, true, false, ◌==◌, ◌&&◌, nat_le, nat_lt, List, [], ◌∷◌, map, take, length, filter_map, filter}
-use Rattle.std.specs.Prelude.{bytes_eq, ℤ, pos, negsuc, Option, Some, None, ok_or, Result, Ok, if◌then◌else◌, codes}
+use Rattle.std.specs.Prelude.{ℕ, suc, ◌+◌, ◌-◌, Bool, true, false, ◌==◌, ◌&&◌, nat_le, nat_lt, List, [], ◌∷◌, map, take, length, filter_map, filter, bytes_eq, ℤ, pos, negsuc, Option, Some, None, ok_or, Result, Ok, if◌then◌else◌, codes}
 use Rattle.std.specs.List.{slice_get, range_with_len, before_first}
 use Rattle.iso_base.specs.Triangles.{Mesh}
 use Rattle.mesh_read.specs.declared.fault.MeshFault.{MeshFault}

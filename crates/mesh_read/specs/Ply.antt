@@ -1,6 +1,5 @@
 -- The triangle list that a PLY text gives, or the first refusal.
-use Rattle.std.specs.Prelude.{ℕ, ◌+◌, Bool, true, false, ◌==◌, ◌||◌, ◌&&◌, not, nat_lt, List, [], ◌∷◌, map, take, drop, length, filter, filter_map}
-use Rattle.std.specs.Prelude.{zip, bytes_eq, Option, Some, None, option_and_then, ok_or, Result, Ok, Err, if◌then◌else◌, codes}
+use Rattle.std.specs.Prelude.{ℕ, ◌+◌, Bool, true, false, ◌==◌, ◌||◌, ◌&&◌, not, nat_lt, List, [], ◌∷◌, map, take, drop, length, filter, filter_map, zip, bytes_eq, Option, Some, None, option_and_then, ok_or, Result, Ok, Err, if◌then◌else◌, codes}
 use Rattle.std.specs.Option.{option_or}
 use Rattle.std.specs.List.{slice_get, range_with_len, list_any}
 use Rattle.iso_base.specs.Triangles.{Mesh}

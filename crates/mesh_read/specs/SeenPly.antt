@@ -1,6 +1,5 @@
 -- What one pass over a header has seen so far. No public definition rests on it.
-use Rattle.std.specs.Prelude.{ℕ, ◌+◌, Bool, true, false, not, nat_lt, ◌||◌, ◌==◌, List, ◌∷◌, [], ◌++◌, filter_map, length, option_map, Option, Some}
-use Rattle.std.specs.Prelude.{None, if◌then◌else◌}
+use Rattle.std.specs.Prelude.{ℕ, ◌+◌, Bool, true, false, not, nat_lt, ◌||◌, ◌==◌, List, ◌∷◌, [], ◌++◌, filter_map, length, option_map, Option, Some, None, if◌then◌else◌}
 use Rattle.std.specs.Option.{option_or}
 use Rattle.std.specs.List.{slice_get}
 use Rattle.mesh_read.specs.declared.fault.MeshFault.{MeshFault}

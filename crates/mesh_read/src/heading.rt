@@ -1,8 +1,7 @@
 //! What one line of a PLY header says.
 ghost use Rattle.std.specs.Prelude.{◌≡◌};
 ghost use Rattle.text_lines.specs.Words.{words_of};
-ghost use Rattle.mesh_read.specs.Ply.{heading_of, by_first, format_line, element_line, property_line, end_line, is_end, is_binary, is_ascii};
-ghost use Rattle.mesh_read.specs.Ply.{is_version, version_alone, is_corners, is_list};
+ghost use Rattle.mesh_read.specs.Ply.{heading_of, by_first, format_line, element_line, property_line, end_line, is_end, is_binary, is_ascii, is_version, version_alone, is_corners, is_list};
 ghost use Rattle.mesh_read.specs.SeenPly.{seen_heading};
 
 use text_lines::{digits, next_word};
