@@ -1,5 +1,5 @@
 -- The entries of a run of cells, as they are read one after the other.
-use Rattle.std.proofs.Common.{◌≡◌, ◌∙◌, ℕ, zero, suc, ◌+◌, ◌*◌, ◌/◌, ◌%◌, ◌<◌, ◌≤◌, Bool, true, false, cond, List, [], ◌∷◌, map, drop, Option, Some, None, refl, sym, ap, arith, eqb, ltb, ne_eqb, le-ltb}
+use Rattle.std.proofs.Common.{◌≡◌, ◌∙◌, ℕ, zero, suc, ◌+◌, ◌*◌, ◌/◌, ◌%◌, ◌<◌, ◌≤◌, Bool, true, false, cond, [], ◌∷◌, map, drop, Some, None, refl, sym, ap, arith, eqb, ltb, ne_eqb, le-ltb}
 use Rattle.std.proofs.lemmas.Bool.{eq-eqb, lt-ltb}
 use Rattle.std.specs.Prelude.{is_some}
 use Rattle.std.specs.List.{filter, range_with_len}
@@ -20,7 +20,7 @@ module _ (b : BrickAt) where
   small cell = (case_is (record { grid = b.grid; samples = b.samples; level = b.level }) (brick_cell b.grid b.brick cell)).small
 
   -- one cell before the others
-  step : (cell n : ℕ) → entries_from b cell (suc n) ≡ cond (is_active_in b cell) (entry_of b cell ∷ entries_from b (cell + 1) n) (entries_from b (cell + 1) n)
+  pub step : (cell n : ℕ) → entries_from b cell (suc n) ≡ cond (is_active_in b cell) (entry_of b cell ∷ entries_from b (cell + 1) n) (entries_from b (cell + 1) n)
   unfolding entries_from
   step cell n = by_test (is_active_in b cell)
     where
@@ -30,7 +30,7 @@ module _ (b : BrickAt) where
       by_test true = refl
       by_test false = refl
 
-  none : (cell : ℕ) → entries_from b cell 0 ≡ []
+  pub none : (cell : ℕ) → entries_from b cell 0 ≡ []
   unfolding entries_from
   none cell = refl
 

@@ -1,4 +1,5 @@
 pub mod EntryRuns
+pub mod Ascending
 pub mod RowCases
 pub mod Waits
 pub mod Scanning

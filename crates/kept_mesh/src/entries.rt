@@ -1,6 +1,7 @@
 //! The cases of the cells of a row of a brick, by the brick's entries.
 
-ghost use Rattle.std.specs.Prelude.{◌≡◌, ◌+◌, ◌-◌, ◌*◌, ◌<◌, ◌≤◌, Some, IfSome, drop, length};
+ghost use Rattle.std.specs.Prelude.{◌≡◌, ◌+◌, ◌-◌, ◌*◌, ◌<◌, ◌≤◌, Some, IfSome, drop, length, nat_lt};
+ghost use Rattle.std.specs.List.Sorted.{IsPartitionedBy};
 ghost use Rattle.iso_defs.specs.Bricks.{row_cases};
 ghost use Rattle.iso_base.specs.Shifted.{field};
 ghost use Rattle.brick_store.specs.Holding.{points_along};
@@ -10,6 +11,19 @@ ghost use Rattle.kept_mesh.specs.Kept.{case_in, from_least, left_from, unmixed_c
 use arrayvec::ArrayVec;
 use brick_store::{BrickId, BrickStore};
 use iso_base::Level;
+
+/// The place of the first of some ascending entries that is not less than a number.
+pub fn place_of(entries: &[u32], least: u32) -> usize
+    requires { IsPartitionedBy (λ e. nat_lt e least) entries.now }
+    ensures within { result ≤ length entries.now }
+    ensures found { from_least least (drop result entries.now) ≡ from_least least entries.now }
+{
+    entries.partition_point(
+        |entry: &u32| -> bool
+            ensures { result ≡ nat_lt entry.now least }
+        { *entry < least },
+    )
+}
 
 /// The place of the first entry, from a place on, that is not less than a number.
 pub fn first_from(entries: &[u32], at: usize, least: u32) -> usize

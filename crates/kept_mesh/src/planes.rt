@@ -5,7 +5,7 @@ ghost use Rattle.iso_defs.specs.Bricks.{brick_count, entries as entries_of_brick
 ghost use Rattle.iso_base.specs.Shifted.{field};
 ghost use Rattle.kept_mesh.specs.Planes.{AreNone, IsPlane};
 
-use crate::entries::{first_from, row_of_entries};
+use crate::entries::{first_from, place_of, row_of_entries};
 use arrayvec::ArrayVec;
 use brick_store::{BrickId, BrickStore};
 use iso_base::Level;
@@ -74,7 +74,7 @@ pub fn plane_of(store: &BrickStore, brick: BrickId, z: u8, level: Level, entries
     let [along_x, along_y, _] = store.points_along(brick);
     let mut rows = [[0; 8]; 8];
     let mut run = ArrayVec::new();
-    let mut at = 0;
+    let mut at = place_of(entries, 65_536 * u32::from(z));
     for y in 0..along_y - 1 {
         let first = 8 * (u32::from(y) + 8 * u32::from(z));
         let start = first_from(entries, at, 1024 * first);

@@ -82,6 +82,11 @@ fn put_cases(row: &[u16; 8], width: u8, rows: &mut ArrayVec<u16, 8>)
     ensures { rows.new.items ≡ take width row.now }
 {
     rows.clear();
+    // Eight cases are copied without a call.
+    if width == 8 {
+        rows.try_extend_from_slice(row).unwrap();
+        return;
+    }
     rows.try_extend_from_slice(&row[..width as usize]).unwrap();
 }
 

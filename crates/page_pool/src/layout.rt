@@ -3,6 +3,8 @@ ghost use Rattle.std.specs.Prelude.{◌≡◌, ℕ, ◌+◌, ◌-◌, ◌/◌, �
 ghost use Rattle.page_pool.specs.Chains.{need};
 ghost use Rattle.page_pool.specs.Layout.{follow, content};
 
+use crate::pages::Pages;
+
 /// How many entries a page has room for.
 pub(crate) const PAGE_ENTRIES: usize = 32;
 
@@ -41,25 +43,25 @@ fn page_of(entries: &[u32]) -> Page
 }
 
 /// Writes entries over as many linked pages as they need, and gives the page that follows them.
-pub(crate) fn write_over(pages: &mut Vec<Page>, links: &[u32], first: u32, entries: &[u32]) -> u32
+pub(crate) fn write_over(pages: &mut Pages, links: &[u32], first: u32, entries: &[u32]) -> u32
     requires few { length entries.now ≤ 512 }
-    requires links { length links.now ≡ length pages.old.items }
-    requires whole { All (λ page. length page ≡ 32) pages.old.items }
+    requires links { length links.now ≡ length pages.old }
+    requires whole { All (λ page. length page ≡ 32) pages.old }
     requires inside { (k : ℕ) → k < need (length entries.now) → follow links.now k first < length links.now }
     requires apart { (k j : ℕ) → k < need (length entries.now) → j < need (length entries.now)
         → follow links.now k first ≡ follow links.now j first → k ≡ j }
     ensures next { result ≡ follow links.now (need (length entries.now)) first }
-    ensures count { length pages.new.items ≡ length pages.old.items }
-    ensures whole { All (λ page. length page ≡ 32) pages.new.items }
-    ensures written { take (length entries.now) (content pages.new.items links.now (need (length entries.now)) first) ≡ entries.now }
+    ensures count { length pages.new ≡ length pages.old }
+    ensures whole { All (λ page. length page ≡ 32) pages.new }
+    ensures written { take (length entries.now) (content pages.new links.now (need (length entries.now)) first) ≡ entries.now }
     ensures others { (page : ℕ) → ((k : ℕ) → k < need (length entries.now) → follow links.now k first ≢ page)
-        → slice_index_or pages.new.items page [] ≡ slice_index_or pages.old.items page [] }
+        → slice_index_or pages.new page [] ≡ slice_index_or pages.old page [] }
 {
     let mut page = first;
     for k in 0..pages_needed(entries.len()) as usize {
         let start = PAGE_ENTRIES * k;
         let end = entries.len().min(start + PAGE_ENTRIES);
-        pages[page as usize] = page_of(&entries[start..end]);
+        pages.put(page, page_of(&entries[start..end]));
         page = links[page as usize];
     }
     page

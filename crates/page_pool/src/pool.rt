@@ -1,7 +1,8 @@
 ghost use Rattle.std.specs.Prelude.{◌≡◌, ◌*◌, ◌^◌, ◌<◌, ◌≤◌, ◌↔◌, length, take, drop, slice_index, None, Some, IsErr, IfOk, IfErr, OnErr};
 ghost use Rattle.page_pool.specs.Chains.{need, chain_at, Has, entries_at, with_chain, without_chain, no_chains, IsWhole};
 
-use crate::layout::{PAGE_ENTRIES, Page, follow, pages_needed, write_over};
+use crate::layout::{PAGE_ENTRIES, follow, pages_needed, write_over};
+use crate::pages::Pages;
 use arrayvec::ArrayVec;
 use iso_base::Memory;
 use std::alloc::Global;
@@ -38,7 +39,7 @@ pub struct Full {
 /// pages.
 #[derive(Drop)]
 pub struct Pool {
-    pages: Vec<Page>,
+    pages: Pages,
     links: Vec<u32>,
     lengths: Vec<Option<u16>>,
     next_free: u32,
@@ -52,9 +53,9 @@ impl Model for Pool {
 
     ghost Value = { Chains };
 
-    ghost view = { λ p. record { by_name = chains_of p.pages.items p.links.items p.lengths.items; free = p.free; total = length p.pages.items } };
+    ghost view = { λ p. record { by_name = chains_of p.pages p.links.items p.lengths.items; free = p.free; total = length p.pages } };
 
-    ghost invariant = { λ p. IsLaidOut p.pages.items p.links.items p.lengths.items p.next_free p.free };
+    ghost invariant = { λ p. IsLaidOut p.pages p.links.items p.lengths.items p.next_free p.free };
 }
 
 impl Pool {
@@ -64,11 +65,10 @@ impl Pool {
         requires few { pages ≤ 2 ^ 20 }
         ensures { IfOk result (λ pool. pool ≡ no_chains pages) }
     {
-        let mut all = Vec::with_capacity(alloc, pages as usize)?;
+        let all = Pages::new(alloc, pages)?;
         let mut links = Vec::with_capacity(alloc, pages as usize)?;
         let mut lengths = Vec::with_capacity(alloc, pages as usize)?;
         for page in 0..pages {
-            all.push([0; PAGE_ENTRIES])?;
             links.push(page + 1)?;
             lengths.push(None)?;
         }
@@ -137,7 +137,7 @@ impl Pool {
     {
         let left = self.length(chain) as usize - PAGE_ENTRIES * number as usize;
         let page = follow(&self.links, chain.first, number);
-        &self.pages[page as usize][..left.min(PAGE_ENTRIES)]
+        &self.pages.at(page)[..left.min(PAGE_ENTRIES)]
     }
 
     /// Replaces a list by the entries of a chain.
@@ -178,6 +178,6 @@ impl Pool {
     pub fn total(&self) -> u32
         ensures { result ≡ self.now.total }
     {
-        self.pages.len() as u32
+        self.pages.count()
     }
 }

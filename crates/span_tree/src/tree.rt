@@ -7,7 +7,7 @@ ghost use Rattle.brick_store.specs.Next.{IsNext};
 ghost use Rattle.span_tree.specs.Nodes.{IsTree, first_spans, node_at};
 
 use crate::bricks;
-use crate::nodes::{join_all, next_leaf, places_below, put};
+use crate::nodes::{join_all, next_place, places_below, put};
 use crate::span::Span;
 use brick_store::{BrickId, BrickStore};
 use iso_base::{Level, Memory, Sizes};
@@ -90,7 +90,7 @@ impl SpanTree {
             IsNext (is_active v.grid (field v.samples level)) from (brick_count v.grid) result }
     {
         let half = places_below(self.height);
-        let leaf = next_leaf(&self.nodes, 1, self.height, half + from as usize, level)?;
+        let leaf = next_place(&self.nodes, self.height, half + from as usize, level)?;
         Some(BrickId((leaf - half) as u32))
     }
 

@@ -1,7 +1,8 @@
-use Rattle.std.proofs.Common.{◌≡◌, ◌+◌, ◌-◌, ◌*◌, ◌<◌, ◌≤◌, ◌∙◌, ℕ, get_or, ap, refl, arith}
+use Rattle.std.proofs.Common.{◌≡◌, ◌+◌, ◌-◌, ◌*◌, ◌<◌, ◌∙◌, drop, get_or, ap, refl, sym, arith}
 use Rattle.brick_store.specs.Holding.{points_along}
 use Rattle.brick_mesh.proofs.Spans.{offsets}
-use Rattle.kept_mesh.specs.Kept.{brick_in}
+use Rattle.kept_mesh.specs.Kept.{brick_in, from_least}
+use Rattle.kept_mesh.proofs.Ascending.{parted}
 use Rattle.kept_mesh.specs.declared.planes.Plane.{Plane}
 use Rattle.kept_mesh.proofs.Filled.{filled_more, is_row, left_first, left_next, whole_plane}
 use Rattle.kept_mesh.proofs.RowCases.{few_entries}
@@ -21,12 +22,18 @@ overflow_sub-result c =
     let x : get_or c.points_along.result 0 0 ≡ points_along g c.args.brick.0 0 = ap (λ l. get_or l 0 0) c.points_along.ensures in
     omega (arith, x, o.x-in)
 
+pub place_of-at-requires : goal.place_of-at-requires
+place_of-at-requires c = parted (brick_in c.args.store.now c.args.level c.args.brick.0) (65536 * c.from.result) c.args.entries.now c.requires.entries
+
 pub loop-y-init : goal.loop-y-init
 loop-y-init c =
+    let least : 1024 * (8 * (0 + 8 * c.args.z)) ≡ 65536 * c.from.result = omega (arith, c.from.ensures) in
     record {
       filled = record { long = refl; each = λ y low. absurd (omega arith) };
-      left = left_first c.args.store.now c.args.level c.args.brick.0 c.args.z c.requires.brick c.requires.z c.requires.there c.args.entries.now c.requires.entries;
-      within = omega arith;
+      left = ap (λ n. from_least n (drop c.place_of-at.result c.args.entries.now)) least
+          ∙ (c.place_of-at.ensures.found ∙ (ap (λ n. from_least n c.args.entries.now) (sym least)
+          ∙ left_first c.args.store.now c.args.level c.args.brick.0 c.args.z c.requires.brick c.requires.z c.requires.there c.args.entries.now c.requires.entries));
+      within = c.place_of-at.ensures.within;
     }
 
 pub row_of_entries-at-requires-clause-row : goal.row_of_entries-at-requires-clause-row
