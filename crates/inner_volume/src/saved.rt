@@ -1,6 +1,6 @@
 //! A volume without its pad, as a file of a shelf.
 
-ghost use Rattle.std.specs.Prelude.{◌≡◌, ◌⊎◌, ◌+◌, ◌-◌, ◌*◌, ◌<◌, ◌≤◌, ◌++◌, ℕ, length, take, drop, min, get_or, pos, All, Ok, IfOk, OnErr};
+ghost use Rattle.std.specs.Prelude.{◌≡◌, ◌⊎◌, ◌+◌, ◌-◌, ◌*◌, ◌<◌, ◌≤◌, ◌++◌, ◌^◌, ℕ, length, take, drop, min, get_or, pos, All, Ok, IfOk, OnErr};
 ghost use Rattle.iso_base.specs.Points.{IsPoint, index_of};
 ghost use Rattle.iso_base.specs.Volume.{inner_grid, sample};
 ghost use Rattle.iso_base.specs.Samples.{IsOfKind};
@@ -25,6 +25,7 @@ fn row_front(store: &BrickStore, sizes: &Sizes, row: u32) -> Point
     requires row { row < sizes.now.ny * sizes.now.nz }
     ensures value { (x : ℕ) → x < sizes.now.nx → sample store.now.samples (index_of store.now.grid result + x) ≡ get_or (inner_samples store.now) (row * sizes.now.nx + x) (pos 0) }
     ensures in_grid { IsPoint store.now.grid result }
+    ensures low { result.x ≤ 1 }
     ensures fits { result.x + sizes.now.nx ≤ store.now.grid.nx }
 {
     let _ = store.sizes();
@@ -48,7 +49,31 @@ fn copy_run(run: &[i64], samples: &mut [i64], at: usize) -> usize
     count
 }
 
-/// The samples of a row off the pad's layer. What one brick has of them is copied at once.
+/// Copies eight samples to a place.
+#[inline(always)]
+fn copy_eight(run: &[i64], samples: &mut [i64], at: usize)
+    requires run { 8 ≤ length run.now }
+    requires room { at + 8 ≤ length samples.old }
+    ensures { take (at + 8) samples.new ≡ take at samples.old ++ take 8 run.now }
+{
+    samples[at..at + 8].copy_from_slice(&run[..8]);
+}
+
+/// The point that stands so many behind another along x.
+#[inline(always)]
+fn behind(front: Point, x: usize) -> Point
+    requires { front.x + x < 2 ^ 31 }
+    ensures { result ≡ record { x = front.x + x; y = front.y; z = front.z } }
+{
+    Point {
+        x: front.x + x as u32,
+        y: front.y,
+        z: front.z,
+    }
+}
+
+/// The samples of a row off the pad's layer. What one brick has of them is copied at once: behind the first of them each
+/// has eight, so that no step waits to hear how many the last one copied.
 pub(crate) fn copy_row(store: &BrickStore, sizes: &Sizes, row: u32, samples: &mut [i64])
     requires sizes { sizes.now ≡ inner_grid store.now }
     requires row { row < sizes.now.ny * sizes.now.nz }
@@ -58,14 +83,16 @@ pub(crate) fn copy_row(store: &BrickStore, sizes: &Sizes, row: u32, samples: &mu
 {
     let _ = store.sizes();
     let front = row_front(store, sizes, row);
-    let mut x = 0;
-    while x < samples.len() {
-        let run = store.row_from(Point {
-            x: front.x + x as u32,
-            y: front.y,
-            z: front.z,
-        });
-        x += copy_run(run, samples, x);
+    let first = store.row_from(front);
+    let mut x = copy_run(first, samples, 0);
+    while x + 8 <= samples.len() {
+        let eight = store.row_from(behind(front, x));
+        copy_eight(eight, samples, x);
+        x += 8;
+    }
+    if x < samples.len() {
+        let last = store.row_from(behind(front, x));
+        copy_run(last, samples, x);
     }
 }
 
