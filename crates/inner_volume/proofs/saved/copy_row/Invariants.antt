@@ -1,4 +1,4 @@
-use Rattle.std.proofs.Common.{◌≡◌, ◌⊎◌, ◌+◌, ◌-◌, ◌*◌, ◌%◌, ◌≤◌, take, drop, length}
+use Rattle.std.proofs.Common.{◌≡◌, ◌-◌, ◌*◌, ◌≤◌, take, drop, length}
 use Rattle.inner_volume.specs.Unpadded.{inner_samples}
 use Rattle.inner_volume.proofs.saved.copy_row.Given as goal
 
@@ -6,7 +6,6 @@ abbrev pub invariant-loop-x : goal.invariant-loop-x
 invariant-loop-x l = record {
   within : l.x ≤ length l.samples;
   value : take l.x l.samples ≡ take l.x (drop (l.row * l.sizes.nx) (inner_samples l.store));
-  place : (l.x ≡ length l.samples) ⊎ ((l.front.x + l.x) % 8 ≡ 1);
 }
 
 abbrev pub decreases-loop-x : goal.decreases-loop-x
