@@ -78,10 +78,7 @@ fn row_home(store: &BrickStore, front: Point) -> RowHome
     ensures bricks { (b : ℕ) → b < bricks_along store.now.grid 0 → HasRow store.now.grid front result.first result.y result.z b }
 {
     let sizes = store.sizes();
-    let (y, z) = (
-        front.y.saturating_sub(1) / 8,
-        front.z.saturating_sub(1) / 8,
-    );
+    let (y, z) = (front.y.saturating_sub(1) / 8, front.z.saturating_sub(1) / 8);
     let (along_x, along_y) = ((sizes.nx() + 6) / 8, (sizes.ny() + 6) / 8);
     RowHome {
         first: along_x * (y + along_y * z),
