@@ -3,3 +3,4 @@ pub mod InnerSamples
 pub mod RowsPut
 pub mod ReadAgain
 pub mod RowLines
+pub mod RowRuns

@@ -1,2 +1,3 @@
 pub mod Places
 pub mod Unpadded
+pub mod Rows

@@ -2,10 +2,15 @@
 
 ghost use Rattle.std.specs.Prelude.{◌≡◌, ◌+◌, ◌*◌, ◌≤◌, ◌<◌, ◌++◌, take, length, All};
 ghost use Rattle.iso_base.specs.Samples.{IsOfKind};
+ghost use Rattle.nrrd_text.specs.Pairs.{ArePairs};
 ghost use Rattle.nrrd_text.specs.Samples.{bits_of};
 ghost use Rattle.nrrd_text.specs.Writing.{byte_digits, hex_digit, sample_digits, samples_digits};
 
 use iso_base::SampleKind;
+use std::marker::Model;
+
+/// The bytes of a table of two digits a byte.
+const PAIRS: usize = 512;
 
 /// A small hex digit.
 #[inline(always)]
@@ -16,15 +21,83 @@ fn hex_digit(n: u8) -> u8
     if n < 10 { b'0' + n } else { b'a' + (n - 10) }
 }
 
-/// Writes the two digits of a byte.
+/// Makes the two digits of a byte.
 #[inline(always)]
-fn put_byte(b: u8, room: &mut [u8], at: usize) -> usize
+fn put_made(b: u8, room: &mut [u8], at: usize) -> usize
     requires { at + 2 ≤ length room.old }
     ensures end { result ≡ at + 2 }
     ensures written { take result room.new ≡ take at room.old ++ byte_digits b }
 {
     room[at] = hex_digit(b / 16);
     room[at + 1] = hex_digit(b % 16);
+    at + 2
+}
+
+/// Writes the table.
+fn write_pairs(room: &mut [u8])
+    requires { length room.old ≡ 512 }
+    ensures { ArePairs room.new }
+{
+    let mut at = 0;
+    for b in 0..256u16 {
+        at = put_made(b as u8, room, at);
+    }
+}
+
+/// The two small hex digits of each byte, one byte's behind another's: digits are written two at a time.
+#[derive(Drop)]
+pub(crate) struct Pairs {
+    bytes: [u8; PAIRS],
+}
+
+impl Model for Pairs {
+    ghost use Rattle.std.specs.Prelude.{ℕ, List};
+    ghost use Rattle.nrrd_text.specs.Pairs.{ArePairs};
+
+    ghost Value = { List ℕ };
+
+    ghost view = { λ p. p.bytes };
+
+    ghost invariant = { λ p. ArePairs p.bytes };
+}
+
+impl Pairs {
+    /// The table.
+    pub(crate) fn new() -> Pairs {
+        let mut bytes = [0; PAIRS];
+        write_pairs(&mut bytes);
+        Pairs { bytes }
+    }
+
+    /// Writes the digits of samples. What a kind asks for is asked once, and not for each of them.
+    #[inline(always)]
+    pub(crate) fn put_samples(
+        &self,
+        kind: SampleKind,
+        values: &[i64],
+        room: &mut [u8],
+        at: usize,
+    ) -> usize
+        requires kind { All (IsOfKind kind) values.now }
+        requires space { at + 24 * length values.now ≤ length room.old }
+        ensures end { result ≤ at + 24 * length values.now }
+        ensures behind { at ≤ result }
+        ensures written { take result room.new ≡ take at room.old ++ samples_digits kind values.now }
+    {
+        put_samples(&self.bytes, kind, values, room, at)
+    }
+}
+
+/// Writes the two digits of a byte, out of the table.
+#[inline(always)]
+fn put_byte(pairs: &[u8], b: u8, room: &mut [u8], at: usize) -> usize
+    requires table { ArePairs pairs.now }
+    requires space { at + 2 ≤ length room.old }
+    ensures end { result ≡ at + 2 }
+    ensures written { take result room.new ≡ take at room.old ++ byte_digits b }
+{
+    let from = 2 * usize::from(b);
+    room[at..at + 2].copy_from_slice(&pairs[from..from + 2]);
     at + 2
 }
 
@@ -45,7 +118,8 @@ fn bits_of(kind: SampleKind, value: i64) -> u32
 /// Writes the digits of a sample's bytes, the lowest byte first.
 #[inline(always)]
 #[tactic(auto, unfolding(crate::specs::Writing::sample_digits))]
-fn put_sample(kind: SampleKind, value: i64, room: &mut [u8], at: usize) -> usize
+fn put_sample(pairs: &[u8], kind: SampleKind, value: i64, room: &mut [u8], at: usize) -> usize
+    requires table { ArePairs pairs.now }
     requires kind { IsOfKind kind value }
     requires space { at + 8 ≤ length room.old }
     ensures end { result ≤ at + 8 }
@@ -53,21 +127,22 @@ fn put_sample(kind: SampleKind, value: i64, room: &mut [u8], at: usize) -> usize
     ensures written { take result room.new ≡ take at room.old ++ sample_digits kind value }
 {
     let [a, b, c, d] = bits_of(kind, value).to_le_bytes();
-    let at = put_byte(a, room, at);
+    let at = put_byte(pairs, a, room, at);
     if kind.width() == 1 {
         return at;
     }
-    let at = put_byte(b, room, at);
+    let at = put_byte(pairs, b, room, at);
     if kind.width() == 2 {
         return at;
     }
-    let at = put_byte(c, room, at);
-    put_byte(d, room, at)
+    let at = put_byte(pairs, c, room, at);
+    put_byte(pairs, d, room, at)
 }
 
 /// Writes the digits of samples.
 #[inline(always)]
-fn put_each(kind: SampleKind, values: &[i64], room: &mut [u8], at: usize) -> usize
+fn put_each(pairs: &[u8], kind: SampleKind, values: &[i64], room: &mut [u8], at: usize) -> usize
+    requires table { ArePairs pairs.now }
     requires kind { All (IsOfKind kind) values.now }
     requires space { at + 24 * length values.now ≤ length room.old }
     ensures end { result ≤ at + 24 * length values.now }
@@ -76,13 +151,14 @@ fn put_each(kind: SampleKind, values: &[i64], room: &mut [u8], at: usize) -> usi
 {
     let mut end = at;
     for value in values {
-        end = put_sample(kind, *value, room, end);
+        end = put_sample(pairs, kind, *value, room, end);
     }
     end
 }
 
 /// Writes the digits of samples. What a kind asks for is asked once, and not for each of them.
-pub(crate) fn put_samples(kind: SampleKind, values: &[i64], room: &mut [u8], at: usize) -> usize
+fn put_samples(pairs: &[u8], kind: SampleKind, values: &[i64], room: &mut [u8], at: usize) -> usize
+    requires table { ArePairs pairs.now }
     requires kind { All (IsOfKind kind) values.now }
     requires space { at + 24 * length values.now ≤ length room.old }
     ensures end { result ≤ at + 24 * length values.now }
@@ -90,11 +166,11 @@ pub(crate) fn put_samples(kind: SampleKind, values: &[i64], room: &mut [u8], at:
     ensures written { take result room.new ≡ take at room.old ++ samples_digits kind values.now }
 {
     match kind {
-        SampleKind::I8 => put_each(SampleKind::I8, values, room, at),
-        SampleKind::U8 => put_each(SampleKind::U8, values, room, at),
-        SampleKind::I16 => put_each(SampleKind::I16, values, room, at),
-        SampleKind::U16 => put_each(SampleKind::U16, values, room, at),
-        SampleKind::I32 => put_each(SampleKind::I32, values, room, at),
-        SampleKind::U32 => put_each(SampleKind::U32, values, room, at),
+        SampleKind::I8 => put_each(pairs, SampleKind::I8, values, room, at),
+        SampleKind::U8 => put_each(pairs, SampleKind::U8, values, room, at),
+        SampleKind::I16 => put_each(pairs, SampleKind::I16, values, room, at),
+        SampleKind::U16 => put_each(pairs, SampleKind::U16, values, room, at),
+        SampleKind::I32 => put_each(pairs, SampleKind::I32, values, room, at),
+        SampleKind::U32 => put_each(pairs, SampleKind::U32, values, room, at),
     }
 }

@@ -1,6 +1,6 @@
 //! Numbers, written from a place of a text on: each call gives the place behind what it wrote.
 
-ghost use Rattle.std.specs.Prelude.{◌≡◌, ◌+◌, ◌*◌, ◌≤◌, ◌<◌, ◌^◌, ◌∷◌, ◌++◌, take, length, decimal, flat_map};
+ghost use Rattle.std.specs.Prelude.{◌≡◌, ◌+◌, ◌*◌, ◌≤◌, ◌<◌, ◌++◌, take, length, decimal, flat_map, unsigned_abs};
 ghost use Rattle.std.specs.Fmt.{signed_decimal};
 ghost use Rattle.nrrd_text.specs.Writing.{next_number};
 
@@ -24,17 +24,17 @@ fn put_long(value: i64, room: &mut [u8], at: usize) -> usize
     end
 }
 
-/// Writes a number below zero, given without its sign.
+/// Writes the sign of a number below zero. The byte is put in either case, and what comes next stands on it where there
+/// is no sign: whether there is one cannot be told beforehand, so no choice is made by it.
 #[inline(always)]
-fn put_negative<D: Digits>(digits: &D, size: u64, room: &mut [u8], at: usize) -> usize
-    requires bound { size < 10 ^ 11 }
-    requires space { at + 13 ≤ length room.old }
-    ensures end { result ≤ at + 13 }
+fn put_sign(value: i64, room: &mut [u8], at: usize) -> usize
+    requires { at < length room.old }
+    ensures end { result ≤ at + 1 }
     ensures behind { at ≤ result }
-    ensures written { take result room.new ≡ take at room.old ++ 45 ∷ decimal size }
+    ensures written { take result room.new ++ decimal (unsigned_abs value) ≡ take at room.old ++ signed_decimal value }
 {
     room[at] = b'-';
-    digits.put_number(size, room, at + 1)
+    at + usize::from(value < 0)
 }
 
 /// Writes a number.
@@ -47,12 +47,10 @@ pub(crate) fn put_number<D: Digits>(digits: &D, value: i64, room: &mut [u8], at:
 {
     let size = value.unsigned_abs();
     if size >= LONG {
-        put_long(value, room, at)
-    } else if value < 0 {
-        put_negative(digits, size, room, at)
-    } else {
-        digits.put_number(size, room, at)
+        return put_long(value, room, at);
     }
+    let at = put_sign(value, room, at);
+    digits.put_number(size, room, at)
 }
 
 /// Writes a number behind another: a space, and its digits.

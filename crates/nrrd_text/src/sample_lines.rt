@@ -5,7 +5,7 @@ ghost use Rattle.std.specs.Fmt.{signed_decimal};
 ghost use Rattle.iso_base.specs.Samples.{IsOfKind};
 ghost use Rattle.nrrd_text.specs.Writing.{next_number, samples_digits};
 
-use crate::hex_digits::put_samples;
+use crate::hex_digits::Pairs;
 use crate::numbers::{put_number, put_others};
 use iso_base::SampleKind;
 use mesh_text::Digits;
@@ -14,12 +14,13 @@ use std::marker::Model;
 /// So many bytes wait at most: a write of the system costs as much as thousands of bytes.
 const BLOCK: usize = 32_768;
 
-/// Lines of samples, one behind another, each written where it stays until all are taken. Contracts see their bytes, which
-/// are at most 32,768.
+/// Lines of samples, one behind another, each written where it stays until all are taken, and a table of hex digits.
+/// Contracts see the bytes of the lines, which are at most 32,768.
 #[derive(Drop)]
 pub struct SampleLines {
     bytes: [u8; BLOCK],
     end: usize,
+    pairs: Pairs,
 }
 
 impl Model for SampleLines {
@@ -40,6 +41,7 @@ impl SampleLines {
         SampleLines {
             bytes: [0; BLOCK],
             end: 0,
+            pairs: Pairs::new(),
         }
     }
 
@@ -114,6 +116,8 @@ impl SampleLines {
         requires room { length self.old + 24 * length values.now ≤ 32768 }
         ensures { self.new ≡ self.old ++ samples_digits kind values.now }
     {
-        self.end = put_samples(kind, values, &mut self.bytes, self.end);
+        self.end = self
+            .pairs
+            .put_samples(kind, values, &mut self.bytes, self.end);
     }
 }

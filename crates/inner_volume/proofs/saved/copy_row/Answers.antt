@@ -18,7 +18,7 @@ loop-x-preserved c =
     let count = c.copy_run-x.result in
     let p : Point = record { x = c.row_front-front.result.x + c.loop-x.x; y = c.row_front-front.result.y; z = c.row_front-front.result.z } in
     let size : length c.row_from-run.result.now ≡ row_rest c.args.store.now.grid p = run_size c.args.store.now p c.row_from-run.result.now (row_rest c.args.store.now.grid p) c.row_from-run.ensures in
-    let long : length c.loop-x.samples ≡ width = c.loop-x.auto.samples ∙ c.requires.room in
+    let long : length c.loop-x.samples ≡ width = c.loop-x.auto.samples ∙ (c.copy_eights-x.auto.samples ∙ c.requires.room) in
     let few : count ≤ length run = omega (arith, c.copy_run-x.ensures.count) in
     let fits : x + count ≤ width = omega (arith, c.copy_run-x.ensures.count, c.loop-x.invariant.within, long) in
     let piece : take count run ≡ take count (drop x (drop start (inner_samples v)))
@@ -35,11 +35,11 @@ pub loop-x-smaller : goal.loop-x-smaller
 loop-x-smaller c =
     let p : Point = record { x = c.row_front-front.result.x + c.loop-x.x; y = c.row_front-front.result.y; z = c.row_front-front.result.z } in
     let size : length c.row_from-run.result.now ≡ row_rest c.args.store.now.grid p = run_size c.args.store.now p c.row_from-run.result.now (row_rest c.args.store.now.grid p) c.row_from-run.ensures in
-    omega (arith, size, c.copy_run-x.ensures.count, c.copy_run-x.auto.samples, c.loop-x-test.true, c.row_front-front.ensures.fits, c.loop-x.auto.samples, c.requires.room)
+    omega (arith, size, c.copy_run-x.ensures.count, c.copy_run-x.auto.samples, c.loop-x-test.true, c.row_front-front.ensures.fits, c.loop-x.auto.samples, c.copy_eights-x.auto.samples, c.requires.room)
 
 pub returns-clause-value : goal.returns-clause-value
 returns-clause-value c =
-    let long : length c.loop-x.samples ≡ c.args.sizes.now.nx = c.loop-x.auto.samples ∙ c.requires.room in
+    let long : length c.loop-x.samples ≡ c.args.sizes.now.nx = c.loop-x.auto.samples ∙ (c.copy_eights-x.auto.samples ∙ c.requires.room) in
     let whole : c.loop-x.x ≡ length c.loop-x.samples = omega (arith, c.loop-x.invariant.within, c.loop-x-test.false) in
     sym (take_all c.loop-x.x c.loop-x.samples (omega (arith, whole)))
     ∙ (c.loop-x.invariant.value ∙ ap (λ n. take n (drop (c.args.row * c.args.sizes.now.nx) (inner_samples c.args.store.now))) (whole ∙ long))
@@ -49,7 +49,7 @@ returns-clause-each c =
     let v = c.args.store.now in
     let width = c.args.sizes.now.nx in
     let start = c.args.row * c.args.sizes.now.nx in
-    let long : length c.loop-x.samples ≡ width = c.loop-x.auto.samples ∙ c.requires.room in
+    let long : length c.loop-x.samples ≡ width = c.loop-x.auto.samples ∙ (c.copy_eights-x.auto.samples ∙ c.requires.room) in
     let whole : c.loop-x.x ≡ length c.loop-x.samples = omega (arith, c.loop-x.invariant.within, c.loop-x-test.false) in
     let row : c.loop-x.samples ≡ take width (drop start (inner_samples v))
     = sym (take_all c.loop-x.x c.loop-x.samples (omega (arith, whole))) ∙ (c.loop-x.invariant.value ∙ ap (λ n. take n (drop start (inner_samples v))) (whole ∙ long)) in
