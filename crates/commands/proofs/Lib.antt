@@ -1,4 +1,5 @@
 pub mod Told
+pub mod Passed
 pub mod ReadVolumes
 pub mod Texts
 pub mod Generated

@@ -3,13 +3,18 @@ use Rattle.std.proofs.Common.{◌≡◌, ℕ, ◌≤◌, List, length, Some, Non
 use Rattle.std.specs.Prelude.{Option, Result}
 use Rattle.std.specs.FinMap.{get}
 use Rattle.iso_base.specs.Volume.{Volume}
+use Rattle.iso_base.specs.Sizing.{sized}
+use Rattle.iso_base.specs.declared.sizes.SizeFault.{SizeFault}
+use Rattle.voxel_list.specs.Padding.{grown}
+use Rattle.voxel_list.specs.declared.pad.PadFault.{PadFault}
+use Rattle.voxel_list.specs.declared.pad.PadFault.TheVariants as pads
 use Rattle.iso_io.specs.Files.{Files}
 use Rattle.nrrd.specs.Nrrd.{nrrd_of, Fails}
 use Rattle.nrrd.specs.declared.fault.NrrdFault.{NrrdFault}
 use Rattle.nrrd.specs.declared.fault.NrrdFault.TheVariants as faults
-use Rattle.endings.specs.declared.answer.Answer.{Answer}
-use Rattle.endings.specs.declared.answer.Answer.TheVariants as answers
-use Rattle.commands.specs.Volumes.{IsNotRaised, IsNoVolume, IsRead, answer_of, of_read, volume_limit, volume_of, with_pad}
+use Rattle.commands.specs.declared.volumes.NoVolume.{NoVolume}
+use Rattle.commands.specs.declared.volumes.NoVolume.TheVariants as reasons
+use Rattle.commands.specs.Volumes.{IsNotRaised, IsNoVolume, IsRead, of_read, pad_refusal, raised, volume_refusal, volume_limit, volume_of, with_pad}
 use Rattle.endings.specs.declared.answer.VolumeFault.{VolumeFault}
 use Rattle.endings.specs.declared.answer.VolumeFault.TheVariants.{Nrrd}
 
@@ -28,31 +33,28 @@ pub of_file : (P : List ℕ → Type 0) (o : Option Files) (name bytes : List �
 of_file P None name bytes h l p = tt
 of_file P (Some files) name bytes h l p = (bytes, h, l, p)
 
-pub ok_in_pad : (o : Option ℤ) (pad level : ℤ) (bytes : List ℕ) (v : Volume) (r : Result Volume Answer) → o ≡ Some pad → IsRead bytes v → IfOk r (λ w. with_pad (Some pad) level v ≡ Ok w) → IfOk r (λ w. volume_of o level bytes ≡ Ok w)
+pub ok_in_pad : (o : Option ℤ) (pad level : ℤ) (bytes : List ℕ) (v : Volume) (r : Result Volume NoVolume) → o ≡ Some pad → IsRead bytes v → IfOk r (λ w. with_pad (Some pad) level v ≡ Ok w) → IfOk r (λ w. volume_of o level bytes ≡ Ok w)
 ok_in_pad o pad level bytes v (Ok w) e h k = rw e (read_volume (Some pad) level bytes v (Ok w) h k)
-ok_in_pad o pad level bytes v (Err answer) e h k = tt
+ok_in_pad o pad level bytes v (Err reason) e h k = tt
 
-no_pad : (pad level : ℤ) (bytes : List ℕ) (v : Volume) (answer : Answer) → IsRead bytes v → IsNotRaised pad level v answer → IsNoVolume (Some pad) level bytes answer
-no_pad pad level bytes v answers.Done h k = absurd k
-no_pad pad level bytes v answers.MeshRefused h k = absurd k
-no_pad pad level bytes v answers.BadWords h k = absurd k
-no_pad pad level bytes v (answers.BadVolume fault) h k = read_volume (Some pad) level bytes v (Err fault) h k
-no_pad pad level bytes v answers.InputFault h k = absurd k
-no_pad pad level bytes v answers.InputTooLong h k = absurd k
-no_pad pad level bytes v answers.OutputFault h k = absurd k
-no_pad pad level bytes v answers.Memory h k = tt
-no_pad pad level bytes v answers.ShelfFault h k = absurd k
-no_pad pad level bytes v (answers.BadMesh fault) h k = absurd k
+no_pad : (pad level : ℤ) (bytes : List ℕ) (v : Volume) (reason : NoVolume) → IsRead bytes v → IsNotRaised pad level v reason → IsNoVolume (Some pad) level bytes reason
+no_pad pad level bytes v (reasons.Refused fault) h k = read_volume (Some pad) level bytes v (Err fault) h k
+no_pad pad level bytes v reasons.Memory h k = tt
 
-pub no_in_pad : (o : Option ℤ) (pad level : ℤ) (bytes : List ℕ) (v : Volume) (r : Result Volume Answer) → o ≡ Some pad → IsRead bytes v → IfErr r (IsNotRaised pad level v) → IfErr r (IsNoVolume o level bytes)
+pub no_in_pad : (o : Option ℤ) (pad level : ℤ) (bytes : List ℕ) (v : Volume) (r : Result Volume NoVolume) → o ≡ Some pad → IsRead bytes v → IfErr r (IsNotRaised pad level v) → IfErr r (IsNoVolume o level bytes)
 no_in_pad o pad level bytes v (Ok w) e h k = tt
-no_in_pad o pad level bytes v (Err answer) e h k = rw e (no_pad pad level bytes v answer h k)
+no_in_pad o pad level bytes v (Err reason) e h k = rw e (no_pad pad level bytes v reason h k)
 
 pub ok_alone : (o : Option ℤ) (level : ℤ) (bytes : List ℕ) (v : Volume) → o ≡ None → IsRead bytes v → volume_of o level bytes ≡ Ok v
 ok_alone o level bytes v e h = rw e (read_volume None level bytes v (Ok v) h refl)
 
--- a refusal of the reader, as an answer
-pub no_volume : (pad : Option ℤ) (level : ℤ) (bytes : List ℕ) (fault : NrrdFault) → Fails fault (nrrd_of bytes) → IsNoVolume pad level bytes (answer_of fault)
+-- a refusal of the pad, as the reason why there is no volume
+pub not_raised : (pad level : ℤ) (v : Volume) (fault : PadFault) → ((size : SizeFault) → fault ≡ pads.Size size → sized (grown v.grid) ≡ Err size) → IsNotRaised pad level v (pad_refusal fault)
+not_raised pad level v (pads.Size size) h = ap (raised pad level v) (h size refl)
+not_raised pad level v pads.Memory h = tt
+
+-- a refusal of the reader, as the reason why there is no volume
+pub no_volume : (pad : Option ℤ) (level : ℤ) (bytes : List ℕ) (fault : NrrdFault) → Fails fault (nrrd_of bytes) → IsNoVolume pad level bytes (volume_refusal fault)
 no_volume pad level bytes faults.NotNrrd h = not_read pad level bytes faults.NotNrrd h
 no_volume pad level bytes (faults.HeaderTooLong n) h = not_read pad level bytes (faults.HeaderTooLong n) h
 no_volume pad level bytes (faults.BadLine line) h = not_read pad level bytes (faults.BadLine line) h

@@ -17,6 +17,9 @@ use Rattle.mesh_text.specs.declared.format.TwoWayFormat.{TwoWayFormat}
 use Rattle.mesh_text.specs.declared.format.TwoWayFormat.TheVariants.{Ply, Obj}
 use Rattle.endings.specs.declared.answer.Answer.{Answer}
 use Rattle.endings.specs.declared.answer.Answer.TheVariants as answers
+use Rattle.mesh_read.specs.declared.fault.MeshFault.TheVariants as faults
+use Rattle.commands.specs.declared.checks.NoMesh.{NoMesh}
+use Rattle.commands.specs.declared.checks.NoMesh.TheVariants as reasons
 
 -- the most bytes of a mesh text
 abbrev pub mesh_limit : ℕ
@@ -62,11 +65,20 @@ abbrev pub answer_to : Bool → Answer
 answer_to false = answers.Done
 answer_to true = answers.MeshRefused
 
+-- a refusal of the reader, as the reason why there is no mesh
+abbrev pub mesh_refusal : MeshFault → NoMesh
+mesh_refusal faults.Memory = reasons.Memory
+mesh_refusal fault = reasons.Refused fault
+
+-- what is answered for that reason
+abbrev pub mesh_answer : NoMesh → Answer
+mesh_answer (reasons.Refused fault) = answers.BadMesh fault
+mesh_answer reasons.Memory = answers.Memory
+
 -- why the text is no mesh; want of memory says nothing
-abbrev pub IsNoMesh : TwoWayFormat → List ℕ → Answer → Type 0
-IsNoMesh format bytes (answers.BadMesh fault) = mesh_in format bytes ≡ Err fault
-IsNoMesh format bytes answers.Memory = Unit {0}
-IsNoMesh format bytes answer = ⊥
+abbrev pub IsNoMesh : TwoWayFormat → List ℕ → NoMesh → Type 0
+IsNoMesh format bytes (reasons.Refused fault) = mesh_in format bytes ≡ Err fault
+IsNoMesh format bytes reasons.Memory = Unit {0}
 
 -- the whole input was read, and it has this verdict
 pub record HasMesh (format : TwoWayFormat) (old new : Feed) (v : Verdict) : Type 0 where

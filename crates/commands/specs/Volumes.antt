@@ -15,10 +15,14 @@ use Rattle.nrrd.specs.Nrrd.{nrrd_of}
 use Rattle.file_points.specs.Edges.{AreEdgesOfFile}
 use Rattle.nrrd.specs.declared.fault.NrrdFault.{NrrdFault}
 use Rattle.nrrd.specs.declared.fault.NrrdFault.TheVariants as faults
+use Rattle.voxel_list.specs.declared.pad.PadFault.{PadFault}
+use Rattle.voxel_list.specs.declared.pad.PadFault.TheVariants as pads
 use Rattle.endings.specs.declared.answer.VolumeFault.{VolumeFault}
 use Rattle.endings.specs.declared.answer.VolumeFault.TheVariants.{Nrrd, Pad, LevelNotAbovePad}
 use Rattle.endings.specs.declared.answer.Answer.{Answer}
 use Rattle.endings.specs.declared.answer.Answer.TheVariants as answers
+use Rattle.commands.specs.declared.volumes.NoVolume.{NoVolume}
+use Rattle.commands.specs.declared.volumes.NoVolume.TheVariants as reasons
 
 -- the most bytes of a volume file
 abbrev pub volume_limit : ℕ
@@ -41,26 +45,33 @@ of_read pad level (Ok read) = with_pad pad level (unpadded read.0)
 unfoldable pub volume_of : Option ℤ → ℤ → List ℕ → Result Volume VolumeFault
 volume_of pad level bytes = of_read pad level (nrrd_of bytes)
 
--- what a refusal of the reader is answered
-abbrev pub answer_of : NrrdFault → Answer
-answer_of faults.Memory = answers.Memory
-answer_of fault = answers.BadVolume (Nrrd fault)
+-- a refusal of the reader, and of the pad, as the reason why there is no volume
+abbrev pub volume_refusal : NrrdFault → NoVolume
+volume_refusal faults.Memory = reasons.Memory
+volume_refusal fault = reasons.Refused (Nrrd fault)
+
+abbrev pub pad_refusal : PadFault → NoVolume
+pad_refusal (pads.Size fault) = reasons.Refused (Pad fault)
+pad_refusal pads.Memory = reasons.Memory
+
+-- what is answered for that reason
+abbrev pub volume_answer : NoVolume → Answer
+volume_answer (reasons.Refused fault) = answers.BadVolume fault
+volume_answer reasons.Memory = answers.Memory
 
 -- this is the volume of a file's bytes, without a pad
 abbrev pub IsRead : List ℕ → Volume → Type 0
 IsRead bytes v = (read : Voxels × ℕ) × (nrrd_of bytes ≡ Ok read) × (v ≡ unpadded read.0)
 
 -- why a volume gets no pad; want of memory says nothing
-abbrev pub IsNotRaised : ℤ → ℤ → Volume → Answer → Type 0
-IsNotRaised pad level v (answers.BadVolume fault) = with_pad (Some pad) level v ≡ Err fault
-IsNotRaised pad level v answers.Memory = Unit {0}
-IsNotRaised pad level v answer = ⊥
+abbrev pub IsNotRaised : ℤ → ℤ → Volume → NoVolume → Type 0
+IsNotRaised pad level v (reasons.Refused fault) = with_pad (Some pad) level v ≡ Err fault
+IsNotRaised pad level v reasons.Memory = Unit {0}
 
 -- why the bytes are no volume; want of memory says nothing
-abbrev pub IsNoVolume : Option ℤ → ℤ → List ℕ → Answer → Type 0
-IsNoVolume pad level bytes (answers.BadVolume fault) = volume_of pad level bytes ≡ Err fault
-IsNoVolume pad level bytes answers.Memory = Unit {0}
-IsNoVolume pad level bytes answer = ⊥
+abbrev pub IsNoVolume : Option ℤ → ℤ → List ℕ → NoVolume → Type 0
+IsNoVolume pad level bytes (reasons.Refused fault) = volume_of pad level bytes ≡ Err fault
+IsNoVolume pad level bytes reasons.Memory = Unit {0}
 
 -- the whole input was read, and these are the crossing edges of its volume
 pub record HoldsEdges (level : ℤ) (old new : Feed) (grid : Grid) (names places : List ℕ) : Type 0 where

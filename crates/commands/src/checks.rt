@@ -8,7 +8,7 @@ ghost use Rattle.endings.specs.Verdicts.{verdict_text};
 
 use endings::{Answer, verdict_line};
 use iso_base::{Memory, TriangleList, Verdict};
-use iso_io::{Failed, ReadFault, Sink, Source, read_all_of, write_all_of};
+use iso_io::{Failed, Sink, Source, read_all_of, write_all_of};
 use mesh_check::verdict;
 use mesh_read::{MeshFault, read_obj, read_ply};
 use mesh_text::TwoWayFormat;
@@ -28,33 +28,71 @@ fn read_mesh(alloc: Global, format: TwoWayFormat, bytes: &[u8]) -> Result<Triang
     }
 }
 
+/// Why a text holds no mesh.
+#[derive(Clone, Copy)]
+pub enum NoMesh {
+    /// It is none.
+    Refused(MeshFault),
+    /// Memory could not be had.
+    Memory,
+}
+
+impl From<MeshFault> for NoMesh {
+    ghost use Rattle.std.specs.Prelude.{◌≡◌};
+    ghost use Rattle.commands.specs.Checks.{mesh_refusal};
+
+    ghost from_gives = { λ fault reason. reason ≡ mesh_refusal fault };
+
+    fn from(fault: MeshFault) -> NoMesh {
+        match fault {
+            MeshFault::Memory => NoMesh::Memory,
+            fault => NoMesh::Refused(fault),
+        }
+    }
+}
+
+impl From<Memory> for NoMesh {
+    ghost use Rattle.std.specs.Prelude.{◌≡◌};
+    ghost use Rattle.commands.specs.declared.checks.NoMesh.TheVariants as reasons;
+
+    ghost from_gives = { λ _ reason. reason ≡ reasons.Memory };
+
+    fn from(_: Memory) -> NoMesh {
+        NoMesh::Memory
+    }
+}
+
+impl From<NoMesh> for Answer {
+    ghost use Rattle.std.specs.Prelude.{◌≡◌};
+    ghost use Rattle.commands.specs.Checks.{mesh_answer};
+
+    ghost from_gives = { λ reason answer. answer ≡ mesh_answer reason };
+
+    fn from(reason: NoMesh) -> Answer {
+        match reason {
+            NoMesh::Refused(fault) => Answer::BadMesh(fault),
+            NoMesh::Memory => Answer::Memory,
+        }
+    }
+}
+
 /// The mesh of a text, which is let go; or why there is none.
-fn mesh_of_text(alloc: Global, format: TwoWayFormat, bytes: Vec<u8>) -> Result<TriangleList, Answer>
+fn mesh_of_text(alloc: Global, format: TwoWayFormat, bytes: Vec<u8>) -> Result<TriangleList, NoMesh>
     requires { length bytes.items ≤ 2 ^ 30 }
     ensures mesh { IfOk result (λ m. (mesh_in format bytes.items ≡ Ok m) × (length m.triangles ≤ 2 ^ 30)) }
     ensures fault { IfErr result (IsNoMesh format bytes.items) }
 {
-    match read_mesh(alloc, format, &bytes) {
-        Ok(mesh) => Ok(mesh),
-        Err(MeshFault::Memory) => Err(Answer::Memory),
-        Err(fault) => Err(Answer::BadMesh(fault)),
-    }
+    Ok(read_mesh(alloc, format, &bytes)?)
 }
 
 /// The verdict on a mesh text, or why there is none.
-fn verdict_of_text(alloc: Global, format: TwoWayFormat, bytes: Vec<u8>) -> Result<Verdict, Answer>
+fn verdict_of_text(alloc: Global, format: TwoWayFormat, bytes: Vec<u8>) -> Result<Verdict, NoMesh>
     requires { length bytes.items ≤ 2 ^ 30 }
     ensures verdict { IfOk result (λ v. HasVerdict format v bytes.items) }
     ensures fault { IfErr result (IsNoMesh format bytes.items) }
 {
-    let mesh = match mesh_of_text(alloc, format, bytes) {
-        Ok(mesh) => mesh,
-        Err(answer) => return Err(answer),
-    };
-    match verdict(alloc, &mesh) {
-        Ok(verdict) => Ok(verdict),
-        Err(Memory) => Err(Answer::Memory),
-    }
+    let mesh = mesh_of_text(alloc, format, bytes)?;
+    Ok(verdict(alloc, &mesh)?)
 }
 
 /// The verdict on the mesh text of the whole input.
@@ -66,13 +104,8 @@ fn verdict_of_input<S: Source>(
     ensures verdict { IfOk result (λ v. HasMesh format (S.seen input.old) (S.seen input.new) v) }
     ensures fault { IfErr result (λ answer. HasNoMesh format (S.seen input.old) (S.seen input.new) answer) }
 {
-    let bytes = match read_all_of(alloc, input, LIMIT) {
-        Ok(bytes) => bytes,
-        Err(ReadFault::Failed) => return Err(Answer::InputFault),
-        Err(ReadFault::TooLong) => return Err(Answer::InputTooLong),
-        Err(ReadFault::Memory) => return Err(Answer::Memory),
-    };
-    verdict_of_text(alloc, format, bytes)
+    let bytes = read_all_of(alloc, input, LIMIT)?;
+    Ok(verdict_of_text(alloc, format, bytes)?)
 }
 
 /// What a verdict is answered.

@@ -10,7 +10,7 @@ ghost use Rattle.commands.specs.Meaning.{points_given};
 ghost use Rattle.commands.specs.Outcome.{Converts, streams_between};
 ghost use Rattle.commands.specs.Volumes.{HoldsEdges, HoldsNone, IsNoVolume};
 
-use crate::volumes::{bytes_of_input, refusal};
+use crate::volumes::{NoVolume, bytes_of_input};
 use endings::Answer;
 use file_points::{FileEdges, edges_of_file};
 use iso_base::Level;
@@ -19,14 +19,11 @@ use mesh_write::{STAGE, put_points};
 use std::alloc::Global;
 
 /// The crossing edges of the volume of the bytes of a file, which are let go.
-fn edges_in(alloc: Global, bytes: Vec<u8>, level: Level) -> Result<FileEdges, Answer>
+fn edges_in(alloc: Global, bytes: Vec<u8>, level: Level) -> Result<FileEdges, NoVolume>
     ensures edges { IfOk result (λ e. AreEdgesOfFile bytes.items level e.sizes e.edges.names.items e.edges.places.items) }
     ensures fault { IfErr result (IsNoVolume None level bytes.items) }
 {
-    match edges_of_file(alloc, &bytes, level) {
-        Ok(edges) => Ok(edges),
-        Err(fault) => Err(refusal(fault)),
-    }
+    Ok(edges_of_file(alloc, &bytes, level)?)
 }
 
 /// The crossing edges of the volume of the whole input.
@@ -39,10 +36,8 @@ fn edges_of_input<S: Source>(
     ensures edges { IfOk result (λ e. HoldsEdges level (S.seen input.old) (S.seen input.new) e.sizes e.edges.names.items e.edges.places.items) }
     ensures fault { IfErr result (λ answer. HoldsNone None level (S.seen input.old) (S.seen input.new) answer) }
 {
-    match bytes_of_input(alloc, input) {
-        Ok(bytes) => edges_in(alloc, bytes, level),
-        Err(answer) => Err(answer),
-    }
+    let bytes = bytes_of_input(alloc, input)?;
+    Ok(edges_in(alloc, bytes, level)?)
 }
 
 /// Appends the text of the points of a volume.

@@ -3,11 +3,11 @@ ghost use Rattle.std.specs.Prelude.{◌≡◌, ◌≤◌, length, ℤ, Option, N
 ghost use Rattle.iso_base.specs.Samples.{IsSample};
 ghost use Rattle.iso_io.specs.Seen.{ReadsAll};
 ghost use Rattle.bench_core.specs.Machine.{begin_fault, IsAbovePad};
-ghost use Rattle.commands.specs.Volumes.{answer_of, volume_limit, FileIs, HoldsNone, HoldsVolume, IsNotRaised, IsNoVolume, IsRead, LacksVolume, volume_of, with_pad};
+ghost use Rattle.commands.specs.Volumes.{volume_limit, FileIs, HoldsNone, HoldsVolume, IsNotRaised, IsNoVolume, IsRead, LacksVolume, volume_of, with_pad};
 
 use endings::{Answer, VolumeFault};
 use iso_base::Level;
-use iso_io::{ReadFault, Shelf, ShelfError, Source, read_all_of};
+use iso_io::{Shelf, Source, read_all_of};
 use nrrd::{NrrdFault, read_volume};
 use std::alloc::Global;
 use voxel_list::{PadFault, VoxelList};
@@ -15,29 +15,68 @@ use voxel_list::{PadFault, VoxelList};
 /// The most bytes of a volume file.
 const LIMIT: u64 = 640_065_536;
 
-/// What a refusal of the reader is answered.
-pub fn refusal(fault: NrrdFault) -> Answer
-    ensures { result ≡ answer_of fault }
-{
-    match fault {
-        NrrdFault::Memory => Answer::Memory,
-        fault => Answer::BadVolume(VolumeFault::Nrrd(fault)),
+/// Why the bytes of a file hold no volume to work on.
+#[derive(Clone, Copy)]
+pub enum NoVolume {
+    /// They hold none, it takes no pad, or the level is not above the pad.
+    Refused(VolumeFault),
+    /// Memory could not be had.
+    Memory,
+}
+
+impl From<NrrdFault> for NoVolume {
+    ghost use Rattle.std.specs.Prelude.{◌≡◌};
+    ghost use Rattle.commands.specs.Volumes.{volume_refusal};
+
+    ghost from_gives = { λ fault reason. reason ≡ volume_refusal fault };
+
+    fn from(fault: NrrdFault) -> NoVolume {
+        match fault {
+            NrrdFault::Memory => NoVolume::Memory,
+            fault => NoVolume::Refused(VolumeFault::Nrrd(fault)),
+        }
+    }
+}
+
+impl From<PadFault> for NoVolume {
+    ghost use Rattle.std.specs.Prelude.{◌≡◌};
+    ghost use Rattle.commands.specs.Volumes.{pad_refusal};
+
+    ghost from_gives = { λ fault reason. reason ≡ pad_refusal fault };
+
+    fn from(fault: PadFault) -> NoVolume {
+        match fault {
+            PadFault::Size(fault) => NoVolume::Refused(VolumeFault::Pad(fault)),
+            PadFault::Memory => NoVolume::Memory,
+        }
+    }
+}
+
+impl From<NoVolume> for Answer {
+    ghost use Rattle.std.specs.Prelude.{◌≡◌};
+    ghost use Rattle.commands.specs.Volumes.{volume_answer};
+
+    ghost from_gives = { λ reason answer. answer ≡ volume_answer reason };
+
+    fn from(reason: NoVolume) -> Answer {
+        match reason {
+            NoVolume::Refused(fault) => Answer::BadVolume(fault),
+            NoVolume::Memory => Answer::Memory,
+        }
     }
 }
 
 /// The volume of the bytes of a file, which are let go.
-fn unpadded(alloc: Global, bytes: Vec<u8>) -> Result<VoxelList, Answer>
+fn unpadded(alloc: Global, bytes: Vec<u8>) -> Result<VoxelList, NoVolume>
     ensures volume { IfOk result (λ v. IsRead bytes.items v) }
     ensures fault { (pad : Option ℤ) (level : ℤ) → IfErr result (IsNoVolume pad level bytes.items) }
 {
-    match read_volume(alloc, &bytes) {
-        Ok((volume, _)) => Ok(VoxelList::of(volume)),
-        Err(fault) => Err(refusal(fault)),
-    }
+    let (volume, _) = read_volume(alloc, &bytes)?;
+    Ok(VoxelList::of(volume))
 }
 
 /// The volume in its pad, above which the level is to be.
-fn padded(alloc: Global, volume: VoxelList, pad: &i64, level: Level) -> Result<VoxelList, Answer>
+fn padded(alloc: Global, volume: VoxelList, pad: &i64, level: Level) -> Result<VoxelList, NoVolume>
     requires unpadded { volume.pad ≡ None }
     requires range { IsSample pad.now }
     ensures volume { IfOk result (λ v. with_pad (Some pad.now) level volume ≡ Ok v) }
@@ -46,14 +85,10 @@ fn padded(alloc: Global, volume: VoxelList, pad: &i64, level: Level) -> Result<V
     ensures fault { IfErr result (IsNotRaised pad.now level volume) }
 {
     let pad = *pad;
-    let volume = match volume.padded(alloc, pad) {
-        Ok(volume) => volume,
-        Err(PadFault::Size(fault)) => return Err(Answer::BadVolume(VolumeFault::Pad(fault))),
-        Err(PadFault::Memory) => return Err(Answer::Memory),
-    };
+    let volume = volume.padded(alloc, pad)?;
     if !level.is_above_pad(pad) {
         let level = level.value();
-        return Err(Answer::BadVolume(VolumeFault::LevelNotAbovePad { level, pad }));
+        return Err(NoVolume::Refused(VolumeFault::LevelNotAbovePad { level, pad }));
     }
     Ok(volume)
 }
@@ -64,17 +99,14 @@ pub fn volume_in(
     bytes: Vec<u8>,
     pad: Option<i64>,
     level: Level,
-) -> Result<VoxelList, Answer>
+) -> Result<VoxelList, NoVolume>
     requires { IfSome pad IsSample }
     ensures volume { IfOk result (λ v. volume_of pad level bytes.items ≡ Ok v) }
     ensures above { IfOk result (λ v. begin_fault v.pad level ≡ None) }
     ensures raised { IfOk result (λ v. IsAbovePad v.pad level) }
     ensures fault { IfErr result (IsNoVolume pad level bytes.items) }
 {
-    let volume = match unpadded(alloc, bytes) {
-        Ok(volume) => volume,
-        Err(answer) => return Err(answer),
-    };
+    let volume = unpadded(alloc, bytes)?;
     match &pad {
         Some(pad) => padded(alloc, volume, pad, level),
         None => Ok(volume),
@@ -87,12 +119,7 @@ pub fn bytes_of_input<S: Source>(alloc: Global, input: &mut S) -> Result<Vec<u8>
     ensures within { IfOk result (λ v. length v.items ≤ volume_limit) }
     ensures fault { (pad : Option ℤ) (level : ℤ) → IfErr result (λ answer. HoldsNone pad level (S.seen input.old) (S.seen input.new) answer) }
 {
-    match read_all_of(alloc, input, LIMIT) {
-        Ok(bytes) => Ok(bytes),
-        Err(ReadFault::Failed) => Err(Answer::InputFault),
-        Err(ReadFault::TooLong) => Err(Answer::InputTooLong),
-        Err(ReadFault::Memory) => Err(Answer::Memory),
-    }
+    Ok(read_all_of(alloc, input, LIMIT)?)
 }
 
 /// The volume of the whole input.
@@ -107,10 +134,8 @@ pub fn volume_of_input<S: Source>(
     ensures raised { IfOk result (λ v. IsAbovePad v.pad level) }
     ensures fault { IfErr result (λ answer. HoldsNone pad level (S.seen input.old) (S.seen input.new) answer) }
 {
-    match bytes_of_input(alloc, input) {
-        Ok(bytes) => volume_in(alloc, bytes, pad, level),
-        Err(answer) => Err(answer),
-    }
+    let bytes = bytes_of_input(alloc, input)?;
+    Ok(volume_in(alloc, bytes, pad, level)?)
 }
 
 /// The volume of a file of the shelf.
@@ -129,11 +154,6 @@ pub fn volume_of_file<H: Shelf>(
     ensures raised { IfOk result (λ v. IsAbovePad v.pad level) }
     ensures fault { IfErr result (λ answer. LacksVolume pad level name.now (H.seen shelf.old) (H.seen shelf.new) answer) }
 {
-    let bytes = match shelf.read(alloc, name, LIMIT) {
-        Ok(bytes) => bytes,
-        Err(ShelfError::Failed) => return Err(Answer::ShelfFault),
-        Err(ShelfError::TooLong { .. }) => return Err(Answer::InputTooLong),
-        Err(ShelfError::Memory) => return Err(Answer::Memory),
-    };
-    volume_in(alloc, bytes, pad, level)
+    let bytes = shelf.read(alloc, name, LIMIT)?;
+    Ok(volume_in(alloc, bytes, pad, level)?)
 }

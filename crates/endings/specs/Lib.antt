@@ -2,3 +2,4 @@ pub mod Status
 pub mod Notes
 pub mod Verdicts
 pub mod Tries
+pub mod Answers

@@ -1,7 +1,9 @@
+//! How the program ends, and which status that is.
 ghost use Rattle.std.specs.Prelude.{◌≡◌};
 ghost use Rattle.endings.specs.Status.{mesh_status, nrrd_status, number_of, status_of, volume_status};
 
 use iso_base::SizeFault;
+use iso_io::{ReadFault, ShelfError};
 use mesh_read::MeshFault;
 use nrrd::NrrdFault;
 use thiserror::Error;
@@ -78,6 +80,38 @@ pub enum Answer {
     Memory,
     ShelfFault,
     BadMesh(MeshFault),
+}
+
+impl From<ReadFault> for Answer {
+    ghost use Rattle.std.specs.Prelude.{◌≡◌};
+    ghost use Rattle.endings.specs.Answers.{input_answer};
+
+    ghost from_gives = { λ fault answer. answer ≡ input_answer fault };
+
+    /// What is answered where the input was not read to its end.
+    fn from(fault: ReadFault) -> Answer {
+        match fault {
+            ReadFault::Failed => Answer::InputFault,
+            ReadFault::TooLong => Answer::InputTooLong,
+            ReadFault::Memory => Answer::Memory,
+        }
+    }
+}
+
+impl From<ShelfError> for Answer {
+    ghost use Rattle.std.specs.Prelude.{◌≡◌};
+    ghost use Rattle.endings.specs.Answers.{shelf_answer};
+
+    ghost from_gives = { λ fault answer. answer ≡ shelf_answer fault };
+
+    /// What is answered where a session's volume file was not read.
+    fn from(fault: ShelfError) -> Answer {
+        match fault {
+            ShelfError::Failed => Answer::ShelfFault,
+            ShelfError::TooLong { .. } => Answer::InputTooLong,
+            ShelfError::Memory => Answer::Memory,
+        }
+    }
 }
 
 fn status_of_nrrd(fault: NrrdFault) -> Status

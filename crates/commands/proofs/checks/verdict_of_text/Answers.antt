@@ -1,4 +1,4 @@
 use Rattle.commands.proofs.checks.verdict_of_text.Goals as goal
 
-pub returns-in-Ok-verdict-clause-verdict : goal.returns-in-Ok-verdict-clause-verdict
-returns-in-Ok-verdict-clause-verdict c = (c.in-Ok.mesh, c.in-Ok.ensures.mesh.0, c.in-Ok-verdict.ensures)
+pub returns-clause-verdict : goal.returns-clause-verdict
+returns-clause-verdict c = (c.in_ok-mesh.mesh, c.in_ok-mesh.ensures.mesh.0, c.in_ok-verdict.ensures)

@@ -1,10 +1,12 @@
-use Rattle.std.proofs.Common.{None, sym, subst}
+use Rattle.std.proofs.Common.{None, subst}
 use Rattle.nrrd.specs.Nrrd.{nrrd_of, Fails}
-use Rattle.commands.specs.Volumes.{IsNoVolume}
+use Rattle.commands.specs.Volumes.{IsNoVolume, volume_refusal}
+use Rattle.commands.proofs.Passed.{passed_on}
 use Rattle.commands.proofs.ReadVolumes.{no_volume}
 use Rattle.commands.proofs.points.edges_in.Goals as goal
 
-pub returns-clause-fault : goal.returns-clause-fault
-returns-clause-fault c =
-    subst (IsNoVolume None c.args.level c.args.bytes.items) (sym c.refusal.ensures)
-    (no_volume None c.args.level c.args.bytes.items c.in-Err.fault (subst (λ bytes. Fails c.in-Err.fault (nrrd_of bytes)) c.deref.ensures.value c.in-Err.ensures.fault))
+pub returns-in_err-edges_of_file-clause-fault : goal.returns-in_err-edges_of_file-clause-fault
+returns-in_err-edges_of_file-clause-fault c =
+    let fault = c.in_err-edges_of_file.field-0.0 in
+    passed_on c.from_residual.result volume_refusal fault (IsNoVolume None c.args.level c.args.bytes.items) c.from_residual.ensures.1
+    (no_volume None c.args.level c.args.bytes.items fault (subst (λ bytes. Fails fault (nrrd_of bytes)) c.deref.ensures.value c.in_err-edges_of_file.ensures.fault))

@@ -1,13 +1,17 @@
 use Rattle.std.proofs.Common.{None}
-use Rattle.std.proofs.lemmas.Result.{IfOk-weaker}
+use Rattle.commands.specs.Volumes.{HoldsNone}
 use Rattle.commands.proofs.FileEdges.{edges_told, known_edges}
+use Rattle.commands.proofs.Passed.{passed_on}
 use Rattle.commands.proofs.points.edges_of_input.Goals as goal
 
-pub returns-in-Ok-clause-known : goal.returns-in-Ok-clause-known
-returns-in-Ok-clause-known g c = IfOk-weaker c.edges_in.result _ _ (λ e h. known_edges _ _ _ _ _ h) c.edges_in.ensures.edges
+pub returns-clause-known : goal.returns-clause-known
+returns-clause-known g c = known_edges _ _ _ _ _ c.in_ok-edges_in.ensures.edges
 
-pub returns-in-Ok-clause-edges : goal.returns-in-Ok-clause-edges
-returns-in-Ok-clause-edges g c = IfOk-weaker c.edges_in.result _ _ (λ e h. edges_told _ _ _ _ _ _ _ c.in-Ok.ensures.all c.in-Ok.ensures.within h) c.edges_in.ensures.edges
+pub returns-clause-edges : goal.returns-clause-edges
+returns-clause-edges g c = edges_told _ _ _ _ _ _ _ c.in_ok-bytes.ensures.all c.in_ok-bytes.ensures.within c.in_ok-edges_in.ensures.edges
 
-pub returns-in-Err-clause-fault : goal.returns-in-Err-clause-fault
-returns-in-Err-clause-fault g c = c.in-Err.ensures.fault None c.args.level
+pub returns-in_err-bytes-clause-fault : goal.returns-in_err-bytes-clause-fault
+returns-in_err-bytes-clause-fault g c =
+    passed_on c.from_residual.result (λ answer. answer) c.in_err-bytes.field-0.0
+    (HoldsNone None c.args.level (g.S.Source.seen c.args.input.now) (g.S.Source.seen c.bytes_of_input.new.input)) c.from_residual.ensures.1
+    (c.in_err-bytes.ensures.fault None c.args.level)

@@ -1,7 +1,11 @@
 use Rattle.std.proofs.Common.{ap, ◌∙◌, Err}
-use Rattle.commands.specs.Volumes.{raised}
+use Rattle.commands.specs.Volumes.{IsNotRaised, pad_refusal}
+use Rattle.commands.proofs.Passed.{passed_on}
+use Rattle.commands.proofs.ReadVolumes.{not_raised}
 use Rattle.commands.proofs.volumes.padded.Goals as goal
 
-pub returns-in-Err-Size-clause-fault : goal.returns-in-Err-Size-clause-fault
-returns-in-Err-Size-clause-fault c =
-    rw c.in-Err-Size.fault-is (ap (raised c.args.pad.now c.args.level c.args.volume) ((c.padded.ensures.size c.in-Err-Size.fault).0 (c.in-Err-Size.is ∙ ap Err c.in-Err-Size.field-0-is)))
+pub returns-in_err-volume-clause-fault : goal.returns-in_err-volume-clause-fault
+returns-in_err-volume-clause-fault c =
+    let fault = c.in_err-volume.field-0.0 in
+    passed_on c.from_residual.result pad_refusal fault (IsNotRaised c.args.pad.now c.args.level c.args.volume) c.from_residual.ensures.1
+    (not_raised c.args.pad.now c.args.level c.args.volume fault (λ size e. (c.padded.ensures.size size).0 (c.in_err-volume.was ∙ ap Err e)))

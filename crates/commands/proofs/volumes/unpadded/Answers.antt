@@ -1,13 +1,15 @@
 use Rattle.std.proofs.Common.{sym, ap, ◌∙◌, subst}
 use Rattle.nrrd.specs.Nrrd.{nrrd_of, Fails}
-use Rattle.commands.specs.Volumes.{IsNoVolume}
+use Rattle.commands.specs.Volumes.{IsNoVolume, volume_refusal}
+use Rattle.commands.proofs.Passed.{passed_on}
 use Rattle.commands.proofs.ReadVolumes.{no_volume}
 use Rattle.commands.proofs.volumes.unpadded.Goals as goal
 
-pub returns-in-Ok-clause-volume : goal.returns-in-Ok-clause-volume
-returns-in-Ok-clause-volume c = ((c.in-Ok.volume, c.in-Ok.field-0-1), ap nrrd_of (sym c.deref.ensures.value) ∙ c.in-Ok.ensures, c.of.ensures)
+pub returns-clause-volume : goal.returns-clause-volume
+returns-clause-volume c = ((c.in_ok-volume.volume, c.in_ok-volume.field-0-1), ap nrrd_of (sym c.deref.ensures.value) ∙ c.in_ok-volume.ensures, c.of.ensures)
 
-pub returns-clause-fault : goal.returns-clause-fault
-returns-clause-fault c = λ pad level.
-    subst (IsNoVolume pad level c.args.bytes.items) (sym c.refusal.ensures)
-    (no_volume pad level c.args.bytes.items c.in-Err.fault (subst (λ bytes. Fails c.in-Err.fault (nrrd_of bytes)) c.deref.ensures.value c.in-Err.ensures))
+pub returns-in_err-volume-clause-fault : goal.returns-in_err-volume-clause-fault
+returns-in_err-volume-clause-fault c = λ pad level.
+    let fault = c.in_err-volume.field-0.0 in
+    passed_on c.from_residual.result volume_refusal fault (IsNoVolume pad level c.args.bytes.items) c.from_residual.ensures.1
+    (no_volume pad level c.args.bytes.items fault (subst (λ bytes. Fails fault (nrrd_of bytes)) c.deref.ensures.value c.in_err-volume.ensures))
