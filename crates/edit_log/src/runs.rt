@@ -244,8 +244,8 @@ fn write_equal(store: &mut BrickStore, area: &FillBox, runs: &[Run])
     ensures { store.new ≡ record store.old { samples = restored store.old.grid area.now (values_of runs.now) store.old.samples } }
 {
     if runs.len() == 1 {
-        let value = runs[0].value;
-        fill_area(store, area, &value);
+        let _ = (store.sizes(), area.low());
+        fill_area(store, area, &runs[0].value);
     } else {
         write_runs(store, area, runs);
     }

@@ -1,4 +1,4 @@
-use Rattle.std.proofs.Common.{◌≡◌, ◌<◌, ◌≤◌, ◌+◌, ◌++◌, ◌∙◌, arith, ap, subst}
+use Rattle.std.proofs.Common.{◌≡◌, ◌<◌, ◌++◌, ◌∙◌, arith, ap, subst}
 use Rattle.iso_base.specs.Points.{IsPoint, index_of}
 use Rattle.voxel_list.specs.Areas.{area_count}
 use Rattle.edit_log.specs.Boxes.{IsBox, area_index, row_samples}
