@@ -1,10 +1,10 @@
 //! Samples of a box, written brick by brick: each brick that holds a point of it is written once.
-ghost use Rattle.std.specs.Prelude.{◌≡◌, ◌+◌, ◌-◌, ◌*◌, ◌<◌, ◌≤◌, min, length};
+ghost use Rattle.std.specs.Prelude.{◌≡◌, ◌+◌, ◌-◌, ◌*◌, ◌<◌, ◌≤◌, min, drop, length, replicate, take};
 ghost use Rattle.iso_defs.specs.Bricks.{brick_count, brick_start, bricks_along};
 ghost use Rattle.iso_base.specs.Points.{IsPoint, index_of};
 ghost use Rattle.voxel_list.specs.Areas.{IsArea};
 ghost use Rattle.brick_store.specs.Copies.{AreCopies, home, samples_of};
-ghost use Rattle.brick_store.specs.Rows.{brick_zone, reach_end};
+ghost use Rattle.brick_store.specs.Rows.{brick_zone, row_set};
 ghost use Rattle.brick_store.specs.Boxes.{ArePartWritten, AreBoxWritten, AreAsMany, IsPartOf, area_place, boxed, box_layer, box_line, one_layer, one_row};
 
 use crate::copies::copy_place;
@@ -87,6 +87,27 @@ fn place_in(sizes: &Sizes, area: &FillBox, p: Point) -> usize
     (p.x - low.x + width * row) as usize
 }
 
+/// A value as often as a whole row of a brick has points.
+fn nine(value: &i64) -> [i64; 9]
+    ensures { result ≡ replicate 9 value.now }
+{
+    [*value; 9]
+}
+
+/// Copies so many values from a place on over the copies from a place on. Nine of them, as many as a whole row has, are
+/// copied without a call.
+fn put(copies: &mut [i64], start: usize, values: &[i64], from: usize, count: usize)
+    requires room { start + count ≤ length copies.old }
+    requires there { from + count ≤ length values.now }
+    ensures { copies.new ≡ row_set start (take count (drop from values.now)) copies.old }
+{
+    if count == 9 {
+        copies[start..start + 9].copy_from_slice(&values[from..from + 9]);
+    } else {
+        copies[start..start + count].copy_from_slice(&values[from..from + count]);
+    }
+}
+
 /// Writes the copies of the points of a box in a row of a brick.
 #[tactic(auto, using(crate::proofs::Standing::few_bricks))]
 fn write_row(
@@ -114,7 +135,10 @@ fn write_row(
     let start = copy_place(brick, part.x, y, z);
     let count = (part.x_end - part.x) as usize;
     match values {
-        Values::One(value) => copies[start..start + count].fill(value),
+        Values::One(value) => {
+            let row = nine(&value);
+            put(copies, start, &row, 0, count);
+        }
         Values::Each(values) => {
             let p = Point {
                 x: first.x + part.x,
@@ -122,7 +146,7 @@ fn write_row(
                 z: first.z + z,
             };
             let from = place_in(sizes, area, p);
-            copies[start..start + count].copy_from_slice(&values[from..from + count]);
+            put(copies, start, values, from, count);
         }
     }
 }
