@@ -30,7 +30,7 @@ use Rattle.edit_log.specs.declared.change.Change.{Change}
 use Rattle.edit_log.specs.declared.change.Change.TheVariants as changes
 use Rattle.edit_log.specs.Boxes.{area_place, replaced}
 use Rattle.edit_log.specs.Changes.{Moment, after, area_of, before, moment}
-use Rattle.edit_log.proofs.Replacing.{sample-replaced}
+use Rattle.brick_store.proofs.Replacing.{sample-replaced}
 use Rattle.bench_core.specs.Machine.{State}
 use Rattle.bench_core.specs.Keeping.{IsKept, Refreshes, Workbench, bricks_of, holds_some, touched, turn_steps, waiting_bricks, without_bricks, without_points, write_steps}
 use Rattle.bench_core.proofs.Touching.{without_none}

@@ -8,3 +8,7 @@ pub mod Gathering
 pub mod Flattening
 pub mod RowWriting
 pub mod RowVolumes
+pub mod BoxPoints
+pub mod Replacing
+pub mod BoxWriting
+pub mod BoxVolumes

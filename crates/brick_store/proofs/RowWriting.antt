@@ -121,7 +121,7 @@ module _ (g : Grid) (x x_end y y_end z z_end : ℕ) where
 -- ---- one brick
 
 -- the brick that begins here
-one_brick : (g : Grid) (x y z b : ℕ) → IsGrid g → b < brick_count g
+pub one_brick : (g : Grid) (x y z b : ℕ) → IsGrid g → b < brick_count g
     → InZone g (record { x = x; x_end = x + 1; y = y; y_end = y + 1; z = z; z_end = z + 1 }) b → b ≡ brick_at g x y z
 one_brick g x y z b is low zone =
     let at = brick_places g b is low in

@@ -3,3 +3,4 @@ pub mod Copies
 pub mod Gathered
 pub mod Next
 pub mod Rows
+pub mod Boxes

@@ -1,6 +1,7 @@
 //! A volume in bricks of 8x8x8 cells, each with its own copy of every sample at a corner of one of its cells.
 #![tactic(auto)]
 
+mod boxes;
 mod copies;
 mod filling;
 mod flat;
@@ -8,5 +9,6 @@ mod numbering;
 mod rows;
 mod store;
 
+pub use boxes::Values;
 pub use numbering::BrickId;
 pub use store::BrickStore;

@@ -8,6 +8,7 @@ ghost use Rattle.iso_defs.specs.Bricks.{bricks_along, brick_count, brick_start, 
 ghost use Rattle.iso_base.specs.Points.{IsPoint};
 ghost use Rattle.iso_base.specs.Sizing.{IsGrid};
 ghost use Rattle.brick_store.specs.Copies.{home};
+ghost use Rattle.brick_store.specs.Rows.{reach_end};
 ghost use Rattle.brick_store.specs.Holding.{IsCellOf, brick_at, brick_of, first_holding, local_of, points_along, reaches, row_length};
 
 use arrayvec::ArrayVec;
@@ -128,6 +129,15 @@ pub fn reaching(points: u32, c: u32) -> (u32, u32)
     ensures two_at_most { result.1 ≤ result.0 + 2 }
 {
     (home(c), (c / 8 + 1).min(bricks_along(points)))
+}
+
+/// Where the bricks along an axis end that reach a coordinate before an end.
+pub fn row_end(points: u32, end: u32) -> u32
+    requires points { points ≤ 1026 }
+    requires end { end ≤ points }
+    ensures { result ≡ reach_end points end }
+{
+    ((end + 7) / 8).min(bricks_along(points))
 }
 
 /// Puts the bricks from one number to before another behind the others.

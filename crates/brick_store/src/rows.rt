@@ -3,10 +3,10 @@ ghost use Rattle.std.specs.Prelude.{◌≡◌, ◌+◌, ◌*◌, ◌<◌, ◌≤
 ghost use Rattle.iso_defs.specs.Bricks.{brick_count, bricks_along};
 ghost use Rattle.iso_base.specs.Points.{IsPoint, index_of};
 ghost use Rattle.brick_store.specs.Copies.{AreCopies, home, samples_of};
-ghost use Rattle.brick_store.specs.Rows.{AreRowWritten, brick_zone, layer_zone, line_zone, reach_end, row_set};
+ghost use Rattle.brick_store.specs.Rows.{AreRowWritten, brick_zone, layer_zone, line_zone, row_set};
 
 use crate::copies::copy_place;
-use crate::numbering::{brick_at, bricks_along, home, reaching};
+use crate::numbering::{brick_at, home, reaching, row_end};
 use iso_base::{Point, Sizes};
 
 /// Writes the copies that one brick has of the samples of a row from a point on.
@@ -41,15 +41,6 @@ fn write_in_brick(
     let first = (from - p.x) as usize;
     let count = (end - from) as usize;
     copies[start..start + count].copy_from_slice(&values[first..first + count]);
-}
-
-/// Where the bricks along x end that reach a row of points before an end.
-fn row_end(points: u32, end: u32) -> u32
-    requires points { points ≤ 1026 }
-    requires end { end ≤ points }
-    ensures { result ≡ reach_end points end }
-{
-    ((end + 7) / 8).min(bricks_along(points))
 }
 
 /// Writes the copies of a row in the bricks of a line along x.

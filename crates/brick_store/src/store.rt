@@ -11,14 +11,16 @@ ghost use Rattle.iso_base.specs.Volume.{IsInner, IsVolume, Volume, sample};
 ghost use Rattle.brick_store.specs.Holding.{IsCellOf, brick_of, holds_point, local_of, points_along, row_length};
 ghost use Rattle.brick_store.specs.Copies.{row_rest};
 ghost use Rattle.brick_store.specs.Rows.{row_set};
+ghost use Rattle.brick_store.specs.Boxes.{AreAsMany, AreOfKind, IsInnerArea, boxed};
 
+use crate::boxes::Values;
 use crate::numbering::{self, BrickId};
-use crate::{copies, filling, flat, rows};
+use crate::{boxes, copies, filling, flat, rows};
 use arrayvec::ArrayVec;
 use iso_base::{CellName, Memory, Point, SampleKind, Sizes};
 use std::alloc::Global;
 use std::marker::Model;
-use voxel_list::VoxelList;
+use voxel_list::{FillBox, VoxelList};
 
 /// A volume in bricks of 8x8x8 cells, in the order of their numbers. Each has 729 samples of its own, eight bytes each:
 /// those at the corners of its cells, and zeros behind the end of the grid. Contracts see a store as the volume that it stands for.
@@ -118,6 +120,19 @@ impl BrickStore {
         ensures { self.new ≡ record self.old { samples = row_set (index_of self.old.grid p) values.now self.old.samples } }
     {
         rows::write_row(&self.sizes, &mut self.copies, p, values);
+    }
+
+    /// Replaces the samples of a box of the stored grid, which holds no pad: each brick that holds a point of it is written once.
+    /// The cost is that of these bricks' part of the box.
+    pub fn set_box(&mut self, area: &FillBox, values: Values)
+        requires high { IsPoint self.old.grid area.now.high }
+        requires inner { IsInnerArea self.old area.now }
+        requires count { AreAsMany area.now values }
+        requires kind { AreOfKind self.old.kind values }
+        ensures { self.new ≡ record self.old { samples = boxed self.old.grid area.now values.entry self.old.samples } }
+    {
+        let _ = area.low();
+        boxes::write_box(&self.sizes, &mut self.copies, area, values);
     }
 
     /// The samples at the corners of a cell, by corner: corner c lies c % 2 points on along x, c / 2 % 2 along y and c / 4 along z.

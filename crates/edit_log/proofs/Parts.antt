@@ -1,7 +1,7 @@
--- Parts of a box that are filled.
-use Rattle.std.proofs.Common.{◌≡◌, ℕ, suc, ◌+◌, ◌-◌, ◌%◌, ◌<◌, ◌≤◌, true, false, cond, List, length, refl, sym, ap, subst, ◌∙◌, inl, inr, arith, ℤ}
+-- Parts of a box that are replaced.
+use Rattle.std.proofs.Common.{◌≡◌, ℕ, suc, ◌+◌, ◌-◌, ◌%◌, ◌<◌, ◌≤◌, true, cond, List, length, refl, sym, ap, subst, ◌∙◌, inl, inr, arith, ℤ}
 use Rattle.std.specs.Prelude.{◌&&◌, nat_le, nat_lt}
-use Rattle.std.proofs.lemmas.Bool.{cases_Bool, cases_lt, le-leb, lt-leb, leb-true}
+use Rattle.std.proofs.lemmas.Bool.{cases_Bool, cases_lt, le-leb, lt-leb}
 use Rattle.iso_defs.specs.Grid.{Grid, point_count}
 use Rattle.iso_base.specs.Points.{index_of}
 use Rattle.iso_base.specs.Volume.{Volume, IsInner, sample}
@@ -9,16 +9,9 @@ use Rattle.iso_base.specs.declared.point.Point.{Point}
 use Rattle.voxel_list.specs.Areas.{Area, area_count, is_in_area}
 use Rattle.brick_store.specs.Rows.{row_set}
 use Rattle.brick_store.proofs.RowWriting.{length-row_set, row_set_before, row_set_within, row_set_behind}
-use Rattle.edit_log.specs.Boxes.{IsBox, IsInnerArea, area_grid, area_index, area_place, is_in_part, part_filled, filled, replaced}
-use Rattle.edit_log.proofs.BoxPoints.{area_index_in, area_index_is_in, area_place-area_index, area_index-area_place, area_place_in, row_index}
-use Rattle.edit_log.proofs.Replacing.{length-replaced, sample-replaced, replaced_is, replaced_none}
-
--- an empty part has no number
-none_between : (n k : ℕ) → nat_le n k && nat_lt k n ≡ false
-none_between n k = elim (cases_Bool (nat_le n k)) [
-  | inl t ↦ rw (t, lt-leb (suc k) n (omega (arith, leb-true n k t))) refl
-  | inr f ↦ rw f refl
-]
+use Rattle.edit_log.specs.Boxes.{IsBox, IsInnerArea, area_grid, area_index, area_place, is_in_part, replaced}
+use Rattle.brick_store.proofs.BoxPoints.{area_index_in, area_index_is_in, area_place-area_index, area_index-area_place, row_index}
+use Rattle.brick_store.proofs.Replacing.{length-replaced, sample-replaced, replaced_is}
 
 -- a number that is not one of these is in a part that ends behind them where it is in the one before them
 but_these : (from k m n : ℕ) → (k ≤ n → n < k + m → ⊥) → nat_le from n && nat_lt n (k + m) ≡ nat_le from n && nat_lt n k
@@ -34,15 +27,7 @@ but_these from k m n not = elim (cases_lt n k) [
 one_of_these : (from end n : ℕ) → from ≤ n → n < end → nat_le from n && nat_lt n end ≡ true
 one_of_these from end n le low = rw (le-leb from n le, le-leb (suc n) end low) refl
 
--- with nothing filled the samples are as before
-pub part_none : (g : Grid) (a : Area) (k : ℕ) (v : ℤ) (samples : List ℤ) → samples ≡ part_filled g a k k v samples
-part_none g a k v samples = replaced_none (is_in_part g a k k) (λ _. v) samples
-    (λ p low. elim (cases_Bool (is_in_area g a p)) [
-      | inl t ↦ rw (t, none_between k (area_place g a p)) refl
-      | inr f ↦ rw f refl
-    ])
-
--- the points that follow in a row of the box are filled, so many as there are values
+-- the points that follow in a row of the box are replaced, so many as there are values
 module _ (g : Grid) (a : Area) (from k : ℕ) (values : List ℤ) (is : IsBox g a) (le : from ≤ k) (some : 0 < length values)
     (end : k + length values ≤ area_count a) (row : k % (area_grid a).nx + length values ≤ (area_grid a).nx) where
   low : k < area_count a
@@ -142,16 +127,3 @@ row_is_inner v a k count p is inner end row at d low =
     let number : k + d < area_count a = omega (arith, end, low) in
     let place : area_index v.grid a (k + d) ≡ index_of v.grid p + d = row_index v.grid a k d (omega (arith, row, low)) ∙ ap (λ n. n + d) (sym at) in
     subst (IsInner v) place (inner (area_index v.grid a (k + d)) (area_index_in v.grid a is (k + d) number) (area_index_is_in v.grid a is (k + d) number))
-
--- the whole box is its part from the first number on
-pub part_all : (g : Grid) (a : Area) (v : ℤ) (samples : List ℤ) → IsBox g a → length samples ≡ point_count g
-    → part_filled g a 0 (area_count a) v samples ≡ filled g a v samples
-part_all g a v samples is count =
-    replaced_is (is_in_area g a) (λ _. v) samples (part_filled g a 0 (area_count a) v samples) (length-replaced (is_in_part g a 0 (area_count a)) (λ _. v) samples)
-    (λ p here. sample-replaced (is_in_part g a 0 (area_count a)) (λ _. v) samples p here ∙ ap (λ b. cond b v (sample samples p)) (same p (omega arith)))
-  where
-    same : (p : ℕ) → p < point_count g → is_in_part g a 0 (area_count a) p ≡ is_in_area g a p
-    same p here = elim (cases_Bool (is_in_area g a p)) [
-      | inl t ↦ rw (t, le-leb 0 (area_place g a p) (omega arith), le-leb (suc (area_place g a p)) (area_count a) (area_place_in g a is p here t)) refl
-      | inr f ↦ rw f refl
-    ]

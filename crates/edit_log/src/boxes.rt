@@ -1,13 +1,13 @@
 //! The points of a box one after another.
 
-ghost use Rattle.std.specs.Prelude.{◌≡◌, ◌+◌, ◌%◌, ◌^◌, ◌<◌, ◌≤◌, true, replicate, slice_set};
+ghost use Rattle.std.specs.Prelude.{◌≡◌, ◌+◌, ◌%◌, ◌<◌, ◌≤◌, true, slice_set};
 ghost use Rattle.iso_base.specs.Points.{IsPoint, index_of};
 ghost use Rattle.iso_base.specs.Samples.{IsOfKind};
 ghost use Rattle.iso_base.specs.Volume.{IsInner};
 ghost use Rattle.voxel_list.specs.Areas.{area_count, is_in_area};
-ghost use Rattle.edit_log.specs.Boxes.{IsBox, IsInnerArea, area_grid, area_index, filled, part_filled};
+ghost use Rattle.edit_log.specs.Boxes.{IsBox, IsInnerArea, area_grid, area_index, filled};
 
-use brick_store::BrickStore;
+use brick_store::{BrickStore, Values};
 use iso_base::{Point, Sizes};
 use voxel_list::FillBox;
 
@@ -50,15 +50,8 @@ pub fn area_count(sizes: &Sizes, area: &FillBox) -> u32
     area.count() as u32
 }
 
-/// The most points that are replaced together.
+/// The most points of a row that are taken or replaced together.
 pub const PIECE: u32 = 128;
-
-/// A value as often as a whole piece has points.
-fn piece_of(value: &i64) -> [i64; 128]
-    ensures { result ≡ replicate 128 value.now }
-{
-    [*value; PIECE as usize]
-}
 
 /// How many points of a box from the number k on, before an end, are replaced together: those of one row, a piece at most.
 pub fn piece_of_row(area: &FillBox, k: u32, end: u32) -> u32
@@ -72,27 +65,6 @@ pub fn piece_of_row(area: &FillBox, k: u32, end: u32) -> u32
     (end - k).min(width - k % width).min(PIECE)
 }
 
-/// Replaces the samples of the points of a box from a number on, so many. The cost is that of the rows that they lie in.
-fn fill_part(store: &mut BrickStore, area: &FillBox, from: u32, count: u32, value: &i64)
-    requires high { IsPoint store.old.grid area.now.high }
-    requires inner { IsInnerArea store.old area.now }
-    requires part { from + count ≤ area_count area.now }
-    requires fits { from + count < 2 ^ 32 }
-    requires kind { 0 < count → IsOfKind store.old.kind value.now }
-    ensures { store.new ≡ record store.old { samples = part_filled store.old.grid area.now from (from + count) value.now store.old.samples } }
-{
-    let sizes = store.sizes();
-    let values = piece_of(value);
-    let end = from + count;
-    let mut k = from;
-    while k < end {
-        let piece = piece_of_row(area, k, end);
-        let row = &values[..piece as usize];
-        store.set_row(area_point(&sizes, area, k), row);
-        k += piece;
-    }
-}
-
 /// Replaces the samples of all points of a box, which holds no pad. The cost is that of the box. Takes no memory.
 pub fn fill_area(store: &mut BrickStore, area: &FillBox, value: &i64)
     requires high { IsPoint store.old.grid area.now.high }
@@ -100,6 +72,5 @@ pub fn fill_area(store: &mut BrickStore, area: &FillBox, value: &i64)
     requires kind { IsOfKind store.old.kind value.now }
     ensures { store.new ≡ record store.old { samples = filled store.old.grid area.now value.now store.old.samples } }
 {
-    let count = area_count(&store.sizes(), area);
-    fill_part(store, area, 0, count, value);
+    store.set_box(area, Values::One(*value));
 }

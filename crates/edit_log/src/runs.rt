@@ -7,8 +7,8 @@ ghost use Rattle.voxel_list.specs.Areas.{area_count};
 ghost use Rattle.edit_log.specs.Boxes.{IsInnerArea, area_samples, restored, row_samples};
 ghost use Rattle.edit_log.specs.Runs.{gathered, values_left, values_of};
 
-use crate::boxes::{PIECE, area_count, area_point, piece_of_row};
-use brick_store::BrickStore;
+use crate::boxes::{PIECE, area_count, area_point, fill_area, piece_of_row};
+use brick_store::{BrickStore, Values};
 use iso_base::{Memory, Point};
 use std::alloc::{AllocError, Global};
 use std::marker::Model;
@@ -235,25 +235,19 @@ fn write_runs(store: &mut BrickStore, area: &FillBox, runs: &[Run])
     }
 }
 
-/// Gives the points of a box these values.
-fn write_each(store: &mut BrickStore, area: &FillBox, values: &[i64])
+/// Gives the points of a box the values of some runs: where it is one, all at once.
+fn write_equal(store: &mut BrickStore, area: &FillBox, runs: &[Run])
     requires high { IsPoint store.old.grid area.now.high }
     requires inner { IsInnerArea store.old area.now }
-    requires count { length values.now ≡ area_count area.now }
-    requires kind { All (IsOfKind store.old.kind) values.now }
-    ensures { store.new ≡ record store.old { samples = restored store.old.grid area.now values.now store.old.samples } }
+    requires count { length (values_of runs.now) ≡ area_count area.now }
+    requires kind { All (IsOfKind store.old.kind) (values_of runs.now) }
+    ensures { store.new ≡ record store.old { samples = restored store.old.grid area.now (values_of runs.now) store.old.samples } }
 {
-    let sizes = store.sizes();
-    let count = area_count(&sizes, area);
-    let mut k = 0;
-    while k < count {
-        let piece = piece_of_row(area, k, count);
-        let end = k + piece;
-        store.set_row(
-            area_point(&sizes, area, k),
-            &values[k as usize..end as usize],
-        );
-        k = end;
+    if runs.len() == 1 {
+        let _ = (store.sizes(), area.low());
+        fill_area(store, area, &runs[0].value);
+    } else {
+        write_runs(store, area, runs);
     }
 }
 
@@ -281,8 +275,8 @@ impl Runs {
         ensures { store.new ≡ record store.old { samples = restored store.old.grid area.now self.now store.old.samples } }
     {
         match &self.kept {
-            Kept::Equal(runs) => write_runs(store, area, runs),
-            Kept::Each(values) => write_each(store, area, values),
+            Kept::Equal(runs) => write_equal(store, area, runs),
+            Kept::Each(values) => store.set_box(area, Values::Each(values)),
         }
     }
 }

@@ -17,7 +17,7 @@ use Rattle.iso_base.specs.declared.point.Point.{Point}
 use Rattle.voxel_list.specs.Areas.{Area, area_count, between, is_in_area}
 use Rattle.voxel_list.proofs.Volumes.{set_keeps}
 use Rattle.edit_log.specs.Boxes.{filled}
-use Rattle.edit_log.proofs.Replacing.{length-replaced, sample-replaced}
+use Rattle.brick_store.proofs.Replacing.{length-replaced, sample-replaced}
 use Rattle.inner_volume.specs.Places.{IsInside, place_of, plane_of, point_by, stored}
 use Rattle.inner_volume.proofs.Insides.{free, inside_area, inside_is_inner}
 use Rattle.bench_core.specs.Machine.{Entry, IsAbovePad, IsState, State, area_by, changed, checked_level, contour_by, contour_step, fill_at, fill_step, is_of_kind, level_by, level_step, pad_fault, redo_by, redo_step, set_at, set_step, undo_by, undo_step, unless_fault, value_fault, with_sample}

@@ -1,9 +1,9 @@
-use Rattle.std.proofs.Common.{◌≡◌, ◌<◌, ◌≤◌, ◌+◌, ◌++◌, ◌∙◌, arith, ap, subst}
+use Rattle.std.proofs.Common.{◌≡◌, ◌<◌, ◌++◌, ◌∙◌, arith, ap, subst}
 use Rattle.iso_base.specs.Points.{IsPoint, index_of}
 use Rattle.voxel_list.specs.Areas.{area_count}
 use Rattle.edit_log.specs.Boxes.{IsBox, area_index, row_samples}
 use Rattle.edit_log.specs.Runs.{values_of}
-use Rattle.edit_log.proofs.BoxPoints.{row_fits}
+use Rattle.brick_store.proofs.BoxPoints.{row_fits}
 use Rattle.edit_log.proofs.RunLaws.{gathered_run, first_row, first_all}
 use Rattle.edit_log.proofs.runs.equal_samples.Goals as goal
 use Rattle.edit_log.proofs.runs.equal_samples.Goals.{After-area_point-from}

@@ -9,7 +9,7 @@ use Rattle.iso_defs.proofs.Points.{x_index, y_index, z_index, index_in, index_of
 use Rattle.iso_base.specs.Points.{IsPoint, index_of}
 use Rattle.iso_base.specs.declared.point.Point.{Point}
 use Rattle.voxel_list.specs.Areas.{Area, IsArea, area_count, is_in_area, is_within}
-use Rattle.edit_log.specs.Boxes.{IsBox, area_grid, area_index, area_place}
+use Rattle.brick_store.specs.Boxes.{IsBox, area_grid, area_index, area_place}
 
 -- tests that hold together
 both : (p q : Bool) → p ≡ true → q ≡ true → p && q ≡ true
@@ -133,16 +133,16 @@ module _ (g : Grid) (a : Area) (is : IsBox g a) (p : ℕ) (low : p < point_count
   along : (l h n : ℕ) → nat_le l n && nat_le n h ≡ true → (l ≤ n) × (n ≤ h)
   along l h n e = let t = and_parts (nat_le l n) (nat_le n h) e in (leb-true _ _ t.0, leb-true _ _ t.1)
 
-  x_side : (a.low.x ≤ coordinate g 0 p) × (coordinate g 0 p ≤ a.high.x)
+  pub x_side : (a.low.x ≤ coordinate g 0 p) × (coordinate g 0 p ≤ a.high.x)
   x_side = along _ _ _ (and_parts (nat_le a.low.x (coordinate g 0 p) && nat_le (coordinate g 0 p) a.high.x) _ inside).0
 
   yz : (nat_le a.low.y (coordinate g 1 p) && nat_le (coordinate g 1 p) a.high.y && (nat_le a.low.z (coordinate g 2 p) && nat_le (coordinate g 2 p) a.high.z)) ≡ true
   yz = (and_parts (nat_le a.low.x (coordinate g 0 p) && nat_le (coordinate g 0 p) a.high.x) _ inside).1
 
-  y_side : (a.low.y ≤ coordinate g 1 p) × (coordinate g 1 p ≤ a.high.y)
+  pub y_side : (a.low.y ≤ coordinate g 1 p) × (coordinate g 1 p ≤ a.high.y)
   y_side = along _ _ _ (and_parts (nat_le a.low.y (coordinate g 1 p) && nat_le (coordinate g 1 p) a.high.y) _ yz).0
 
-  z_side : (a.low.z ≤ coordinate g 2 p) × (coordinate g 2 p ≤ a.high.z)
+  pub z_side : (a.low.z ≤ coordinate g 2 p) × (coordinate g 2 p ≤ a.high.z)
   z_side = along _ _ _ (and_parts (nat_le a.low.y (coordinate g 1 p) && nat_le (coordinate g 1 p) a.high.y) _ yz).1
 
   x_off : coordinate g 0 p - a.low.x < (area_grid a).nx

@@ -3,7 +3,7 @@ use Rattle.std.proofs.Common.{◌≡◌, ℕ, ◌<◌, Bool, false, cond, List, 
 use Rattle.std.proofs.lemmas.List.{ext_get_or}
 use Rattle.std.proofs.lemmas.List.FromFn.{get_or-map-range_with_len, length-map-range_with_len}
 use Rattle.iso_base.specs.Volume.{sample}
-use Rattle.edit_log.specs.Boxes.{replaced}
+use Rattle.brick_store.specs.Boxes.{replaced}
 
 pub length-replaced : (test : ℕ → Bool) (value : ℕ → ℤ) (samples : List ℤ) → length (replaced test value samples) ≡ length samples
 unfolding replaced

@@ -1,0 +1,278 @@
+//! Samples of a box, written brick by brick: each brick that holds a point of it is written once.
+ghost use Rattle.std.specs.Prelude.{◌≡◌, ◌+◌, ◌-◌, ◌*◌, ◌<◌, ◌≤◌, min, drop, length, replicate, take};
+ghost use Rattle.iso_defs.specs.Bricks.{brick_count, brick_start, bricks_along};
+ghost use Rattle.iso_base.specs.Points.{IsPoint, index_of};
+ghost use Rattle.voxel_list.specs.Areas.{IsArea};
+ghost use Rattle.brick_store.specs.Copies.{AreCopies, home, samples_of};
+ghost use Rattle.brick_store.specs.Rows.{brick_zone, row_set};
+ghost use Rattle.brick_store.specs.Boxes.{ArePartWritten, AreBoxWritten, AreAsMany, IsPartOf, area_place, boxed, box_layer, box_line, one_layer, one_row};
+
+use crate::copies::copy_place;
+use crate::numbering::{BrickId, brick_at, first_point, home, row_end};
+use iso_base::{Point, Sizes};
+use voxel_list::FillBox;
+
+/// What the points of a box become: all one value, or each its own, in the order of their indices.
+#[derive(Clone, Copy)]
+pub enum Values<'a> {
+    One(i64),
+    Each(&'a [i64]),
+}
+
+/// Offsets in a brick: from one to before another along each axis.
+#[derive(Clone, Copy)]
+struct Part {
+    x: u32,
+    x_end: u32,
+    y: u32,
+    y_end: u32,
+    z: u32,
+    z_end: u32,
+}
+
+/// The offsets in a brick that begins here of the points from one coordinate to another.
+fn offsets(start: u32, low: u32, high: u32) -> (u32, u32)
+    requires bound { high < 1026 }
+    requires order { low ≤ high }
+    requires from { low ≤ start + 8 }
+    requires to { start ≤ high }
+    ensures first { result.0 ≡ low - start }
+    ensures end { result.1 ≡ min (high + 1 - start) 9 }
+{
+    (low.saturating_sub(start), (high + 1 - start).min(9))
+}
+
+/// The offsets of the points of a box in a brick by its places.
+fn part_in(sizes: &Sizes, area: &FillBox, brick: BrickId) -> Part
+    requires brick { brick.0 < brick_count sizes.now }
+    requires x_from { area.now.low.x ≤ brick_start sizes.now brick.0 0 + 8 }
+    requires x_to { brick_start sizes.now brick.0 0 ≤ area.now.high.x }
+    requires y_from { area.now.low.y ≤ brick_start sizes.now brick.0 1 + 8 }
+    requires y_to { brick_start sizes.now brick.0 1 ≤ area.now.high.y }
+    requires z_from { area.now.low.z ≤ brick_start sizes.now brick.0 2 + 8 }
+    requires z_to { brick_start sizes.now brick.0 2 ≤ area.now.high.z }
+    ensures { IsPartOf sizes.now area.now brick.0 result }
+{
+    let (low, high) = (area.low(), area.high());
+    let first = first_point(sizes, brick);
+    let (x, x_end) = offsets(first.x, low.x, high.x);
+    let (y, y_end) = offsets(first.y, low.y, high.y);
+    let (z, z_end) = offsets(first.z, low.z, high.z);
+    Part {
+        x,
+        x_end,
+        y,
+        y_end,
+        z,
+        z_end,
+    }
+}
+
+/// The number in a box of a point of it.
+fn place_in(sizes: &Sizes, area: &FillBox, p: Point) -> usize
+    requires point { IsPoint sizes.now p }
+    requires x { area.now.low.x ≤ p.x }
+    requires y { area.now.low.y ≤ p.y }
+    requires z { area.now.low.z ≤ p.z }
+    requires x_to { p.x ≤ area.now.high.x }
+    requires y_to { p.y ≤ area.now.high.y }
+    requires z_to { p.z ≤ area.now.high.z }
+    ensures value { result ≡ area_place sizes.now area.now (index_of sizes.now p) }
+    ensures area { IsArea area.now }
+{
+    let (low, high) = (area.low(), area.high());
+    let width = high.x - low.x + 1;
+    let depth = high.y - low.y + 1;
+    let row = p.y - low.y + depth * (p.z - low.z);
+    (p.x - low.x + width * row) as usize
+}
+
+/// A value as often as a whole row of a brick has points.
+fn nine(value: &i64) -> [i64; 9]
+    ensures { result ≡ replicate 9 value.now }
+{
+    [*value; 9]
+}
+
+/// Copies so many values from a place on over the copies from a place on. Nine of them, as many as a whole row has, are
+/// copied without a call.
+fn put(copies: &mut [i64], start: usize, values: &[i64], from: usize, count: usize)
+    requires room { start + count ≤ length copies.old }
+    requires there { from + count ≤ length values.now }
+    ensures { copies.new ≡ row_set start (take count (drop from values.now)) copies.old }
+{
+    if count == 9 {
+        copies[start..start + 9].copy_from_slice(&values[from..from + 9]);
+    } else {
+        copies[start..start + count].copy_from_slice(&values[from..from + count]);
+    }
+}
+
+/// Writes the copies of the points of a box in a row of a brick.
+#[tactic(auto, using(crate::proofs::Standing::few_bricks))]
+fn write_row(
+    sizes: &Sizes,
+    copies: &mut [i64],
+    area: &FillBox,
+    values: Values,
+    brick: BrickId,
+    part: &Part,
+    y: u32,
+    z: u32,
+)
+    requires count { length copies.old ≡ 729 * brick_count sizes.now }
+    requires brick { brick.0 < brick_count sizes.now }
+    requires high { IsPoint sizes.now area.now.high }
+    requires values { AreAsMany area.now values }
+    requires part { IsPartOf sizes.now area.now brick.0 part.now }
+    requires y_from { part.now.y ≤ y }
+    requires y_to { y < part.now.y_end }
+    requires z_from { part.now.z ≤ z }
+    requires z_to { z < part.now.z_end }
+    ensures { ArePartWritten sizes.now area.now values.entry brick.0 (one_row part.now y z) copies.old copies.new }
+{
+    let first = first_point(sizes, brick);
+    let start = copy_place(brick, part.x, y, z);
+    let count = (part.x_end - part.x) as usize;
+    match values {
+        Values::One(value) => {
+            let row = nine(&value);
+            put(copies, start, &row, 0, count);
+        }
+        Values::Each(values) => {
+            let p = Point {
+                x: first.x + part.x,
+                y: first.y + y,
+                z: first.z + z,
+            };
+            let from = place_in(sizes, area, p);
+            put(copies, start, values, from, count);
+        }
+    }
+}
+
+/// Writes the copies of the points of a box in a layer of a brick across z.
+fn write_rows(
+    sizes: &Sizes,
+    copies: &mut [i64],
+    area: &FillBox,
+    values: Values,
+    brick: BrickId,
+    part: &Part,
+    z: u32,
+)
+    requires count { length copies.old ≡ 729 * brick_count sizes.now }
+    requires brick { brick.0 < brick_count sizes.now }
+    requires high { IsPoint sizes.now area.now.high }
+    requires values { AreAsMany area.now values }
+    requires part { IsPartOf sizes.now area.now brick.0 part.now }
+    requires z_from { part.now.z ≤ z }
+    requires z_to { z < part.now.z_end }
+    ensures { ArePartWritten sizes.now area.now values.entry brick.0 (one_layer part.now z) copies.old copies.new }
+{
+    for y in part.y..part.y_end {
+        write_row(sizes, copies, area, values, brick, part, y, z);
+    }
+}
+
+/// Writes the copies of the points of a box in a brick.
+fn write_part(
+    sizes: &Sizes,
+    copies: &mut [i64],
+    area: &FillBox,
+    values: Values,
+    brick: BrickId,
+    part: &Part,
+)
+    requires count { length copies.old ≡ 729 * brick_count sizes.now }
+    requires brick { brick.0 < brick_count sizes.now }
+    requires high { IsPoint sizes.now area.now.high }
+    requires values { AreAsMany area.now values }
+    requires part { IsPartOf sizes.now area.now brick.0 part.now }
+    ensures { ArePartWritten sizes.now area.now values.entry brick.0 part.now copies.old copies.new }
+{
+    for z in part.z..part.z_end {
+        write_rows(sizes, copies, area, values, brick, part, z);
+    }
+}
+
+/// Writes the copies of the points of a box in the brick that stands so many bricks along x, y and z.
+fn write_brick(
+    sizes: &Sizes,
+    copies: &mut [i64],
+    area: &FillBox,
+    values: Values,
+    x: u32,
+    y: u32,
+    z: u32,
+)
+    requires count { length copies.old ≡ 729 * brick_count sizes.now }
+    requires high { IsPoint sizes.now area.now.high }
+    requires values { AreAsMany area.now values }
+    requires x { x < bricks_along sizes.now 0 }
+    requires y { y < bricks_along sizes.now 1 }
+    requires z { z < bricks_along sizes.now 2 }
+    requires x_from { area.now.low.x ≤ 8 * x + 8 }
+    requires x_to { 8 * x ≤ area.now.high.x }
+    requires y_from { area.now.low.y ≤ 8 * y + 8 }
+    requires y_to { 8 * y ≤ area.now.high.y }
+    requires z_from { area.now.low.z ≤ 8 * z + 8 }
+    requires z_to { 8 * z ≤ area.now.high.z }
+    ensures { AreBoxWritten sizes.now area.now values.entry (brick_zone x y z) copies.old copies.new }
+{
+    let brick = brick_at(sizes, x, y, z);
+    let part = part_in(sizes, area, brick);
+    write_part(sizes, copies, area, values, brick, &part);
+}
+
+/// Writes the copies of the points of a box in the bricks of a line along x.
+fn write_line(sizes: &Sizes, copies: &mut [i64], area: &FillBox, values: Values, y: u32, z: u32)
+    requires count { length copies.old ≡ 729 * brick_count sizes.now }
+    requires high { IsPoint sizes.now area.now.high }
+    requires values { AreAsMany area.now values }
+    requires y { y < bricks_along sizes.now 1 }
+    requires z { z < bricks_along sizes.now 2 }
+    requires y_from { area.now.low.y ≤ 8 * y + 8 }
+    requires y_to { 8 * y ≤ area.now.high.y }
+    requires z_from { area.now.low.z ≤ 8 * z + 8 }
+    requires z_to { 8 * z ≤ area.now.high.z }
+    ensures { AreBoxWritten sizes.now area.now values.entry (box_line sizes.now area.now y z) copies.old copies.new }
+{
+    let first = home(area.low().x);
+    let end = row_end(sizes.nx(), area.high().x + 1);
+    for x in first..end {
+        write_brick(sizes, copies, area, values, x, y, z);
+    }
+}
+
+/// Writes the copies of the points of a box in the bricks of a layer across z.
+fn write_layer(sizes: &Sizes, copies: &mut [i64], area: &FillBox, values: Values, z: u32)
+    requires count { length copies.old ≡ 729 * brick_count sizes.now }
+    requires high { IsPoint sizes.now area.now.high }
+    requires values { AreAsMany area.now values }
+    requires z { z < bricks_along sizes.now 2 }
+    requires z_from { area.now.low.z ≤ 8 * z + 8 }
+    requires z_to { 8 * z ≤ area.now.high.z }
+    ensures { AreBoxWritten sizes.now area.now values.entry (box_layer sizes.now area.now z) copies.old copies.new }
+{
+    let first = home(area.low().y);
+    let end = row_end(sizes.ny(), area.high().y + 1);
+    for y in first..end {
+        write_line(sizes, copies, area, values, y, z);
+    }
+}
+
+/// Writes the samples of the points of a box in each brick that holds them.
+pub fn write_box(sizes: &Sizes, copies: &mut [i64], area: &FillBox, values: Values)
+    requires copies { AreCopies sizes.now copies.old }
+    requires high { IsPoint sizes.now area.now.high }
+    requires values { AreAsMany area.now values }
+    ensures copies { AreCopies sizes.now copies.new }
+    ensures samples { samples_of sizes.now copies.new ≡ boxed sizes.now area.now values.entry (samples_of sizes.now copies.old) }
+{
+    let first = home(area.low().z);
+    let end = row_end(sizes.nz(), area.high().z + 1);
+    for z in first..end {
+        write_layer(sizes, copies, area, values, z);
+    }
+}
