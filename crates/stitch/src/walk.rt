@@ -1,5 +1,5 @@
 //! The rows of cells, one after the other.
-ghost use Rattle.std.specs.Prelude.{◌≡◌, ◌+◌, ◌*◌, ◌<◌, ◌≤◌, false, IsTrue, length};
+ghost use Rattle.std.specs.Prelude.{◌≡◌, ◌+◌, ◌*◌, ◌<◌, ◌≤◌, false, All, IsTrue, length};
 ghost use Rattle.iso_defs.specs.Rows.{row_count};
 ghost use Rattle.flat_mesh.specs.Lattice.{heights};
 ghost use Rattle.stitch_rows.specs.Bricks.{AreMarked};
@@ -12,6 +12,18 @@ use edge_points::RowRanks;
 use iso_base::Steps;
 use std::sync::ledger::Ledger;
 use stitch_rows::{ActiveRow, CellRows, Field, case_row};
+
+/// The greatest of some cases, or 0 where there are none. Cells whose greatest case is 0 have no loops.
+#[inline(always)]
+pub fn greatest_case(cases: &[u16]) -> u16
+    ensures { All (λ c. c ≤ result) cases.now }
+{
+    let mut greatest = 0;
+    for case in cases {
+        greatest = greatest.max(*case);
+    }
+    greatest
+}
 
 /// Writes the cases of the row of cells that a row of points begins, and says whether there are any: not where the row
 /// begins none, or no crossing edge begins in the rows of points around them. It asks for each row of an active brick at
