@@ -18,7 +18,7 @@ ghost use Rattle.stitch.specs.Spans.{all_centres_text, centre_line, centres_text
 use crate::block::Block;
 use crate::ranks::row_at;
 use crate::style::Style;
-use crate::walk::{greatest_case, next_cases};
+use crate::walk::{have_no_loops, next_cases};
 use case_table::CaseRow;
 use cell_loops::{centre_count, loop_count, loop_edges};
 use edge_points::{RowRanks, place, rounded_mean, x_in_cell, y_in_cell, z_in_cell};
@@ -209,7 +209,7 @@ fn write_run<K: Sink>(
         (centres_text style.format style.padded field.now (field.now.grid.nx * row + from) (end - from)) }
     ensures bytes { IfOk result (λ _. block.new.total ≤ block.old.total + 256 * (end - from)) }
 {
-    if greatest_case(&cases[from as usize..end as usize]) == 0 {
+    if end - from == 8 && have_no_loops(cases, from as usize) {
         return Ok(());
     }
     let sizes = field.sizes();

@@ -9,7 +9,7 @@ ghost use Rattle.stitch_rows.specs.Rows.{IsCaseOf};
 ghost use Rattle.stitch.specs.Numbers.{AreCounts, AreRowRanks, IsCaseRow, asked_before, asked_in_row};
 
 use crate::ranks::row_at;
-use crate::walk::{greatest_case, next_cases};
+use crate::walk::{have_no_loops, next_cases};
 use case_table::CaseRow;
 use cell_loops::{centre_count, triangle_count};
 use edge_points::RowRanks;
@@ -64,7 +64,7 @@ fn count_run(
     requires counts { AreCounts field.now (field.now.grid.nx * row + from) counts }
     ensures { AreCounts field.now (field.now.grid.nx * row + end) result }
 {
-    if greatest_case(&cases[from as usize..end as usize]) == 0 {
+    if end - from == 8 && have_no_loops(cases, from as usize) {
         return counts;
     }
     let sizes = field.sizes();

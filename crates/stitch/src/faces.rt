@@ -19,7 +19,7 @@ use crate::block::Block;
 use crate::corners::{Corners, edge_numbers, rank_corners};
 use crate::ranks::row_at;
 use crate::style::Style;
-use crate::walk::{greatest_case, next_cases};
+use crate::walk::{have_no_loops, next_cases};
 use case_table::CaseRow;
 use cell_loops::{loop_count, loop_edges};
 use edge_points::RowRanks;
@@ -187,7 +187,7 @@ fn write_run<K: Sink>(
     ensures next { IfOk result (λ n. HasNumber field.now total (field.now.grid.nx * row + end) n) }
     ensures bytes { IfOk result (λ _. block.new.total ≤ block.old.total + 3072 * (end - from)) }
 {
-    if greatest_case(&cases[from as usize..end as usize]) == 0 {
+    if end - from == 8 && have_no_loops(cases, from as usize) {
         return Ok(next);
     }
     let sizes = field.sizes();

@@ -1,6 +1,7 @@
 //! The rows of cells, one after the other.
-ghost use Rattle.std.specs.Prelude.{◌≡◌, ◌+◌, ◌*◌, ◌<◌, ◌≤◌, false, All, IsTrue, length};
+ghost use Rattle.std.specs.Prelude.{◌≡◌, ◌+◌, ◌*◌, ◌<◌, ◌≤◌, ℕ, [], false, IsTrue, length, slice_index};
 ghost use Rattle.iso_defs.specs.Rows.{row_count};
+ghost use Rattle.cell_loops.specs.Loops.{row_loops};
 ghost use Rattle.flat_mesh.specs.Lattice.{heights};
 ghost use Rattle.stitch_rows.specs.Bricks.{AreMarked};
 ghost use Rattle.stitch_rows.specs.Named.{NamesCases};
@@ -8,21 +9,40 @@ ghost use Rattle.stitch_rows.specs.Rows.{AreCases};
 ghost use Rattle.stitch.specs.Numbers.{AreQuiet, AreRowRanks, IsCaseRow, asked_in_row};
 
 use crate::ranks::{is_quiet, row_at};
+use case_table::CaseRow;
+use cell_loops::loop_count;
 use edge_points::RowRanks;
 use iso_base::Steps;
 use std::sync::ledger::Ledger;
 use stitch_rows::{ActiveRow, CellRows, Field, case_row};
 
-/// The greatest of some cases, or 0 where there are none. Cells whose greatest case is 0 have no loops.
+/// Whether the eight cases from a place on are one case.
 #[inline(always)]
-pub fn greatest_case(cases: &[u16]) -> u16
-    ensures { All (λ c. c ≤ result) cases.now }
+fn are_same(cases: &[u16], from: usize) -> bool
+    requires { from + 8 ≤ length cases.now }
+    ensures { IsTrue result → (k : ℕ) → k < 8 → slice_index cases.now (from + k) ≡ slice_index cases.now from }
 {
-    let mut greatest = 0;
-    for case in cases {
-        greatest = greatest.max(*case);
+    let case = cases[from];
+    cases[from + 1] == case
+        && cases[from + 2] == case
+        && cases[from + 3] == case
+        && cases[from + 4] == case
+        && cases[from + 5] == case
+        && cases[from + 6] == case
+        && cases[from + 7] == case
+}
+
+/// Whether the eight cases from a place on are one case that has no loops.
+#[inline(always)]
+pub fn have_no_loops(cases: &[u16], from: usize) -> bool
+    requires eight { from + 8 ≤ length cases.now }
+    requires case { slice_index cases.now from < 656 }
+    ensures { IsTrue result → (k : ℕ) → k < 8 → row_loops (slice_index cases.now (from + k)) ≡ [] }
+{
+    if loop_count(CaseRow::of(cases[from])) != 0 {
+        return false;
     }
-    greatest
+    are_same(cases, from)
 }
 
 /// Writes the cases of the row of cells that a row of points begins, and says whether there are any: not where the row

@@ -18,10 +18,10 @@ case_is v q =
     let back = values_back (cell_values v.grid (heights v) q) refl in
     record { small = back.0; loops = loops_are v q (cell_case v.grid (heights v) q) back.1 }
 
--- the first case has no loops
-pub no_loops : row_loops 0 ≡ []
+no_loops : row_loops 0 ≡ []
 unfolding row_loops case_at cases
 no_loops = refl
 
+-- the first case has none
 pub quiet_case : (v : Leveled) (q : ℕ) → loops_at v q ≡ [] → IsCaseOf v q 0
 quiet_case v q none = record { small = omega arith; loops = no_loops ∙ sym none }

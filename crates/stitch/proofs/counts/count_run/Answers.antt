@@ -1,17 +1,17 @@
 use Rattle.std.proofs.Common.{◌≡◌, ◌+◌, ◌*◌, ◌<◌, ◌-◌, ◌∙◌, ap, subst, refl, arith}
 use Rattle.iso_defs.specs.Grid.{Grid}
 use Rattle.stitch.specs.Numbers.{AreCounts}
-use Rattle.stitch.proofs.CellRuns.{case_at, cell_at, quiet_counts, quiet_run, zero_or_less}
+use Rattle.stitch.proofs.CellRuns.{case_at, cell_at, quiet_counts, quiet_run}
 use Rattle.stitch.proofs.counts.count_run.Goals as goal
 
-pub slice_bounds-greatest_case-end : goal.slice_bounds-greatest_case-end
-slice_bounds-greatest_case-end c = omega (arith, c.requires.end, c.requires.count)
+pub have_no_loops-requires-clause-case : goal.have_no_loops-requires-clause-case
+have_no_loops-requires-clause-case c = (c.requires.cases.each c.args.from (omega (arith, c.requires.end, c.if-end-from-eq8.true)) (omega (arith, c.requires.end, c.if-end-from-eq8.true))).small
 
-pub returns-then-greatest_case-eq0 : goal.returns-then-greatest_case-eq0
-returns-then-greatest_case-eq0 c =
+pub returns-then-have_no_loops : goal.returns-then-have_no_loops
+returns-then-have_no_loops c =
     let v = c.args.field.now in
-    let quiet = quiet_run v c.args.row c.args.y c.args.z c.args.from c.args.end c.args.cases.now c.requires.y c.requires.z c.requires.place c.requires.from c.requires.end c.requires.count
-    c.requires.cases.each (zero_or_less _ _ c.greatest_case.ensures c.if-greatest_case-eq0.true) in
+    let quiet = quiet_run v c.args.row c.args.y c.args.z c.args.from c.args.end c.args.cases.now c.requires.y c.requires.z c.requires.place (omega (arith, c.if-end-from-eq8.true)) c.requires.end
+    c.requires.cases.each (c.have_no_loops.ensures c.if-have_no_loops.true) in
     quiet_counts v (v.grid.nx * c.args.row + c.args.from) (c.args.end - c.args.from) quiet (v.grid.nx * c.args.row + c.args.end) c.args.counts (omega (arith, c.requires.from)) c.requires.counts
 
 pub loop-x-init : goal.loop-x-init

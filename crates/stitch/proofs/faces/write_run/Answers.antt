@@ -4,26 +4,26 @@ use Rattle.iso_defs.specs.Grid.{Grid, is_cell}
 use Rattle.stitch.specs.FourRows.{AreCorners, HasNumber}
 use Rattle.stitch.specs.Spans.{faces_text, triangle_lines}
 use Rattle.stitch.proofs.Adding.{adds_as, adds_none, adds_with}
-use Rattle.stitch.proofs.CellRuns.{case_at, cell_at, quiet_run, zero_or_less}
+use Rattle.stitch.proofs.CellRuns.{case_at, cell_at, quiet_run}
 use Rattle.stitch.proofs.FaceLines.{quiet_faces, quiet_number}
 use Rattle.stitch.proofs.SpanLaws.{run_failed, run_more, run_none}
 use Rattle.stitch.proofs.faces.write_run.Goals as goal
 
-pub slice_bounds-greatest_case-end : goal.slice_bounds-greatest_case-end
-slice_bounds-greatest_case-end g c = omega (arith, c.requires.end, c.requires.count)
+pub have_no_loops-requires-clause-case : goal.have_no_loops-requires-clause-case
+have_no_loops-requires-clause-case g c = (c.requires.cases.each c.args.from (omega (arith, c.requires.end, c.if-end-from-eq8.true)) (omega (arith, c.requires.end, c.if-end-from-eq8.true))).small
 
-pub returns-then-greatest_case-eq0-clause-adds : goal.returns-then-greatest_case-eq0-clause-adds
-returns-then-greatest_case-eq0-clause-adds g c =
+pub returns-then-have_no_loops-clause-adds : goal.returns-then-have_no_loops-clause-adds
+returns-then-have_no_loops-clause-adds g c =
     let v = c.args.field.now in
-    let quiet = quiet_run v c.args.row c.args.y c.args.z c.args.from c.args.end c.args.cases.now c.requires.y c.requires.z c.requires.place c.requires.from c.requires.end c.requires.count
-    c.requires.cases.each (zero_or_less _ _ c.greatest_case.ensures c.if-greatest_case-eq0.true) in
+    let quiet = quiet_run v c.args.row c.args.y c.args.z c.args.from c.args.end c.args.cases.now c.requires.y c.requires.z c.requires.place (omega (arith, c.if-end-from-eq8.true)) c.requires.end
+    c.requires.cases.each (c.have_no_loops.ensures c.if-have_no_loops.true) in
     adds_as _ _ _ _ _ _ _ (sym (quiet_faces c.args.style.format v (v.grid.nx * c.args.row + c.args.from) (c.args.end - c.args.from) quiet)) (adds_none _ c.args.block.now c.args.next)
 
-pub returns-then-greatest_case-eq0-clause-next : goal.returns-then-greatest_case-eq0-clause-next
-returns-then-greatest_case-eq0-clause-next g c =
+pub returns-then-have_no_loops-clause-next : goal.returns-then-have_no_loops-clause-next
+returns-then-have_no_loops-clause-next g c =
     let v = c.args.field.now in
-    let quiet = quiet_run v c.args.row c.args.y c.args.z c.args.from c.args.end c.args.cases.now c.requires.y c.requires.z c.requires.place c.requires.from c.requires.end c.requires.count
-    c.requires.cases.each (zero_or_less _ _ c.greatest_case.ensures c.if-greatest_case-eq0.true) in
+    let quiet = quiet_run v c.args.row c.args.y c.args.z c.args.from c.args.end c.args.cases.now c.requires.y c.requires.z c.requires.place (omega (arith, c.if-end-from-eq8.true)) c.requires.end
+    c.requires.cases.each (c.have_no_loops.ensures c.if-have_no_loops.true) in
     quiet_number v (v.grid.nx * c.args.row + c.args.from) (c.args.end - c.args.from) (v.grid.nx * c.args.row + c.args.end) c.args.total c.args.next quiet (omega (arith, c.requires.from)) c.requires.next
 
 pub loop-x-init : goal.loop-x-init
