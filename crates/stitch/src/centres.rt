@@ -1,5 +1,5 @@
 //! The lines of the centres of loops, cell by cell.
-ghost use Rattle.std.specs.Prelude.{◌≡◌, ℕ, ◌+◌, ◌*◌, ◌/◌, ◌%◌, ◌<◌, ◌≤◌, ◌^◌, true, All, IfOk, length, slice_index, unsigned_abs};
+ghost use Rattle.std.specs.Prelude.{◌≡◌, ℕ, ◌+◌, ◌-◌, ◌*◌, ◌/◌, ◌%◌, ◌<◌, ◌≤◌, ◌^◌, true, All, IfOk, length, slice_index, unsigned_abs};
 ghost use Rattle.iso_defs.specs.Cell.{cell_signs, crosses};
 ghost use Rattle.iso_defs.specs.Rows.{row_count};
 ghost use Rattle.cell_loops.specs.Loops.{row_loops};
@@ -18,7 +18,7 @@ ghost use Rattle.stitch.specs.Spans.{all_centres_text, centre_line, centres_text
 use crate::block::Block;
 use crate::ranks::row_at;
 use crate::style::Style;
-use crate::walk::next_cases;
+use crate::walk::{have_no_loops, next_cases};
 use case_table::CaseRow;
 use cell_loops::{centre_count, loop_count, loop_edges};
 use edge_points::{RowRanks, place, rounded_mean, x_in_cell, y_in_cell, z_in_cell};
@@ -26,7 +26,7 @@ use flat_mesh::Cell;
 use iso_base::{Point, Steps};
 use iso_io::{Failed, Sink};
 use std::sync::ledger::Ledger;
-use stitch_rows::{ActiveRow, CellRows, Field, ROW};
+use stitch_rows::{ActiveRow, CellRows, Field, ROW, count_along};
 
 /// The corner of a cell at the lower end of each of its edges.
 const LOWER: [u8; 12] = [0, 2, 4, 6, 0, 1, 4, 5, 0, 1, 2, 3];
@@ -183,7 +183,48 @@ fn write_cell<K: Sink>(
     Ok(())
 }
 
-/// Puts the lines of the centres of a row of cells behind the others.
+/// Puts the lines of the centres of the cells of a row from a place to before an end behind the others.
+#[inline(always)]
+fn write_run<K: Sink>(
+    field: &Field,
+    style: Style,
+    row: u32,
+    y: u32,
+    z: u32,
+    from: u32,
+    end: u32,
+    cases: &[u16],
+    block: &mut Block,
+    sink: &mut K,
+) -> Result<(), Failed>
+    requires row { row < row_count field.now.grid }
+    requires y { y ≡ row % field.now.grid.ny }
+    requires z { z ≡ row / field.now.grid.ny }
+    requires place { y + field.now.grid.ny * z ≡ row }
+    requires from { from ≤ end }
+    requires end { end < field.now.grid.nx }
+    requires count { length cases.now ≡ field.now.grid.nx }
+    requires cases { IsCaseRow field.now row cases.now }
+    ensures adds { Adds (K.seen sink.old) (K.seen sink.new) block.old block.new result
+        (centres_text style.format style.padded field.now (field.now.grid.nx * row + from) (end - from)) }
+    ensures bytes { IfOk result (λ _. block.new.total ≤ block.old.total + 256 * (end - from)) }
+{
+    if end - from == 8 && have_no_loops(cases, from as usize) {
+        return Ok(());
+    }
+    let sizes = field.sizes();
+    let start = sizes.nx() * row;
+    for x in from..end {
+        let cell = Cell {
+            index: start + x,
+            low: Point { x, y, z },
+        };
+        write_cell(field, style, cell, cases[x as usize], block, sink)?;
+    }
+    Ok(())
+}
+
+/// Puts the lines of the centres of a row of cells behind the others, brick by brick.
 fn write_cells<K: Sink>(
     field: &Field,
     style: Style,
@@ -200,13 +241,10 @@ fn write_cells<K: Sink>(
 {
     let sizes = field.sizes();
     let (y, z) = row_at(&sizes, row);
-    let start = sizes.nx() * row;
-    for x in 0..sizes.nx() - 1 {
-        let cell = Cell {
-            index: start + x,
-            low: Point { x, y, z },
-        };
-        write_cell(field, style, cell, cases[x as usize], block, sink)?;
+    let last = sizes.nx() - 1;
+    for x in 0..count_along(sizes.nx()) {
+        let end = (8 * x + 8).min(last);
+        write_run(field, style, row, y, z, 8 * x, end, cases, block, sink)?;
     }
     Ok(())
 }

@@ -1,5 +1,5 @@
 //! How many centres and triangles a mesh has.
-ghost use Rattle.std.specs.Prelude.{◌≡◌, ◌+◌, ◌*◌, ◌<◌, ◌≤◌, length};
+ghost use Rattle.std.specs.Prelude.{◌≡◌, ◌+◌, ◌*◌, ◌/◌, ◌%◌, ◌<◌, ◌≤◌, length};
 ghost use Rattle.iso_defs.specs.Rows.{row_count};
 ghost use Rattle.flat_mesh.specs.Centres.{IsCellAt};
 ghost use Rattle.flat_mesh.specs.Lattice.{heights};
@@ -9,14 +9,14 @@ ghost use Rattle.stitch_rows.specs.Rows.{IsCaseOf};
 ghost use Rattle.stitch.specs.Numbers.{AreCounts, AreRowRanks, IsCaseRow, asked_before, asked_in_row};
 
 use crate::ranks::row_at;
-use crate::walk::next_cases;
+use crate::walk::{have_no_loops, next_cases};
 use case_table::CaseRow;
 use cell_loops::{centre_count, triangle_count};
 use edge_points::RowRanks;
 use flat_mesh::Cell;
 use iso_base::{Point, Steps};
 use std::sync::ledger::Ledger;
-use stitch_rows::{ActiveRow, CellRows, Field, ROW};
+use stitch_rows::{ActiveRow, CellRows, Field, ROW, count_along};
 
 /// How many centres and how many triangles some cells have.
 #[derive(Clone, Copy)]
@@ -41,7 +41,46 @@ fn count_cell(field: &Field, cell: Cell, case: u16, counts: Counts) -> Counts
     }
 }
 
-/// Counts the cells of a row.
+/// Counts the cells of a row from a place to before an end.
+#[inline(always)]
+fn count_run(
+    field: &Field,
+    row: u32,
+    y: u32,
+    z: u32,
+    from: u32,
+    end: u32,
+    cases: &[u16],
+    counts: Counts,
+) -> Counts
+    requires row { row < row_count field.now.grid }
+    requires y { y ≡ row % field.now.grid.ny }
+    requires z { z ≡ row / field.now.grid.ny }
+    requires place { y + field.now.grid.ny * z ≡ row }
+    requires from { from ≤ end }
+    requires end { end < field.now.grid.nx }
+    requires count { length cases.now ≡ field.now.grid.nx }
+    requires cases { IsCaseRow field.now row cases.now }
+    requires counts { AreCounts field.now (field.now.grid.nx * row + from) counts }
+    ensures { AreCounts field.now (field.now.grid.nx * row + end) result }
+{
+    if end - from == 8 && have_no_loops(cases, from as usize) {
+        return counts;
+    }
+    let sizes = field.sizes();
+    let start = sizes.nx() * row;
+    let mut counts = counts;
+    for x in from..end {
+        let cell = Cell {
+            index: start + x,
+            low: Point { x, y, z },
+        };
+        counts = count_cell(field, cell, cases[x as usize], counts);
+    }
+    counts
+}
+
+/// Counts the cells of a row, brick by brick.
 fn count_cells(field: &Field, row: u32, cases: &[u16], counts: Counts) -> Counts
     requires row { row < row_count field.now.grid }
     requires count { length cases.now ≡ field.now.grid.nx }
@@ -51,14 +90,11 @@ fn count_cells(field: &Field, row: u32, cases: &[u16], counts: Counts) -> Counts
 {
     let sizes = field.sizes();
     let (y, z) = row_at(&sizes, row);
-    let start = sizes.nx() * row;
+    let last = sizes.nx() - 1;
     let mut counts = counts;
-    for x in 0..sizes.nx() - 1 {
-        let cell = Cell {
-            index: start + x,
-            low: Point { x, y, z },
-        };
-        counts = count_cell(field, cell, cases[x as usize], counts);
+    for x in 0..count_along(sizes.nx()) {
+        let end = (8 * x + 8).min(last);
+        counts = count_run(field, row, y, z, 8 * x, end, cases, counts);
     }
     counts
 }

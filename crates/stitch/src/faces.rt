@@ -19,7 +19,7 @@ use crate::block::Block;
 use crate::corners::{Corners, edge_numbers, rank_corners};
 use crate::ranks::row_at;
 use crate::style::Style;
-use crate::walk::next_cases;
+use crate::walk::{have_no_loops, next_cases};
 use case_table::CaseRow;
 use cell_loops::{loop_count, loop_edges};
 use edge_points::RowRanks;
@@ -27,7 +27,7 @@ use flat_mesh::Cell;
 use iso_base::{Point, Steps};
 use iso_io::{Failed, Sink};
 use std::sync::ledger::Ledger;
-use stitch_rows::{ActiveRow, CellRows, Field, ROW};
+use stitch_rows::{ActiveRow, CellRows, Field, ROW, count_along};
 
 /// The number of a vertex of a loop.
 #[inline(always)]
@@ -153,7 +153,67 @@ fn write_cell<K: Sink>(
     Ok(next)
 }
 
-/// Puts the lines of the triangles of a row of cells behind the others.
+/// Puts the lines of the triangles of the cells of a row from a place to before an end behind the others, where `next` is the
+/// number of the first centre there, and gives that of the first one behind.
+#[inline(always)]
+fn write_run<K: Sink>(
+    field: &Field,
+    style: Style,
+    corners: &Corners,
+    total: u32,
+    row: u32,
+    y: u32,
+    z: u32,
+    from: u32,
+    end: u32,
+    cases: &[u16],
+    next: u32,
+    block: &mut Block,
+    sink: &mut K,
+) -> Result<u32, Failed>
+    requires row { row < row_count field.now.grid }
+    requires y { y ≡ row % field.now.grid.ny }
+    requires z { z ≡ row / field.now.grid.ny }
+    requires place { y + field.now.grid.ny * z ≡ row }
+    requires from { from ≤ end }
+    requires end { end < field.now.grid.nx }
+    requires count { length cases.now ≡ field.now.grid.nx }
+    requires cases { IsCaseRow field.now row cases.now }
+    requires corners { AreCorners field.now (row % field.now.grid.ny) (row / field.now.grid.ny) corners.now }
+    requires total { total ≡ rank field.now.grid (heights field.now) (3 * (field.now.grid.nx * row_count field.now.grid)) }
+    requires next { HasNumber field.now total (field.now.grid.nx * row + from) next }
+    ensures adds { Adds (K.seen sink.old) (K.seen sink.new) block.old block.new result
+        (faces_text style.format field.now (field.now.grid.nx * row + from) (end - from)) }
+    ensures next { IfOk result (λ n. HasNumber field.now total (field.now.grid.nx * row + end) n) }
+    ensures bytes { IfOk result (λ _. block.new.total ≤ block.old.total + 3072 * (end - from)) }
+{
+    if end - from == 8 && have_no_loops(cases, from as usize) {
+        return Ok(next);
+    }
+    let sizes = field.sizes();
+    let start = sizes.nx() * row;
+    let mut next = next;
+    for x in from..end {
+        let cell = Cell {
+            index: start + x,
+            low: Point { x, y, z },
+        };
+        next = write_cell(
+            field,
+            style,
+            corners,
+            total,
+            cell,
+            cases[x as usize],
+            next,
+            block,
+            sink,
+        )?;
+    }
+    Ok(next)
+}
+
+/// Puts the lines of the triangles of a row of cells behind the others, brick by brick.
 fn write_cells<K: Sink>(
     field: &Field,
     style: Style,
@@ -177,20 +237,21 @@ fn write_cells<K: Sink>(
 {
     let sizes = field.sizes();
     let (y, z) = row_at(&sizes, row);
-    let start = sizes.nx() * row;
+    let last = sizes.nx() - 1;
     let mut next = next;
-    for x in 0..sizes.nx() - 1 {
-        let cell = Cell {
-            index: start + x,
-            low: Point { x, y, z },
-        };
-        next = write_cell(
+    for x in 0..count_along(sizes.nx()) {
+        let end = (8 * x + 8).min(last);
+        next = write_run(
             field,
             style,
             corners,
             total,
-            cell,
-            cases[x as usize],
+            row,
+            y,
+            z,
+            8 * x,
+            end,
+            cases,
             next,
             block,
             sink,

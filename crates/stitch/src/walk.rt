@@ -1,6 +1,7 @@
 //! The rows of cells, one after the other.
-ghost use Rattle.std.specs.Prelude.{◌≡◌, ◌+◌, ◌*◌, ◌<◌, ◌≤◌, false, IsTrue, length};
+ghost use Rattle.std.specs.Prelude.{◌≡◌, ◌+◌, ◌*◌, ◌<◌, ◌≤◌, ℕ, [], false, IsTrue, length, slice_index};
 ghost use Rattle.iso_defs.specs.Rows.{row_count};
+ghost use Rattle.cell_loops.specs.Loops.{row_loops};
 ghost use Rattle.flat_mesh.specs.Lattice.{heights};
 ghost use Rattle.stitch_rows.specs.Bricks.{AreMarked};
 ghost use Rattle.stitch_rows.specs.Named.{NamesCases};
@@ -8,10 +9,41 @@ ghost use Rattle.stitch_rows.specs.Rows.{AreCases};
 ghost use Rattle.stitch.specs.Numbers.{AreQuiet, AreRowRanks, IsCaseRow, asked_in_row};
 
 use crate::ranks::{is_quiet, row_at};
+use case_table::CaseRow;
+use cell_loops::loop_count;
 use edge_points::RowRanks;
 use iso_base::Steps;
 use std::sync::ledger::Ledger;
 use stitch_rows::{ActiveRow, CellRows, Field, case_row};
+
+/// Whether the eight cases from a place on are one case.
+#[inline(always)]
+fn are_same(cases: &[u16], from: usize) -> bool
+    requires { from + 8 ≤ length cases.now }
+    ensures { IsTrue result → (k : ℕ) → k < 8 → slice_index cases.now (from + k) ≡ slice_index cases.now from }
+{
+    let case = cases[from];
+    cases[from + 1] == case
+        && cases[from + 2] == case
+        && cases[from + 3] == case
+        && cases[from + 4] == case
+        && cases[from + 5] == case
+        && cases[from + 6] == case
+        && cases[from + 7] == case
+}
+
+/// Whether the eight cases from a place on are one case that has no loops.
+#[inline(always)]
+pub fn have_no_loops(cases: &[u16], from: usize) -> bool
+    requires eight { from + 8 ≤ length cases.now }
+    requires case { slice_index cases.now from < 656 }
+    ensures { IsTrue result → (k : ℕ) → k < 8 → row_loops (slice_index cases.now (from + k)) ≡ [] }
+{
+    if loop_count(CaseRow::of(cases[from])) != 0 {
+        return false;
+    }
+    are_same(cases, from)
+}
 
 /// Writes the cases of the row of cells that a row of points begins, and says whether there are any: not where the row
 /// begins none, or no crossing edge begins in the rows of points around them. It asks for each row of an active brick at

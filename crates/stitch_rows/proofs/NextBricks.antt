@@ -1,7 +1,9 @@
 -- The next active brick, found by a tree.
-use Rattle.std.proofs.Common.{◌≡◌, ℕ, ◌+◌, ◌<◌, ◌≤◌, Bool, true, false, List, get_or, length, set, eqb, eq-eqb, sym, ◌∙◌, ap, subst, arith, inl, inr, ℤ, ◌^◌}
+use Rattle.std.proofs.Common.{◌≡◌, ℕ, ◌+◌, ◌-◌, ◌*◌, ◌<◌, ◌≤◌, Bool, true, false, List, get_or, length, set, eqb, eq-eqb, sym, ◌∙◌, ap, subst, arith, inl, inr, ℤ, ◌^◌}
 use Rattle.std.proofs.lemmas.Bool.{cases_Bool, eqb-true}
 use Rattle.std.proofs.lemmas.List.{get_or-set_other, get_or-set_same}
+use Rattle.std.proofs.Math.Nat.{mul-le-mul_left, mul-le-mul_right}
+use Rattle.iso_defs.specs.Grid.{Grid}
 use Rattle.iso_defs.specs.Bricks.{brick_count, bricks_along, is_active}
 use Rattle.iso_base.specs.Shifted.{field}
 use Rattle.iso_base.specs.Sizing.{IsGrid}
@@ -10,7 +12,7 @@ use Rattle.flat_mesh.specs.Lattice.{Leveled, heights}
 use Rattle.brick_store.specs.Next.{IsFirst}
 use Rattle.std.proofs.lemmas.Bool.{cases_lt}
 use Rattle.stitch_rows.specs.declared.active.ActiveRow.{ActiveRow}
-use Rattle.stitch_rows.specs.Bricks.{AreMarked, AreMarkedTo, IsActive, IsNextFrom, IsStill}
+use Rattle.stitch_rows.specs.Bricks.{AreMarked, AreMarkedTo, IsActive, IsNextFrom, IsStill, brick_at, first_brick}
 use Rattle.stitch_rows.specs.Rows.{at_level}
 use Rattle.stitch_rows.proofs.Places.{few_bricks}
 use Rattle.stitch_rows.proofs.QuietBricks.{clash}
@@ -70,10 +72,37 @@ pub marked_active : (v : Leveled) (row : ActiveRow) (first x : ℕ) → AreMarke
     → get_or row.active x false ≡ true → IsActive v (first + x)
 marked_active v row first x marks same low known is =
     let at : row.first + x ≡ first + x = ap (λ n. n + x) same in
-    record { is = ap (is_active v.grid (heights v)) (sym at) ∙ (sym (marks.each x low (subst (λ n. n < brick_count v.grid) (sym at) known)) ∙ is) }
+    record { is = ap (is_active v.grid (heights v)) (sym at) ∙ (sym (marks.row.each x low (subst (λ n. n < brick_count v.grid) (sym at) known)) ∙ is) }
 
 pub marked_still : (v : Leveled) (row : ActiveRow) (first x : ℕ) → AreMarked v row → row.first ≡ first → x < bricks_along v.grid 0 → first + x < brick_count v.grid
     → get_or row.active x false ≡ false → IsStill v (first + x)
 marked_still v row first x marks same low known is =
     let at : row.first + x ≡ first + x = ap (λ n. n + x) same in
-    record { is = ap (is_active v.grid (heights v)) (sym at) ∙ (sym (marks.each x low (subst (λ n. n < brick_count v.grid) (sym at) known)) ∙ is) }
+    record { is = ap (is_active v.grid (heights v)) (sym at) ∙ (sym (marks.row.each x low (subst (λ n. n < brick_count v.grid) (sym at) known)) ∙ is) }
+
+-- those of a row, copied from those of its layer
+pub row_marks : (v : Leveled) (first start all count : ℕ) (layer marks : List Bool) (row : ℕ) → row ≡ first + start → start + count ≤ all → AreMarkedTo v first all layer
+    → ((x : ℕ) → x < count → get_or marks x false ≡ get_or layer (start + x) false) → AreMarkedTo v row count marks
+row_marks v first start all count layer marks row e within are copied = record {
+  each = λ x low known.
+      let at : first + (start + x) ≡ row + x = omega arith in
+      copied x low ∙ (are.each (start + x) (omega arith) (subst (λ n. n < brick_count v.grid) (sym at) known) ∙ ap (is_active v.grid (heights v)) at);
+}
+
+-- where a row of bricks stands in its layer
+pub row_in_layer : (v : Leveled) (is : IsGrid v.grid) (y z : ℕ) → y < v.grid.ny → z < v.grid.nz
+    → (first_brick v.grid 0 z ≤ first_brick v.grid y z) × (first_brick v.grid y z - first_brick v.grid 0 z + bricks_along v.grid 0 ≤ bricks_along v.grid 0 * bricks_along v.grid 1)
+row_in_layer v is y z hy hz =
+    let g : Grid = v.grid in
+    let at : ℕ = brick_at g 1 y in
+    let some : at + 1 ≤ bricks_along g 1 = let h = is.y.least in omega arith in
+    let none : brick_at g 1 0 ≡ 0 = omega arith in
+    let low : bricks_along g 0 * (at + 1) ≤ bricks_along g 0 * bricks_along g 1 = mul-le-mul_left (bricks_along g 0) some in
+    let layer : ℕ = bricks_along g 1 * brick_at g 2 z in
+    let start : first_brick g 0 z ≡ bricks_along g 0 * layer = ap (λ n. bricks_along g 0 * (n + layer)) none ∙ omega arith in
+    let here : first_brick g y z ≡ bricks_along g 0 * at + bricks_along g 0 * layer = omega arith in
+    (omega arith, omega arith)
+
+-- a layer has at most so many bricks
+pub few_in_layer : (a b : ℕ) → a ≤ 129 → b ≤ 129 → a * b ≤ 16641
+few_in_layer a b x y = let l : a * b ≤ 129 * b = mul-le-mul_right b x in omega arith

@@ -3,6 +3,7 @@ use Rattle.std.specs.Prelude.{◌≡◌, ℕ, ◌+◌, ◌-◌, ◌*◌, ◌/◌
 use Rattle.iso_defs.specs.Grid.{Grid}
 use Rattle.iso_defs.specs.Bricks.{brick_count, bricks_along, is_active}
 use Rattle.flat_mesh.specs.Lattice.{Leveled, heights}
+use Rattle.stitch_rows.specs.declared.active.ActiveLayer.{ActiveLayer}
 use Rattle.stitch_rows.specs.declared.active.ActiveRow.{ActiveRow}
 use Rattle.stitch_rows.specs.declared.bricks.BrickRow.{BrickRow}
 use Rattle.stitch_rows.specs.declared.points.Rows.{Rows}
@@ -49,6 +50,11 @@ pub record IsNextFrom (g : Grid) (s : ℕ → ℤ) (from next : ℕ) : Type 0 wh
 pub record AreMarkedTo (v : Leveled) (first count : ℕ) (marks : List Bool) : Type 0 where
   pub each : (x : ℕ) → x < count → first + x < brick_count v.grid → slice_index_or marks x false ≡ is_active v.grid (heights v) (first + x)
 
--- and these of all of them
-abbrev pub AreMarked : Leveled → ActiveRow → Type 0
-AreMarked v row = AreMarkedTo v row.first (bricks_along v.grid 0) row.active
+-- these of all bricks of a layer
+abbrev pub IsMarkedLayer : Leveled → ActiveLayer → Type 0
+IsMarkedLayer v layer = AreMarkedTo v layer.first (bricks_along v.grid 0 * bricks_along v.grid 1) layer.active
+
+-- and these of all of a row, and of its layer
+pub record AreMarked (v : Leveled) (marks : ActiveRow) : Type 0 where
+  pub row : AreMarkedTo v marks.first (bricks_along v.grid 0) marks.active
+  pub layer : IsMarkedLayer v marks.layer

@@ -1,8 +1,8 @@
 //! Which bricks of a row of bricks are active.
-ghost use Rattle.std.specs.Prelude.{◌≡◌, ◌+◌, ◌-◌, ◌*◌, ◌<◌, ◌≤◌, ◌^◌, false, length, slice_index_or};
+ghost use Rattle.std.specs.Prelude.{◌≡◌, ℕ, ◌+◌, ◌-◌, ◌*◌, ◌<◌, ◌≤◌, ◌^◌, false, length, slice_index_or};
 ghost use Rattle.iso_base.specs.Sizing.{IsGrid};
 ghost use Rattle.flat_mesh.specs.Lattice.{Leveled, heights};
-ghost use Rattle.stitch_rows.specs.Bricks.{AreMarked, AreMarkedTo, IsNextFrom, first_brick};
+ghost use Rattle.stitch_rows.specs.Bricks.{AreMarked, AreMarkedTo, IsMarkedLayer, IsNextFrom, first_brick};
 
 use crate::bricks::{BrickRow, count_along};
 use crate::field::Field;
@@ -10,11 +10,23 @@ use crate::field::Field;
 /// The most bricks along an axis.
 const BRICKS: usize = 129;
 
-/// Which bricks are active of those that stand one after the other along x, from the one numbered `first` on.
+/// The most bricks of a layer.
+const LAYER: usize = 16_641;
+
+/// Which bricks are active of a layer of bricks, from the one numbered `first` on: those that hold points of one slice.
+#[derive(Drop)]
+pub struct ActiveLayer {
+    pub first: u32,
+    pub active: [bool; LAYER],
+}
+
+/// Which bricks are active of those that stand one after the other along x, from the one numbered `first` on, and of their
+/// layer. A walk comes back to the rows of a layer slice after slice, and looks for its active bricks once.
 #[derive(Drop)]
 pub struct ActiveRow {
     pub first: u32,
     pub active: [bool; BRICKS],
+    pub layer: ActiveLayer,
 }
 
 /// The least active brick behind one, where `next` is the least from it on.
@@ -33,7 +45,7 @@ fn next_behind(field: &Field, brick: u32, next: u32) -> u32
 
 /// Marks which are active of so many bricks from a number on.
 fn mark_bricks(field: &Field, first: u32, count: u32, active: &mut [bool])
-    requires count { count ≤ 129 }
+    requires count { count ≤ 129 * 129 }
     requires room { count ≤ length active.old }
     requires first { first ≤ 129 * 129 * 129 }
     ensures { AreMarkedTo field.now first count active.new }
@@ -46,6 +58,32 @@ fn mark_bricks(field: &Field, first: u32, count: u32, active: &mut [bool])
     }
 }
 
+/// Marks the layer of bricks that holds a slice, unless it is marked.
+fn mark_layer(field: &Field, z: u32, layer: &mut ActiveLayer)
+    requires z { z < field.now.grid.nz }
+    requires marked { IsMarkedLayer field.now layer.old }
+    ensures marked { IsMarkedLayer field.now layer.new }
+    ensures first { layer.new.first ≡ first_brick field.now.grid 0 z }
+{
+    let sizes = field.sizes();
+    let row = BrickRow::of(&sizes, 0, z);
+    if layer.first == row.first {
+        return;
+    }
+    layer.first = row.first;
+    let count = count_along(sizes.nx()) * count_along(sizes.ny());
+    mark_bricks(field, row.first, count, &mut layer.active);
+}
+
+/// Copies so many marks from a place on.
+fn copy_marks(from: &[bool], start: usize, count: usize, to: &mut [bool])
+    requires from { start + count ≤ length from.now }
+    requires to { count ≤ length to.old }
+    ensures { (x : ℕ) → x < count → slice_index_or to.new x false ≡ slice_index_or from.now (start + x) false }
+{
+    to[..count].copy_from_slice(&from[start..start + count]);
+}
+
 impl ActiveRow {
     /// Marks of no bricks.
     pub fn new() -> ActiveRow
@@ -54,6 +92,10 @@ impl ActiveRow {
         ActiveRow {
             first: u32::MAX,
             active: [false; BRICKS],
+            layer: ActiveLayer {
+                first: u32::MAX,
+                active: [false; LAYER],
+            },
         }
     }
 
@@ -70,8 +112,11 @@ impl ActiveRow {
         if self.first == row.first {
             return;
         }
+        mark_layer(field, z, &mut self.layer);
+        let start = (row.first - self.layer.first) as usize;
+        let count = count_along(sizes.nx()) as usize;
+        copy_marks(&self.layer.active, start, count, &mut self.active);
         self.first = row.first;
-        mark_bricks(field, row.first, count_along(sizes.nx()), &mut self.active);
     }
 
     /// Whether the brick at a place of the row is active.

@@ -1,5 +1,5 @@
 //! The points of a row: their flags, and the numbers of their crossing edges.
-ghost use Rattle.std.specs.Prelude.{◌≡◌, ℕ, ◌+◌, ◌-◌, ◌*◌, ◌<◌, ◌≤◌, length, slice_index, slice_set};
+ghost use Rattle.std.specs.Prelude.{◌≡◌, ℕ, ◌+◌, ◌-◌, ◌*◌, ◌<◌, ◌≤◌, All, IsTrue, cond, length, slice_index, slice_set};
 ghost use Rattle.crossing_edges.specs.Flags.{flags_from, rank};
 ghost use Rattle.flat_mesh.specs.Lattice.{heights};
 ghost use Rattle.flat_mesh.specs.Rows.{row_start};
@@ -54,6 +54,57 @@ fn flags_of(here: u8, right: u8, up: u8, far: u8) -> u8
     differ(here, right) + 2 * differ(here, up) + 4 * differ(here, far)
 }
 
+/// Whether a sample is at least `least`, or whether it is below, as is asked.
+#[inline(always)]
+fn is_on_side(sample: i64, least: i64, above: bool) -> bool
+    ensures { IsTrue result → bit_from least sample ≡ cond above 1 0 }
+{
+    (sample >= least) == above
+}
+
+/// Whether all samples are on that side.
+#[inline(always)]
+fn are_on_side(run: &[i64], least: i64, above: bool) -> bool
+    ensures { IsTrue result → All (λ s. bit_from least s ≡ cond above 1 0) run.now }
+{
+    run.iter().all(|s| is_on_side(*s, least, above))
+}
+
+/// Whether all samples of three runs of nine are on that side: no edge is crossing then that begins at a point of the first.
+#[inline(always)]
+fn are_alike(here: &[i64], up: &[i64], far: &[i64], least: i64, above: bool) -> bool
+    requires here { length here.now ≡ 9 }
+    requires up { length up.now ≡ 9 }
+    requires far { length far.now ≡ 9 }
+    ensures { IsTrue result → (i : ℕ) → i < 9 → run_flags least here.now up.now far.now i ≡ 0 }
+{
+    if !are_on_side(&here[..9], least, above) {
+        return false;
+    }
+    if !are_on_side(&up[..9], least, above) {
+        return false;
+    }
+    are_on_side(&far[..9], least, above)
+}
+
+/// Whether the samples of three runs are on one side. It says so of runs of nine alone.
+#[inline(always)]
+fn are_quiet(here: &[i64], up: &[i64], far: &[i64], least: i64) -> bool
+    requires some { 0 < length here.now }
+    requires up { length up.now ≡ length here.now }
+    requires far { length far.now ≡ length here.now }
+    ensures { IsTrue result → (i : ℕ) → i < length here.now → run_flags least here.now up.now far.now i ≡ 0 }
+{
+    if here.len() != 9 {
+        return false;
+    }
+    if here[0] >= least {
+        are_alike(here, up, far, least, true)
+    } else {
+        are_alike(here, up, far, least, false)
+    }
+}
+
 /// Writes the flags of a run of points, from their samples and those of the next points along y and z.
 fn flag_run(here: &[i64], up: &[i64], far: &[i64], least: i64, out: &mut [u8])
     requires some { 0 < length here.now }
@@ -62,6 +113,10 @@ fn flag_run(here: &[i64], up: &[i64], far: &[i64], least: i64, out: &mut [u8])
     requires out { length out.old ≡ length here.now }
     ensures { (i : ℕ) → i < length here.now → slice_index out.new i ≡ run_flags least here.now up.now far.now i }
 {
+    if are_quiet(here, up, far, least) {
+        put_zeros(out);
+        return;
+    }
     let last = here.len() - 1;
     for i in 0..last {
         out[i] = flags_of(

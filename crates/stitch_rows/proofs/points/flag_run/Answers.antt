@@ -1,9 +1,15 @@
-use Rattle.std.proofs.Common.{◌≡◌, ℕ, ◌+◌, ◌-◌, ◌∙◌, rules, ℤ, pos, w64, to_z, of_z, get_or, length, ap, ap₂, subst, arith}
+use Rattle.std.proofs.Common.{◌≡◌, ℕ, ◌+◌, ◌-◌, ◌∙◌, rules, ℤ, pos, w64, to_z, of_z, get_or, length, ap, ap₂, subst, sym, arith}
 use Rattle.std.proofs.lemmas.Int.{to_z-of_z}
 use Rattle.corner_signs.specs.Rows.{bit_from}
 use Rattle.stitch_rows.specs.Rows.{run_flags}
 use Rattle.stitch_rows.proofs.RunFlags.{inner_flags, last_flags, written_more}
 use Rattle.stitch_rows.proofs.points.flag_run.Goals as goal
+
+pub returns-then-are_quiet : goal.returns-then-are_quiet
+returns-then-are_quiet c = λ i low.
+    let e : to_z w64 (of_z w64 c.args.least) ≡ c.args.least = search (rules, to_z-of_z) in
+    let quiet = subst (λ (l : ℤ). run_flags l c.args.here.now c.args.up.now c.args.far.now i ≡ 0) e (c.are_quiet.ensures c.if-are_quiet.true i low) in
+    c.put_zeros.ensures i (omega arith) (omega (arith, low, c.requires.out, c.put_zeros.auto.flags)) ∙ sym quiet
 
 pub loop-i-preserved : goal.loop-i-preserved
 loop-i-preserved c =

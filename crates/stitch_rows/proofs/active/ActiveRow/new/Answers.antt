@@ -3,4 +3,7 @@ use Rattle.stitch_rows.proofs.Places.{few_bricks}
 use Rattle.stitch_rows.proofs.active.ActiveRow.new.Goals as goal
 
 pub returns : goal.returns
-returns c = λ v is. record { each = λ x low known. absurd (let few = few_bricks v.grid is in omega arith) }
+returns c = λ v is. record {
+  row = record { each = λ x low known. absurd (let few = few_bricks v.grid is in omega arith) };
+  layer = record { each = λ x low known. absurd (let few = few_bricks v.grid is in omega arith) };
+}

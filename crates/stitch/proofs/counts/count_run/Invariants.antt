@@ -1,0 +1,6 @@
+use Rattle.std.proofs.Common.{◌+◌}
+use Rattle.stitch.specs.Numbers.{AreCounts}
+use Rattle.stitch.proofs.counts.count_run.Given as goal
+
+abbrev pub invariant-loop-x : goal.invariant-loop-x
+invariant-loop-x l = AreCounts l.field (l.start + l.x) l.counts
