@@ -82,8 +82,10 @@ pub fn centre_vertex(
     requires turn { turn < 4 }
     requires edges { IsLoop edges.now }
     requires crossing { AllCross lattice.now cell.index edges.now }
-    ensures { result ≡ centre_of (centre_name lattice.now.grid cell.index turn,
-        centre_position lattice.now.grid (heights lattice.now) (map (cell_edge lattice.now.grid cell.index) edges.now)) }
+    ensures { result ≡ centre_of (
+      centre_name lattice.now.grid cell.index turn,
+      centre_position lattice.now.grid (heights lattice.now) (map (cell_edge lattice.now.grid cell.index) edges.now),
+    ) }
 {
     let at = local_centre(lattice, cell, numbers, edges);
     LoopCentre {
