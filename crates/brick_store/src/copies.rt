@@ -7,7 +7,7 @@ ghost use Rattle.iso_defs.specs.Bricks.{brick_count, brick_point, in_brick};
 ghost use Rattle.iso_base.specs.Points.{IsPoint, index_of};
 ghost use Rattle.iso_base.specs.Volume.{sample};
 ghost use Rattle.brick_store.specs.Holding.{holds_point, row_length};
-ghost use Rattle.brick_store.specs.Copies.{AreCopies, copy_place, home_place, own_place, row_rest, samples_of};
+ghost use Rattle.brick_store.specs.Copies.{AreCopies, AreCopiesOf, copy_place, home_place, own_place, row_rest, samples_of};
 
 use crate::numbering::{self, BrickId};
 use iso_base::{CellName, Point, Sizes, point_of};
@@ -67,6 +67,18 @@ pub fn cell_values(sizes: &Sizes, copies: &[i64], cell: CellName) -> [i64; 8]
     let low = point_of(sizes, cell.0);
     let brick = numbering::brick_of(sizes, cell);
     corners_from(copies, copy_place(brick, low.x % 8, low.y % 8, low.z % 8))
+}
+
+/// The copies of a brick.
+#[tactic(auto, using(crate::proofs::Standing::few_bricks))]
+pub fn brick<'a>(sizes: &Sizes, copies: &'a [i64], brick: BrickId) -> &'a [i64]
+    requires copies { AreCopies sizes.now copies.now }
+    requires brick { brick.0 < brick_count sizes.now }
+    ensures { AreCopiesOf sizes.now (samples_of sizes.now copies.now) brick.0 result.now }
+{
+    let _ = sizes.nx();
+    let start = copy_place(brick, 0, 0, 0);
+    &copies[start..start + 729]
 }
 
 /// The copies of a row of a brick.

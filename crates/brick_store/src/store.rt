@@ -9,7 +9,7 @@ ghost use Rattle.iso_base.specs.Points.{IsPoint, index_of};
 ghost use Rattle.iso_base.specs.Samples.{IsOfKind, IsSample};
 ghost use Rattle.iso_base.specs.Volume.{IsInner, IsVolume, Volume, sample};
 ghost use Rattle.brick_store.specs.Holding.{IsCellOf, brick_of, holds_point, local_of, points_along, row_length};
-ghost use Rattle.brick_store.specs.Copies.{row_rest};
+ghost use Rattle.brick_store.specs.Copies.{AreCopiesOf, row_rest};
 ghost use Rattle.brick_store.specs.Rows.{row_set};
 ghost use Rattle.brick_store.specs.Boxes.{AreAsMany, AreOfKind, IsInnerArea, boxed};
 
@@ -170,6 +170,16 @@ impl BrickStore {
         ensures { result ≡ map (points_along self.now.grid brick.0) (below 3) }
     {
         numbering::points_along(&self.sizes, brick)
+    }
+
+    /// The copies that a brick keeps, nine along each axis with x fastest and z slowest, where they lie in memory: of each of
+    /// its points that lies in the grid the sample.
+    #[inline(always)]
+    pub fn brick(&self, brick: BrickId) -> &[i64]
+        requires { brick.0 < brick_count self.now.grid }
+        ensures { AreCopiesOf self.now.grid self.now.samples brick.0 result.now }
+    {
+        copies::brick(&self.sizes, &self.copies, brick)
     }
 
     /// The samples of a row of a brick, from its first point along x on: its own copies, where they lie in memory.
