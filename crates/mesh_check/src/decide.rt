@@ -61,12 +61,11 @@ fn surface_verdict(alloc: Global, vertices: u32, triangles: &[[u32; 3]]) -> Resu
         ended: 0
     }; vertices as usize]?;
     let marks = all_marks.as_mut_slice();
-    let mut arcs = Vec::new(alloc);
     let mut split = None;
     let mut loose = 0u64;
     for v in 0..vertices {
-        rings.arcs_round(v, &mut arcs)?;
-        match fan_of(marks, arcs.as_slice(), v + 1) {
+        let arcs = rings.arcs_round(v);
+        match fan_of(marks, arcs, v + 1) {
             Fan::Twice(b) => return Ok(Verdict::EdgeTwice { a: v, b }),
             Fan::Whole(n) => loose += u64::from(n),
             Fan::Split(n) => {

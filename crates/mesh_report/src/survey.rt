@@ -76,13 +76,12 @@ fn survey(
     let seen = all_seen.as_mut_slice();
     let marks = all_marks.as_mut_slice();
     let mut queue = Vec::with_capacity(alloc, vertices as usize)?;
-    let mut arcs = Vec::new(alloc);
     let mut parts = IndexMap::new(alloc);
     let mut tally = Tally::new();
     for start in 0..vertices {
         let before = tally;
         see(seen, &mut queue, start)?;
-        tally = walk_on(rings, seen, marks, &mut queue, &mut arcs, before)?;
+        tally = walk_on(rings, seen, marks, &mut queue, before)?;
         name_from(names, queue.as_slice(), before.walked, start);
         if before.vertices < tally.vertices {
             add_part(&mut parts, part_between(start, before, tally))?;

@@ -17,24 +17,24 @@ use Rattle.mesh_check.proofs.VerdictLaws.{judged_fan, judged_split, judged_twice
 use Rattle.mesh_check.proofs.decide.surface_verdict.Goals as goal
 use Rattle.mesh_check.proofs.decide.surface_verdict.Goals.{in-Whole, in-Split}
 
-pub arcs_round-requires : goal.arcs_round-requires
-arcs_round-requires c = vertex_read (triangles_of c.args.triangles.now) c.args.vertices c.loop-v.v c.in_ok-rings.rings c.in_ok-rings.ensures c.loop-v-test.true
+pub arcs_round-arcs-requires : goal.arcs_round-arcs-requires
+arcs_round-arcs-requires c = vertex_read (triangles_of c.args.triangles.now) c.args.vertices c.loop-v.v c.in_ok-rings.rings c.in_ok-rings.ensures c.loop-v-test.true
 
 pub fan_of-requires-clause-vertices : goal.fan_of-requires-clause-vertices
 fan_of-requires-clause-vertices c =
     let ts : List Triangle = triangles_of c.args.triangles.now in
     let low : AllByRecursion (IsBelow c.args.vertices) ts = all_of (IsBelow c.args.vertices) c.args.triangles.now c.requires.inside in
-    let f : c.as_slice.result.now ≡ arcs ts c.loop-v.v
-    = arcs_read ts c.args.vertices c.loop-v.v c.in_ok-rings.rings c.arcs_round.new.into.items c.as_slice.result.now c.in_ok-rings.ensures c.loop-v-test.true c.in_ok-arcs_round.ensures c.as_slice.ensures.value in
+    let f : c.arcs_round-arcs.result.now ≡ arcs ts c.loop-v.v
+    = arcs_read ts c.args.vertices c.loop-v.v c.in_ok-rings.rings c.arcs_round-arcs.result.now c.in_ok-rings.ensures c.loop-v-test.true c.arcs_round-arcs.ensures in
     let all : All (ArcBelow c.args.vertices) (arcs ts c.loop-v.v) = All-from_recursion (ArcBelow c.args.vertices) (arcs ts c.loop-v.v) (arcs_below c.args.vertices ts c.loop-v.v low) in
-    subst (λ n. All (ArcBelow n) c.as_slice.result.now) (sym c.loop-v.invariant.marks) (subst (All (ArcBelow c.args.vertices)) (sym f) all)
+    subst (λ n. All (ArcBelow n) c.arcs_round-arcs.result.now) (sym c.loop-v.invariant.marks) (subst (All (ArcBelow c.args.vertices)) (sym f) all)
 
 pub fan_of-requires-clause-few : goal.fan_of-requires-clause-few
 fan_of-requires-clause-few c =
     let ts : List Triangle = triangles_of c.args.triangles.now in
-    let f : c.as_slice.result.now ≡ arcs ts c.loop-v.v
-    = arcs_read ts c.args.vertices c.loop-v.v c.in_ok-rings.rings c.arcs_round.new.into.items c.as_slice.result.now c.in_ok-rings.ensures c.loop-v-test.true c.in_ok-arcs_round.ensures c.as_slice.ensures.value in
-    let n : length c.as_slice.result.now ≡ length (arcs ts c.loop-v.v) = ap length f in
+    let f : c.arcs_round-arcs.result.now ≡ arcs ts c.loop-v.v
+    = arcs_read ts c.args.vertices c.loop-v.v c.in_ok-rings.rings c.arcs_round-arcs.result.now c.in_ok-rings.ensures c.loop-v-test.true c.arcs_round-arcs.ensures in
+    let n : length c.arcs_round-arcs.result.now ≡ length (arcs ts c.loop-v.v) = ap length f in
     let m : length (arcs ts c.loop-v.v) ≤ length ts = arcs_few ts c.loop-v.v in
     let k : length ts ≡ length c.args.triangles.now = length_is c.args.triangles.now in
     omega (arith, c.requires.count)
@@ -43,16 +43,16 @@ pub returns-in-Twice : goal.returns-in-Twice
 returns-in-Twice c =
     let ts : List Triangle = triangles_of c.args.triangles.now in
     let d : AllByRecursion HasThreeCorners ts = all_of HasThreeCorners c.args.triangles.now c.requires.different in
-    let f : c.as_slice.result.now ≡ arcs ts c.loop-v.v
-    = arcs_read ts c.args.vertices c.loop-v.v c.in_ok-rings.rings c.arcs_round.new.into.items c.as_slice.result.now c.in_ok-rings.ensures c.loop-v-test.true c.in_ok-arcs_round.ensures c.as_slice.ensures.value in
+    let f : c.arcs_round-arcs.result.now ≡ arcs ts c.loop-v.v
+    = arcs_read ts c.args.vertices c.loop-v.v c.in_ok-rings.rings c.arcs_round-arcs.result.now c.in_ok-rings.ensures c.loop-v-test.true c.arcs_round-arcs.ensures in
     judged_twice ts d c.loop-v.v c.loop-v.split c.loop-v.loose c.in-Twice.b c.loop-v.invariant.judged
     (subst (λ ps. IsLeastTwice ps (Some c.in-Twice.b)) f c.in-Twice.ensures.fan)
 
 pub loop-v-preserved : goal.loop-v-preserved
 loop-v-preserved c =
     let ts : List Triangle = triangles_of c.args.triangles.now in
-    let f : c.as_slice.result.now ≡ arcs ts c.loop-v.v
-    = arcs_read ts c.args.vertices c.loop-v.v c.in_ok-rings.rings c.arcs_round.new.into.items c.as_slice.result.now c.in_ok-rings.ensures c.loop-v-test.true c.in_ok-arcs_round.ensures c.as_slice.ensures.value in
+    let f : c.arcs_round-arcs.result.now ≡ arcs ts c.loop-v.v
+    = arcs_read ts c.args.vertices c.loop-v.v c.in_ok-rings.rings c.arcs_round-arcs.result.now c.in_ok-rings.ensures c.loop-v-test.true c.arcs_round-arcs.ensures in
     let few : c.loop-v.loose ≤ c.loop-v.v * 4294967295 = c.loop-v.invariant.bound in
     let n : length c.fan_of.new.marks ≡ c.args.vertices = search rules in
     elim c.match-fan_of.branch [
