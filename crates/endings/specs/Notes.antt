@@ -36,46 +36,46 @@ encoding_name encodings.Bzip2 = codes "bzip2"
 encoding_name encodings.Unknown = codes "unknown"
 
 -- why sizes are refused: an axis by its number, and how many samples
-abbrev pub size_text : SizeFault → List ℕ
-size_text (sizes.TooThin axis n) = counted_twice (codes "size thin ") axis n
-size_text (sizes.AxisTooLong axis n) = counted_twice (codes "size axis ") axis n
-size_text (sizes.TooMany n) = counted (codes "size product ") n
+abbrev pub size_fault_text : SizeFault → List ℕ
+size_fault_text (sizes.TooThin axis n) = counted_twice (codes "size thin ") axis n
+size_fault_text (sizes.AxisTooLong axis n) = counted_twice (codes "size axis ") axis n
+size_fault_text (sizes.TooMany n) = counted (codes "size product ") n
 
 -- ---- faults, each by its number
 
-unfoldable pub nrrd_text : NrrdFault → List ℕ
-nrrd_text nrrds.NotNrrd = codes "volume 1 not nrrd"
-nrrd_text (nrrds.HeaderTooLong bytes) = counted (codes "volume 2 header too long ") bytes
-nrrd_text (nrrds.BadLine line) = counted (codes "volume 3 bad line ") line
-nrrd_text (nrrds.RepeatedField field) = codes "volume 4 repeated field " ++ field_name field
-nrrd_text (nrrds.MissingField field) = codes "volume 5 missing field " ++ field_name field
-nrrd_text (nrrds.BadValue field) = codes "volume 6 bad value " ++ field_name field
-nrrd_text nrrds.UnsupportedKind = codes "volume 7 unsupported type"
-nrrd_text (nrrds.UnsupportedEncoding word) = codes "volume 8 unsupported encoding " ++ encoding_name word
-nrrd_text (nrrds.Detached line) = counted (codes "volume 9 detached ") line
-nrrd_text (nrrds.SkipUnsupported field) = codes "volume 10 skip unsupported " ++ field_name field
-nrrd_text (nrrds.NotThreeAxes n) = counted (codes "volume 11 not three axes ") n
-nrrd_text (nrrds.Size fault) = codes "volume 12 " ++ size_text fault
-nrrd_text nrrds.NoEndian = codes "volume 13 no endian"
-nrrd_text (nrrds.ShortSamples needed present) = counted_twice (codes "volume 14 short samples ") needed present
-nrrd_text nrrds.Memory = codes "memory"
-nrrd_text (nrrds.BadSample place) = counted (codes "volume 19 bad sample ") place
+unfoldable pub nrrd_fault_text : NrrdFault → List ℕ
+nrrd_fault_text nrrds.NotNrrd = codes "volume 1 not nrrd"
+nrrd_fault_text (nrrds.HeaderTooLong bytes) = counted (codes "volume 2 header too long ") bytes
+nrrd_fault_text (nrrds.BadLine line) = counted (codes "volume 3 bad line ") line
+nrrd_fault_text (nrrds.RepeatedField field) = codes "volume 4 repeated field " ++ field_name field
+nrrd_fault_text (nrrds.MissingField field) = codes "volume 5 missing field " ++ field_name field
+nrrd_fault_text (nrrds.BadValue field) = codes "volume 6 bad value " ++ field_name field
+nrrd_fault_text nrrds.UnsupportedKind = codes "volume 7 unsupported type"
+nrrd_fault_text (nrrds.UnsupportedEncoding word) = codes "volume 8 unsupported encoding " ++ encoding_name word
+nrrd_fault_text (nrrds.Detached line) = counted (codes "volume 9 detached ") line
+nrrd_fault_text (nrrds.SkipUnsupported field) = codes "volume 10 skip unsupported " ++ field_name field
+nrrd_fault_text (nrrds.NotThreeAxes n) = counted (codes "volume 11 not three axes ") n
+nrrd_fault_text (nrrds.Size fault) = codes "volume 12 " ++ size_fault_text fault
+nrrd_fault_text nrrds.NoEndian = codes "volume 13 no endian"
+nrrd_fault_text (nrrds.ShortSamples needed present) = counted_twice (codes "volume 14 short samples ") needed present
+nrrd_fault_text nrrds.Memory = codes "memory"
+nrrd_fault_text (nrrds.BadSample place) = counted (codes "volume 19 bad sample ") place
 
-unfoldable pub volume_text : VolumeFault → List ℕ
-volume_text (volumes.Nrrd fault) = nrrd_text fault
-volume_text (volumes.Pad fault) = codes "volume 16 pad " ++ size_text fault
-volume_text (volumes.LevelNotAbovePad level pad) = codes "volume 17 level not above pad " ++ level_and_pad level pad
+unfoldable pub volume_fault_text : VolumeFault → List ℕ
+volume_fault_text (volumes.Nrrd fault) = nrrd_fault_text fault
+volume_fault_text (volumes.Pad fault) = codes "volume 16 pad " ++ size_fault_text fault
+volume_fault_text (volumes.LevelNotAbovePad level pad) = codes "volume 17 level not above pad " ++ level_and_pad level pad
 
-unfoldable pub mesh_text : MeshFault → List ℕ
-mesh_text meshes.NotMesh = codes "mesh 1 not mesh"
-mesh_text meshes.BinaryPly = codes "mesh 2 binary ply"
-mesh_text (meshes.BadHeader line) = counted (codes "mesh 3 bad header ") line
-mesh_text (meshes.BadNumber line) = counted (codes "mesh 4 bad number ") line
-mesh_text (meshes.NotTriangle line) = counted (codes "mesh 5 not triangle ") line
-mesh_text (meshes.IndexOutside line) = counted (codes "mesh 6 index outside ") line
-mesh_text (meshes.ShortMesh needed present) = counted_twice (codes "mesh 7 short mesh ") needed present
-mesh_text (meshes.TooMany n) = counted (codes "mesh 8 too many ") n
-mesh_text meshes.Memory = codes "memory"
+unfoldable pub mesh_fault_text : MeshFault → List ℕ
+mesh_fault_text meshes.NotMesh = codes "mesh 1 not mesh"
+mesh_fault_text meshes.BinaryPly = codes "mesh 2 binary ply"
+mesh_fault_text (meshes.BadHeader line) = counted (codes "mesh 3 bad header ") line
+mesh_fault_text (meshes.BadNumber line) = counted (codes "mesh 4 bad number ") line
+mesh_fault_text (meshes.NotTriangle line) = counted (codes "mesh 5 not triangle ") line
+mesh_fault_text (meshes.IndexOutside line) = counted (codes "mesh 6 index outside ") line
+mesh_fault_text (meshes.ShortMesh needed present) = counted_twice (codes "mesh 7 short mesh ") needed present
+mesh_fault_text (meshes.TooMany n) = counted (codes "mesh 8 too many ") n
+mesh_fault_text meshes.Memory = codes "memory"
 
 -- ---- the note of an answer
 
@@ -87,10 +87,10 @@ unfoldable pub note_of : Answer → List ℕ
 note_of answers.Done = []
 note_of answers.MeshRefused = []
 note_of answers.BadWords = note_line (codes "bad words")
-note_of (answers.BadVolume fault) = note_line (volume_text fault)
+note_of (answers.BadVolume fault) = note_line (volume_fault_text fault)
 note_of answers.InputFault = note_line (codes "input fault")
 note_of answers.InputTooLong = note_line (codes "input too long")
 note_of answers.OutputFault = note_line (codes "output fault")
 note_of answers.Memory = note_line (codes "memory")
 note_of answers.ShelfFault = note_line (codes "shelf fault")
-note_of (answers.BadMesh fault) = note_line (mesh_text fault)
+note_of (answers.BadMesh fault) = note_line (mesh_fault_text fault)

@@ -2,7 +2,7 @@
 
 ghost use Rattle.std.specs.Prelude.{◌≡◌, ◌+◌, ◌++◌, ◌≤◌, codes, length};
 ghost use Rattle.arrayvec.specs.ArrayString.{array_string_len};
-ghost use Rattle.endings.specs.Notes.{encoding_name, field_name, mesh_text, note_line, note_of, nrrd_text, size_text, volume_text};
+ghost use Rattle.endings.specs.Notes.{encoding_name, field_name, mesh_fault_text, note_line, note_of, nrrd_fault_text, size_fault_text, volume_fault_text};
 ghost use Rattle.endings.specs.Tries.{Tries};
 
 use crate::answer::{Answer, VolumeFault};
@@ -41,7 +41,7 @@ fn name_of_encoding(word: EncodingWord) -> &'static str
 
 fn put_size(fault: SizeFault, into: &mut ArrayString<128>)
     requires room { array_string_len into.old ≤ 40 }
-    ensures text { into.new.bytes ≡ into.old.bytes ++ size_text fault }
+    ensures text { into.new.bytes ≡ into.old.bytes ++ size_fault_text fault }
     ensures room { array_string_len into.new ≤ 101 }
 {
     match fault {
@@ -55,10 +55,10 @@ fn put_size(fault: SizeFault, into: &mut ArrayString<128>)
     }
 }
 
-#[tactic(auto, unfolding(crate::specs::Notes::nrrd_text))]
+#[tactic(auto, unfolding(crate::specs::Notes::nrrd_fault_text))]
 fn put_nrrd(fault: NrrdFault, into: &mut ArrayString<128>)
     requires room { array_string_len into.old ≤ 10 }
-    ensures text { into.new.bytes ≡ into.old.bytes ++ nrrd_text fault }
+    ensures text { into.new.bytes ≡ into.old.bytes ++ nrrd_fault_text fault }
     ensures room { array_string_len into.new ≤ 121 }
 {
     match fault {
@@ -102,10 +102,10 @@ fn put_nrrd(fault: NrrdFault, into: &mut ArrayString<128>)
     }
 }
 
-#[tactic(auto, unfolding(crate::specs::Notes::volume_text))]
+#[tactic(auto, unfolding(crate::specs::Notes::volume_fault_text))]
 fn put_volume(fault: VolumeFault, into: &mut ArrayString<128>)
     requires room { array_string_len into.old ≤ 10 }
-    ensures text { into.new.bytes ≡ into.old.bytes ++ volume_text fault }
+    ensures text { into.new.bytes ≡ into.old.bytes ++ volume_fault_text fault }
     ensures room { array_string_len into.new ≤ 121 }
 {
     match fault {
@@ -120,10 +120,10 @@ fn put_volume(fault: VolumeFault, into: &mut ArrayString<128>)
     }
 }
 
-#[tactic(auto, unfolding(crate::specs::Notes::mesh_text))]
+#[tactic(auto, unfolding(crate::specs::Notes::mesh_fault_text))]
 fn put_mesh(fault: MeshFault, into: &mut ArrayString<128>)
     requires room { array_string_len into.old ≤ 10 }
-    ensures text { into.new.bytes ≡ into.old.bytes ++ mesh_text fault }
+    ensures text { into.new.bytes ≡ into.old.bytes ++ mesh_fault_text fault }
     ensures room { array_string_len into.new ≤ 121 }
 {
     match fault {
@@ -166,7 +166,7 @@ fn line_of(words: &str) -> ArrayString<128>
 }
 
 fn volume_line(fault: VolumeFault) -> ArrayString<128>
-    ensures { result.bytes ≡ note_line (volume_text fault) }
+    ensures { result.bytes ≡ note_line (volume_fault_text fault) }
 {
     let mut text = begun();
     put_volume(fault, &mut text);
@@ -175,7 +175,7 @@ fn volume_line(fault: VolumeFault) -> ArrayString<128>
 }
 
 fn mesh_line(fault: MeshFault) -> ArrayString<128>
-    ensures { result.bytes ≡ note_line (mesh_text fault) }
+    ensures { result.bytes ≡ note_line (mesh_fault_text fault) }
 {
     let mut text = begun();
     put_mesh(fault, &mut text);

@@ -7,7 +7,7 @@ use Rattle.iso_base.specs.Triangles.{Mesh, triangles_of}
 use Rattle.measure_laws.specs.Vectors.{Vector, minus, plus, det, normal, det_of}
 use Rattle.measure_laws.specs.Totals.{total, area_of}
 use Rattle.mesh_report.specs.declared.part.Part.{Part}
-use Rattle.mesh_report.specs.Report.{component, components, edges, is_border}
+use Rattle.mesh_report.specs.Report.{component, components, edges, has_one_side}
 use Rattle.measure.specs.declared.share.Share.{Share}
 use Rattle.measure.specs.Positions.{coordinates, vector_of}
 
@@ -21,7 +21,7 @@ triangles_in n ts k = filter (is_of n ts k) ts
 
 -- how many of its edges lie in exactly one triangle
 abbrev pub border_in : ℕ → List Triangle → ℕ → ℕ
-border_in n ts k = length (filter (is_border ts) (filter (λ (e : ℕ × ℕ). component n ts e.0 == k) (edges n ts)))
+border_in n ts k = length (filter (has_one_side ts) (filter (λ (e : ℕ × ℕ). component n ts e.0 == k) (edges n ts)))
 
 -- the share of these triangles
 abbrev pub share_by : (ℕ → Vector) → ℕ → ℕ → List Triangle → Share

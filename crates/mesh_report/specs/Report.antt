@@ -16,8 +16,8 @@ abbrev pub are_joined : List Triangle → ℕ → ℕ → Bool
 are_joined ts a b = list_any (has_both a b) ts
 
 -- whether the edge lies in exactly one triangle
-abbrev pub is_border : List Triangle → ℕ × ℕ → Bool
-is_border ts e = count_by (has_both e.0 e.1) ts == 1
+abbrev pub has_one_side : List Triangle → ℕ × ℕ → Bool
+has_one_side ts e = count_by (has_both e.0 e.1) ts == 1
 
 -- whether w is reached from v along at most k edges, over vertices below n
 unfoldable pub reaches : ℕ → List Triangle → ℕ → ℕ → ℕ → Bool
@@ -56,7 +56,7 @@ counted ts least vs es fs = record {
   vertices = length vs;
   edges = length es;
   faces = length fs;
-  border = length (filter (is_border ts) es);
+  border = length (filter (has_one_side ts) es);
   euler = (pos (length vs) -ℤ pos (length es)) +ℤ pos (length fs);
 }
 
