@@ -4,3 +4,4 @@ pub mod RowsPut
 pub mod ReadAgain
 pub mod RowLines
 pub mod RowRuns
+pub mod Pieces
