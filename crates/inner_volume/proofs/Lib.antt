@@ -5,3 +5,4 @@ pub mod ReadAgain
 pub mod RowLines
 pub mod RowRuns
 pub mod Pieces
+pub mod Columns

@@ -125,8 +125,9 @@ fn gather_rows<K: Sink, D: Digits>(
 }
 
 /// Writes the lines of all rows off the pad's layer, and says how many bytes they have.
-fn put_rows<K: Sink>(
+fn put_rows<K: Sink, D: Digits>(
     sink: &mut K,
+    digits: &D,
     store: &BrickStore,
     sizes: &Sizes,
     hex: bool,
@@ -138,13 +139,28 @@ fn put_rows<K: Sink>(
 {
     let mut block = [0; MOST];
     let mut waiting = SampleLines::new();
-    let bytes = if hex {
-        gather_rows(sink, &mut waiting, &Counted, store, sizes, hex, &mut block)?
-    } else {
-        gather_rows(sink, &mut waiting, &Fours::new(), store, sizes, hex, &mut block)?
-    };
+    let bytes = gather_rows(sink, &mut waiting, digits, store, sizes, hex, &mut block)?;
     write_all_of(sink, waiting.as_bytes())?;
     Ok(bytes)
+}
+
+/// The same. A table of the digits of numbers is made only where there are numbers.
+fn put_coded_rows<K: Sink>(
+    sink: &mut K,
+    store: &BrickStore,
+    sizes: &Sizes,
+    hex: bool,
+) -> Result<u64, Failed>
+    requires { sizes.now ≡ inner_grid store.now }
+    ensures lines { Puts (K.seen sink.old) (K.seen sink.new) result (flat_map (coded_line hex store.now.kind) (rows_of (inner_voxels store.now))) }
+    ensures bytes { IfOk result (λ n. n ≡ length (flat_map (coded_line hex store.now.kind) (rows_of (inner_voxels store.now)))) }
+    ensures bound { IfOk result (λ n. n ≤ 25000 * (sizes.now.ny * sizes.now.nz)) }
+{
+    if hex {
+        put_rows(sink, &Counted, store, sizes, hex)
+    } else {
+        put_rows(sink, &Fours::new(), store, sizes, hex)
+    }
 }
 
 /// Writes the volume without its pad in print, a head and its rows, and says how many bytes they have.
@@ -161,7 +177,7 @@ fn put_printed<K: Sink>(
     let _ = sizes.nx();
     let kind = store.kind();
     put_coded_head(sink, sizes, kind, hex)?;
-    let bytes = put_rows(sink, store, sizes, hex)?;
+    let bytes = put_coded_rows(sink, store, sizes, hex)?;
     Ok(coded_head_bytes(sizes, kind, hex) + bytes)
 }
 

@@ -53,6 +53,7 @@ fn put_rows<K: Sink>(
     requires room { length block.old ≡ 16384 }
     ensures { Puts (K.seen sink.old) (K.seen sink.new) result (samples_text store.now.kind (inner_samples store.now)) }
 {
+    let _ = store.sizes();
     let kind = store.kind();
     let width = sizes.nx() as usize;
     let (mut held, mut row) = (0, 0);

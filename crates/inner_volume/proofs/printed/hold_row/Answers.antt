@@ -1,0 +1,8 @@
+use Rattle.std.proofs.Common.{◌-◌, ◌*◌, ap, subst, arith}
+use Rattle.iso_base.specs.Volume.{inner_grid}
+use Rattle.inner_volume.specs.Rows.{AreSamples}
+use Rattle.inner_volume.specs.Unpadded.{inner_samples}
+use Rattle.inner_volume.proofs.printed.hold_row.Goals as goal
+
+pub returns-clause-held : goal.returns-clause-held
+returns-clause-held c = record { few = omega (arith, c.copy_rows.ensures.few); samples = rw c.requires.sizes at c.copy_rows.ensures.value }
