@@ -1,10 +1,8 @@
 -- The samples off the pad's layer.
-use Rattle.std.proofs.Common.{◌≡◌, ℕ, ◌+◌, ◌-◌, ◌*◌, ◌/◌, ◌%◌, ◌<◌, ◌≤◌, List, ◌++◌, length, take, drop, get_or, refl, sym, ap, subst, ◌∙◌, arith, All, map, ℤ, pos}
-use Rattle.std.proofs.lemmas.List.{ext_get_or, get_or-take, get_or-drop, length-take-le, length-drop, drop-drop, drop-take, take-take, take-append-drop}
+use Rattle.std.proofs.Common.{◌≡◌, ℕ, ◌+◌, ◌-◌, ◌*◌, ◌<◌, ◌≤◌, List, length, take, drop, get_or, refl, sym, ap, subst, ◌∙◌, arith, All, ℤ, pos}
+use Rattle.std.proofs.lemmas.List.{ext_get_or, get_or-take, get_or-drop, length-take-le, length-drop}
 use Rattle.std.proofs.lemmas.List.FromFn.{get_or-map-range_with_len, length-map-range_with_len}
-use Rattle.std.proofs.lemmas.Nat.{div-add-mod', div_below}
 use Rattle.std.proofs.Math.Nat.{mul-le-mul_left}
-use Rattle.iso_defs.specs.Lists.{below}
 use Rattle.iso_defs.specs.Grid.{Grid, index, coordinate, point_count}
 use Rattle.iso_defs.proofs.Points.{x_index, y_index, z_index, index_in}
 use Rattle.iso_base.specs.Points.{index_of}

@@ -1,5 +1,5 @@
 -- Pieces of bricks that are put into rows of samples.
-use Rattle.std.proofs.Common.{◌≡◌, ℕ, ◌+◌, ◌-◌, ◌*◌, ◌<◌, ◌≤◌, List, length, take, drop, get_or, sym, ap, subst, ◌∙◌, arith, rules, inl, inr, eq-zero-or-pos, ℤ, pos}
+use Rattle.std.proofs.Common.{◌≡◌, ℕ, ◌+◌, ◌-◌, ◌*◌, ◌<◌, ◌≤◌, List, length, take, drop, sym, ap, ◌∙◌, arith, rules, inl, inr, eq-zero-or-pos, ℤ, pos}
 use Rattle.std.proofs.lemmas.List.{places, get_or-take, get_or-drop, length-take-le, length-drop}
 use borrow.Rule.Slice.PartMut.{put_mid}
 use Rattle.std.proofs.Math.Nat.{mul-le-mul_left}
@@ -38,10 +38,10 @@ piece_put copies old mid from count rows at width row k n source target low fits
       before = λ r i li.
           elim (eq-zero-or-pos (row - r)) [
             | inl z ↦ elim (eq-zero-or-pos (r - row)) [
-                | inl y ↦ let e : r ≡ row = omega arith in
-                    put_below target k mid (take n (drop source copies)) (width * r + i) start (omega (arith, ap (λ m. width * m) e)) ∙ h.before r i li
-                | inr g ↦ put_past target k mid (take n (drop source copies)) (width * r + i) start (size ∙ sym ek) (omega (arith, row_end width row r (omega arith))) ∙ h.before r i li
-              ]
+              | inl y ↦ let e : r ≡ row = omega arith in
+                  put_below target k mid (take n (drop source copies)) (width * r + i) start (omega (arith, ap (λ m. width * m) e)) ∙ h.before r i li
+              | inr g ↦ put_past target k mid (take n (drop source copies)) (width * r + i) start (size ∙ sym ek) (omega (arith, row_end width row r (omega arith))) ∙ h.before r i li
+            ]
             | inr g ↦ put_below target k mid (take n (drop source copies)) (width * r + i) start (omega (arith, row_end width r row (omega arith), li)) ∙ h.before r i li
           ];
     }

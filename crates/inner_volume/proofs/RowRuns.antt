@@ -1,14 +1,13 @@
 -- Rows that the same bricks have.
-use Rattle.std.proofs.Common.{◌≡◌, ℕ, ◌+◌, ◌-◌, ◌*◌, ◌/◌, ◌%◌, ◌<◌, ◌≤◌, true, min, sym, ap, subst, ◌∙◌, arith, refl}
+use Rattle.std.proofs.Common.{◌≡◌, ℕ, ◌+◌, ◌-◌, ◌*◌, ◌/◌, ◌%◌, ◌<◌, ◌≤◌, min, sym, ap, subst, ◌∙◌, arith, refl}
 use Rattle.std.proofs.lemmas.Nat.{div-add-mod', div_below}
 use Rattle.std.proofs.Math.Nat.{mul-le-mul_left}
 use Rattle.iso_defs.specs.Grid.{Grid, index}
-use Rattle.iso_defs.specs.Bricks.{bricks_along, brick_count, brick_point, brick_start, in_brick}
-use Rattle.iso_base.specs.Sizing.{IsGrid}
+use Rattle.iso_defs.specs.Bricks.{bricks_along, brick_count, brick_point, brick_start}
 use Rattle.iso_base.specs.Volume.{Volume, IsVolume, inner_grid, layer, sample}
 use Rattle.brick_store.specs.Holding.{brick_at}
 use Rattle.brick_store.proofs.BrickNumbers.{IsPlaced, brick_in, in_is, places}
-use Rattle.inner_volume.specs.Rows.{AreRowsOf, HasSample}
+use Rattle.inner_volume.specs.Rows.{AreRowsOf}
 use Rattle.inner_volume.specs.Unpadded.{inner_samples}
 use Rattle.inner_volume.specs.declared.rows.BrickRows.{BrickRows}
 use Rattle.inner_volume.proofs.InnerSamples.{inner_at}

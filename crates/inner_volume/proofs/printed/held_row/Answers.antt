@@ -1,4 +1,4 @@
-use Rattle.std.proofs.Common.{◌*◌, ◌+◌, ◌-◌, ◌≤◌, ◌≡◌, length, take, drop, All, sym, ap, subst, arith}
+use Rattle.std.proofs.Common.{◌*◌, ◌+◌, ◌-◌, ◌≤◌, ◌≡◌, drop, All, sym, ap, subst, arith}
 use Rattle.std.proofs.lemmas.List.Elements.{All-take, All-drop}
 use Rattle.iso_base.specs.Samples.{IsOfKind}
 use Rattle.inner_volume.specs.Unpadded.{inner_samples}

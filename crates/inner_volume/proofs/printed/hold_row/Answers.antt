@@ -1,7 +1,4 @@
-use Rattle.std.proofs.Common.{◌-◌, ◌*◌, ap, subst, arith}
-use Rattle.iso_base.specs.Volume.{inner_grid}
-use Rattle.inner_volume.specs.Rows.{AreSamples}
-use Rattle.inner_volume.specs.Unpadded.{inner_samples}
+use Rattle.std.proofs.Common.{arith}
 use Rattle.inner_volume.proofs.printed.hold_row.Goals as goal
 
 pub returns-clause-held : goal.returns-clause-held

@@ -1,4 +1,4 @@
-use Rattle.std.proofs.Common.{◌≡◌, ◌+◌, ◌-◌, ◌*◌, ◌≤◌, take, drop, length, All, sym, ap, subst, arith}
+use Rattle.std.proofs.Common.{◌≡◌, ◌+◌, ◌-◌, ◌*◌, ◌≤◌, length, All, sym, ap, subst, arith}
 use Rattle.std.proofs.lemmas.Result.{err_from_is_err_and}
 use Rattle.std.proofs.Math.Nat.{mul-le-mul_left}
 use Rattle.iso_defs.specs.Grid.{point_count}
@@ -22,8 +22,12 @@ loop-row-preserved g c =
     let width : c.nx-width.result ≡ nx = c.nx-width.ensures.value in
     let each : All (IsOfKind c.kind-kind.result) (inner_samples v) = subst (λ k. All (IsOfKind k) (inner_samples v)) (sym c.kind-kind.ensures) (each_inner v c.sizes.ensures.volume) in
     let ends : row * nx + (end - row) * nx ≤ length (inner_samples v)
-    = omega (arith, length-inner_samples v, ap point_count c.requires.sizes,
-      rows_fit nx c.args.sizes.now.ny c.args.sizes.now.nz row end (omega (arith, c.copy_rows-end.ensures.some)) c.copy_rows-end.ensures.within) in
+    = omega (
+      arith,
+      length-inner_samples v,
+      ap point_count c.requires.sizes,
+      rows_fit nx c.args.sizes.now.ny c.args.sizes.now.nz row end (omega (arith, c.copy_rows-end.ensures.some)) c.copy_rows-end.ensures.within,
+    ) in
     let few : nx * (end - row) ≤ nx * 9 = mul-le-mul_left nx (omega (arith, c.copy_rows-end.ensures.few)) in
     rw width
     (rows_more _ _ _ _ _ c.loop-row.block c.copy_rows-end.new.samples c.loop-row.held c.in_ok-held.held (row * nx) ((end - row) * nx) (end * nx)
