@@ -1,6 +1,6 @@
 -- The numbers that a byte can be, out of a table.
-use Rattle.std.proofs.Common.{◌≡◌, ℕ, ◌+◌, ◌-◌, ◌*◌, ◌<◌, ◌≤◌, ◌^◌, List, ◌++◌, ◌∷◌, length, take, drop, get_or, sym, ap, subst, ◌∙◌, arith, refl, inl, inr, eq-zero-or-pos, decimal, length-append, pos}
-use Rattle.std.proofs.lemmas.List.{take-take, take-append-le, drop_at, drop-take, length-take-le, take_at, get_or-take, get_or-drop, get_or-set_same, take-set-le}
+use Rattle.std.proofs.Common.{◌≡◌, ℕ, ◌+◌, ◌-◌, ◌*◌, ◌<◌, ◌≤◌, List, ◌++◌, length, take, drop, get_or, sym, ap, subst, ◌∙◌, arith, inl, inr, eq-zero-or-pos, length-append, pos}
+use Rattle.std.proofs.lemmas.List.{take-take, drop_at, drop-take, length-take-le, get_or-take, get_or-drop, get_or-set_same, take-set-le}
 use Rattle.std.proofs.lemmas.Fmt.{length-decimal-le}
 use Rattle.std.proofs.Math.ListN.{set}
 use Rattle.std.proofs.Math.Seq.{take-append-add}
@@ -57,8 +57,7 @@ number_written old new table b at n room is size put =
     let last : get_or (take 8 (drop (8 * b) table)) 7 0 ≡ n = get_or-take 8 (drop (8 * b) table) 7 0 (omega arith) ∙ (get_or-drop (8 * b) table 7 0 ∙ sym size) in
     let few : n ≤ 4 = subst (λ k. k ≤ 4) last is.few in
     let text : take n (take 4 (drop (8 * b) table)) ≡ next_number (pos b)
-    = take-take n 4 (drop (8 * b) table) few ∙ (sym (take-take n 8 (drop (8 * b) table) (omega arith)) ∙ subst (λ k. take k (take 8 (drop (8 * b) table)) ≡ next_number (pos b)) last is.text) in
-    (
+    = take-take n 4 (drop (8 * b) table) few ∙ (sym (take-take n 8 (drop (8 * b) table) (omega arith)) ∙ subst (λ k. take k (take 8 (drop (8 * b) table)) ≡ next_number (pos b)) last is.text) in (
       few,
       sym (take-take (at + n) (at + 4) new (omega arith))
           ∙ (ap (take (at + n)) put ∙ (split (take at old) (take 4 (drop (8 * b) table)) (length-take-le at old (omega arith)) ∙ ap (λ l. take at old ++ l) text)),

@@ -1,4 +1,4 @@
-use Rattle.std.proofs.Common.{rules, ◌≡◌, ◌*◌, ◌+◌, ◌∙◌, ap, get_or, arith}
+use Rattle.std.proofs.Common.{rules, ◌≡◌, ◌*◌, ◌+◌, get_or, arith}
 use Rattle.nrrd_text.proofs.NumberTable.{number_written}
 use Rattle.nrrd_text.proofs.byte_numbers.put_byte_number.Goals as goal
 

@@ -1,4 +1,4 @@
-use Rattle.std.proofs.Common.{rules, arith}
+use Rattle.std.proofs.Common.{rules}
 use Rattle.nrrd_text.proofs.NumberTable.{entry_put}
 use Rattle.nrrd_text.proofs.byte_numbers.put_entry.Goals as goal
 

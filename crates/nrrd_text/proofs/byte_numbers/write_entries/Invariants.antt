@@ -1,4 +1,4 @@
-use Rattle.std.proofs.Common.{◌≡◌, ℕ, ◌*◌, ◌<◌, take, drop}
+use Rattle.std.proofs.Common.{ℕ, ◌*◌, ◌<◌, take, drop}
 use Rattle.nrrd_text.specs.ByteNumbers.{IsEntry}
 use Rattle.nrrd_text.proofs.byte_numbers.write_entries.Given as goal
 
