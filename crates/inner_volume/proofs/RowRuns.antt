@@ -37,9 +37,6 @@ module _ (ny nz row : ℕ) (some : 0 < ny) (low : row < ny * nz) where
 -- a line of bricks has so many rows of a plane
 module _ (v : Volume) (is : IsVolume v) (at : BrickRows) (y z : ℕ) (y_low : y < v.grid.ny) (z_low : z < v.grid.nz)
     (first : at.first ≡ bricks_along v.grid 0 * ((y - 1) / 8 + bricks_along v.grid 1 * ((z - 1) / 8))) where
-  across : ℕ
-  across = (y - 1) / 8
-
   placed : (b : ℕ) → b < bricks_along v.grid 0 → IsPlaced v.grid (at.first + b) b ((y - 1) / 8) ((z - 1) / 8)
   placed b low =
       let ly = is.grid.y.least in
