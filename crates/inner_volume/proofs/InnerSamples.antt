@@ -1,10 +1,8 @@
 -- The samples off the pad's layer.
-use Rattle.std.proofs.Common.{◌≡◌, ℕ, ◌+◌, ◌-◌, ◌*◌, ◌/◌, ◌%◌, ◌<◌, ◌≤◌, List, ◌++◌, length, take, drop, get_or, refl, sym, ap, subst, ◌∙◌, arith, All, map, ℤ, pos}
-use Rattle.std.proofs.lemmas.List.{ext_get_or, get_or-take, get_or-drop, length-take-le, length-drop, drop-drop, drop-take, take-take, take-append-drop}
+use Rattle.std.proofs.Common.{◌≡◌, ℕ, ◌+◌, ◌-◌, ◌*◌, ◌<◌, ◌≤◌, List, length, take, drop, get_or, refl, sym, ap, subst, ◌∙◌, arith, All, ℤ, pos}
+use Rattle.std.proofs.lemmas.List.{ext_get_or, get_or-take, get_or-drop, length-take-le, length-drop}
 use Rattle.std.proofs.lemmas.List.FromFn.{get_or-map-range_with_len, length-map-range_with_len}
-use Rattle.std.proofs.lemmas.Nat.{div-add-mod', div_below}
 use Rattle.std.proofs.Math.Nat.{mul-le-mul_left}
-use Rattle.iso_defs.specs.Lists.{below}
 use Rattle.iso_defs.specs.Grid.{Grid, index, coordinate, point_count}
 use Rattle.iso_defs.proofs.Points.{x_index, y_index, z_index, index_in}
 use Rattle.iso_base.specs.Points.{index_of}
@@ -36,63 +34,16 @@ row_fits v g row same low = omega (arith, length-inner_samples v, ap point_count
         h' : r + 1 ≤ b * c
         h' = omega arith
 
--- a row of these samples is part of a row of the stored ones
-module _ (v : Volume) (is : IsVolume v) (row : ℕ) (low : row < (inner_grid v).ny * (inner_grid v).nz) where
-  abbrev fits : IsGrid (inner_grid v)
-  fits = is.inner
-
-  abbrev width : ℕ
-  width = (inner_grid v).nx
-
-  abbrev row_y : ℕ
-  row_y = row % (inner_grid v).ny
-
-  abbrev row_z : ℕ
-  row_z = row / (inner_grid v).ny
-
-  y_low : row_y < (inner_grid v).ny
-  y_low = let h = fits.y.least in omega arith
-
-  z_low : row_z < (inner_grid v).nz
-  z_low = let h = fits.y.least in div_below row (inner_grid v).ny (inner_grid v).nz (omega arith) (turn (inner_grid v).ny (inner_grid v).nz row low)
-    where
-      turn : (a b n : ℕ) → n < a * b → n < b * a
-      turn a b n h = omega arith
-
-  place : (i : ℕ) → row * width + i ≡ index (inner_grid v) i row_y row_z
-  place i = by_row width (inner_grid v).ny row_y row_z row i (omega (arith, div-add-mod' row (inner_grid v).ny))
-    where
-      by_row : (w n y z r i : ℕ) → y + n * z ≡ r → r * w + i ≡ i + w * (y + n * z)
-      by_row w n y z r i e = rw e (omega arith)
-
-  stored_at : (i : ℕ) → i < width → stored_index v (row * width + i) ≡ index v.grid (i + layer v.pad) (row_y + layer v.pad) (row_z + layer v.pad)
-  stored_at i lt =
-      let x : coordinate (inner_grid v) 0 (row * width + i) ≡ i = ap (coordinate (inner_grid v) 0) (place i) ∙ x_index (inner_grid v) i row_y row_z lt y_low z_low in
-      let y : coordinate (inner_grid v) 1 (row * width + i) ≡ row_y = ap (coordinate (inner_grid v) 1) (place i) ∙ y_index (inner_grid v) i row_y row_z lt y_low z_low in
-      let z : coordinate (inner_grid v) 2 (row * width + i) ≡ row_z = ap (coordinate (inner_grid v) 2) (place i) ∙ z_index (inner_grid v) i row_y row_z lt y_low z_low in
-      rw (x, y, z) refl
-
-  row_is : (i : ℕ) → i < width
-      → sample v.samples (index v.grid (i + layer v.pad) (row_y + layer v.pad) (row_z + layer v.pad)) ≡ get_or (inner_samples v) (row * width + i) (pos 0)
-  row_is i lt =
-      let here : row * width + i < point_count (inner_grid v) = omega (arith, row_fits v (inner_grid v) row refl low, length-inner_samples v) in
-      ap (sample v.samples) (sym (stored_at i lt)) ∙ sym (get_or-inner_samples v (row * width + i) (pos 0) here)
-
--- the sample at a place of a row, where the grid off the layer is given
-pub row_sample : (v : Volume) (g : Grid) (row i : ℕ) → IsVolume v → g ≡ inner_grid v → row < g.ny * g.nz → i < g.nx
-    → sample v.samples (index v.grid (i + layer v.pad) (row % g.ny + layer v.pad) (row / g.ny + layer v.pad)) ≡ get_or (inner_samples v) (row * g.nx + i) (pos 0)
-row_sample v g row i is same low lt =
-    subst (λ (e : Grid). row < e.ny * e.nz → i < e.nx
-    → sample v.samples (index v.grid (i + layer v.pad) (row % e.ny + layer v.pad) (row / e.ny + layer v.pad)) ≡ get_or (inner_samples v) (row * e.nx + i) (pos 0)) (sym same)
-    (λ low lt. row_is v is row low i lt) low lt
-
--- the same by the point at the front of the row
-pub row_sample_from : (v : Volume) (g : Grid) (row i : ℕ) (p : Point) → IsVolume v → g ≡ inner_grid v → row < g.ny * g.nz → i < g.nx
-    → p.x ≡ layer v.pad → p.y ≡ row % g.ny + layer v.pad → p.z ≡ row / g.ny + layer v.pad
-    → sample v.samples (index_of v.grid p + i) ≡ get_or (inner_samples v) (row * g.nx + i) (pos 0)
-row_sample_from v g row i p is same low lt ex ey ez =
-    let along : index_of v.grid p + i ≡ index v.grid (i + layer v.pad) (row % g.ny + layer v.pad) (row / g.ny + layer v.pad) = rw (ex, ey, ez) (omega arith) in
-    ap (sample v.samples) along ∙ row_sample v g row i is same low lt
+-- the sample at coordinates that do not count the layer
+pub inner_at : (v : Volume) (x y z : ℕ) → x < (inner_grid v).nx → y < (inner_grid v).ny → z < (inner_grid v).nz
+    → sample v.samples (index v.grid (x + layer v.pad) (y + layer v.pad) (z + layer v.pad)) ≡ sample (inner_samples v) (index (inner_grid v) x y z)
+inner_at v x y z hx hy hz =
+    let i : ℕ = index (inner_grid v) x y z in
+    let ex : coordinate (inner_grid v) 0 i ≡ x = x_index (inner_grid v) x y z hx hy hz in
+    let ey : coordinate (inner_grid v) 1 i ≡ y = y_index (inner_grid v) x y z hx hy hz in
+    let ez : coordinate (inner_grid v) 2 i ≡ z = z_index (inner_grid v) x y z hx hy hz in
+    let same : stored_index v i ≡ index v.grid (x + layer v.pad) (y + layer v.pad) (z + layer v.pad) = rw (ex, ey, ez) refl in
+    ap (sample v.samples) (sym same) ∙ sym (get_or-inner_samples v i (pos 0) (index_in (inner_grid v) x y z hx hy hz))
 
 -- a list of the samples of a row is that part of the list
 pub row_taken : (all row : List ℤ) (start width : ℕ) → length row ≡ width → start + width ≤ length all
@@ -102,35 +53,6 @@ row_taken all row start width count ends each =
     ext_get_or (pos 0) row (take width (drop start all)) (count ∙ sym taken) (λ i lt.
     let low : i < width = subst (λ n. i < n) count lt in
     each i low ∙ sym (get_or-take width (drop start all) i (pos 0) low ∙ get_or-drop start all i (pos 0)))
-
-pub run_size : (v : Volume) (p : Point) (run : List ℤ) (rest : ℕ) → run ≡ map (λ i. sample v.samples (index_of v.grid p + i)) (below rest) → length run ≡ rest
-run_size v p run rest is = ap length is ∙ length-map-range_with_len (λ i. sample v.samples (index_of v.grid p + i)) 0 rest
-
--- a run of samples from a point of a row on is that part of the list
-pub run_taken : (v : Volume) (all run : List ℤ) (front p : Point) (start width x count rest : ℕ)
-    → ((i : ℕ) → i < width → sample v.samples (index_of v.grid front + i) ≡ get_or all (start + i) (pos 0))
-    → p.x ≡ front.x + x → p.y ≡ front.y → p.z ≡ front.z → run ≡ map (λ i. sample v.samples (index_of v.grid p + i)) (below rest)
-    → count ≤ rest → x + count ≤ width → start + width ≤ length all → take count run ≡ take count (drop x (drop start all))
-run_taken v all run front p start width x count rest known ex ey ez is few fits ends =
-    let size : length run ≡ rest = run_size v p run rest is in
-    row_taken all (take count run) (start + x) count (length-take-le count run (omega arith)) (omega arith) (λ i lt.
-    get_or-take count run i (pos 0) lt
-    ∙ (ap (λ l. get_or l i (pos 0)) is
-    ∙ (get_or-map-range_with_len (λ i. sample v.samples (index_of v.grid p + i)) 0 rest i i (pos 0) (omega arith) (omega arith)
-    ∙ (ap (sample v.samples) (moved i) ∙ (known (x + i) (omega arith) ∙ ap (λ k. get_or all k (pos 0)) (later i))))))
-    ∙ ap (take count) (sym (drop-drop x start all))
-  where
-    moved : (i : ℕ) → index_of v.grid p + i ≡ index_of v.grid front + (x + i)
-    moved i = rw (ex, ey, ez) (omega arith)
-
-    later : (i : ℕ) → start + (x + i) ≡ start + x + i
-    later i = omega arith
-
--- the first of a list, and some more
-pub take_both : (x count : ℕ) (all : List ℤ) → take (x + count) all ≡ take x all ++ take count (drop x all)
-take_both x count all =
-    sym (take-append-drop x (take (x + count) all))
-    ∙ (ap (λ l. l ++ drop x (take (x + count) all)) (take-take x (x + count) all (omega arith)) ∙ ap (λ l. take x all ++ l) (drop-take x count all))
 
 -- each of these samples is of the kind
 pub each_inner : (v : Volume) → IsVolume v → All (IsOfKind v.kind) (inner_samples v)

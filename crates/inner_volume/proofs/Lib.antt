@@ -4,3 +4,5 @@ pub mod RowsPut
 pub mod ReadAgain
 pub mod RowLines
 pub mod RowRuns
+pub mod Pieces
+pub mod Columns

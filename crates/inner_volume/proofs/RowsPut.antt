@@ -1,9 +1,9 @@
 -- Samples that are gathered from rows and put into a sink.
-use Rattle.std.proofs.Common.{◌≡◌, ◌⊎◌, inl, inr, ℕ, ◌+◌, ◌-◌, ◌*◌, ◌≤◌, List, [], ◌++◌, length, take, drop, Result, Ok, Err, sym, ap, subst, ◌∙◌, append_assoc, arith, All, ℤ, length-append}
-use Rattle.std.proofs.lemmas.List.{take-append-drop, drop-drop, drop_all, length-take-le, length-drop}
-use Rattle.std.proofs.lemmas.Slice.{take-put_mid}
+use Rattle.std.proofs.Common.{◌≡◌, ◌⊎◌, inl, inr, ℕ, ◌+◌, ◌-◌, ◌*◌, ◌≤◌, List, [], ◌++◌, length, take, drop, Result, Ok, Err, sym, ap, subst, ◌∙◌, append_assoc, arith, All, ℤ, pos, length-append}
+use Rattle.std.proofs.lemmas.List.{take-append-drop, take-append-le, get_or-take, drop-drop, drop_all, length-take-le, length-drop}
+use Rattle.std.proofs.Math.Seq.{take-append-add}
 use borrow.Rule.Slice.PartMut.{put_mid}
-use Rattle.std.proofs.lemmas.List.Elements.{All-append}
+use Rattle.std.proofs.lemmas.List.Elements.{All-append, All-drop, All-take}
 use Rattle.std.proofs.lemmas.Grind.{flat_map-append}
 use Rattle.std.proofs.Math.Nat.{mul-le-mul_left}
 use Rattle.iso_io.specs.Seen.{Tape, Puts}
@@ -12,6 +12,8 @@ use Rattle.iso_base.specs.Samples.{IsOfKind}
 use Rattle.iso_base.specs.declared.kind.SampleKind.{SampleKind}
 use Rattle.nrrd_text.specs.Samples.{sample_bytes}
 use Rattle.nrrd.specs.Writing.{samples_text}
+use Rattle.inner_volume.specs.Rows.{AreSamples}
+use Rattle.inner_volume.proofs.InnerSamples.{row_taken}
 
 -- the texts of two lists of samples, one after the other
 pub samples_both : (kind : SampleKind) (a b : List ℤ) → samples_text kind (a ++ b) ≡ samples_text kind a ++ samples_text kind b
@@ -55,40 +57,51 @@ room_made old mid new kind all block held at n h (inr e) p =
     has_put old mid new (samples_text kind all) (samples_text kind (take (held - n) block)) (samples_text kind (take n block ++ drop at all)) n
     (subst (HasPut old mid (samples_text kind all)) before h.put) p
 
--- a row was gathered
-pub row_gathered : (old new : Tape) (kind : SampleKind) (all block after row : List ℤ) (n at width next : ℕ)
-    → HasPut old new (samples_text kind all) (samples_text kind (take n block ++ drop at all)) → row ≡ take width (drop at all) → next ≡ at + width
-    → take (n + width) after ≡ take n block ++ row
-    → HasPut old new (samples_text kind all) (samples_text kind (take (n + width) after ++ drop next all))
-row_gathered old new kind all block after row n at width next h is e put =
-    let rest : drop next all ≡ drop width (drop at all) = ap (λ k. drop k all) e ∙ sym (drop-drop width at all) in
-    let both : take n block ++ drop at all ≡ take (n + width) after ++ drop next all
-    = ap (λ l. take n block ++ l) (sym (take-append-drop width (drop at all)) ∙ ap (λ l. l ++ drop width (drop at all)) (sym is))
-    ∙ (sym (append_assoc (take n block) row (drop width (drop at all)))
-    ∙ (ap (λ l. l ++ drop width (drop at all)) (sym put) ∙ ap (λ l. take (n + width) after ++ l) (sym rest))) in
+-- rows were gathered
+pub rows_gathered : (old new : Tape) (kind : SampleKind) (all block after rows : List ℤ) (n at count next : ℕ)
+    → HasPut old new (samples_text kind all) (samples_text kind (take n block ++ drop at all)) → rows ≡ take count (drop at all) → next ≡ at + count
+    → take (n + count) after ≡ take n block ++ rows
+    → HasPut old new (samples_text kind all) (samples_text kind (take (n + count) after ++ drop next all))
+rows_gathered old new kind all block after rows n at count next h is e put =
+    let rest : drop next all ≡ drop count (drop at all) = ap (λ k. drop k all) e ∙ sym (drop-drop count at all) in
+    let both : take n block ++ drop at all ≡ take (n + count) after ++ drop next all
+    = ap (λ l. take n block ++ l) (sym (take-append-drop count (drop at all)) ∙ ap (λ l. l ++ drop count (drop at all)) (sym is))
+    ∙ (sym (append_assoc (take n block) rows (drop count (drop at all)))
+    ∙ (ap (λ l. l ++ drop count (drop at all)) (sym put) ∙ ap (λ l. take (n + count) after ++ l) (sym rest))) in
     subst (λ l. HasPut old new (samples_text kind all) (samples_text kind l)) both h
 
--- a row more
-pub rows_more : {E : Type 0} (old mid new : Tape) (kind : SampleKind) (all block row : List ℤ) (held n at width next k : ℕ) → HasRows old mid kind all block held at
-    → (n ≡ 0) ⊎ (n ≡ held) → Puts {E = E} mid new (Ok n) (samples_text kind (take (held - n) block)) → n + width ≤ length block
-    → row ≡ take width (drop at all) → length row ≡ width → All (IsOfKind kind) row → next ≡ at + width → k ≡ width
-    → HasRows old new kind all (put_mid n k block row) (n + width) next
-rows_more old mid new kind all block row held n at width next k h either put fits is len each e size =
-    let front : take (n + width) (put_mid n k block row) ≡ take n block ++ row = take-put_mid n k block row (n + width) (omega (arith, len)) (omega arith) in
+-- the first of a piece that was put into a block, behind what it holds
+pub piece_held : (block piece : List ℤ) (n k count : ℕ) → n + k ≤ length block → length piece ≡ k → count ≤ k
+    → take (n + count) (put_mid n k block piece) ≡ take n block ++ take count piece
+piece_held block piece n k count fits size few =
+    subst (λ m. take (m + count) (put_mid n k block piece) ≡ take n block ++ take count (piece ++ drop k (drop n block))) (length-take-le n block (omega arith))
+    (take-append-add (take n block) (piece ++ drop k (drop n block)) count)
+    ∙ ap (λ l. take n block ++ l) (take-append-le count piece (drop k (drop n block)) (omega (arith, size, few)))
+
+-- rows more
+pub rows_more : {E : Type 0} (old mid new : Tape) (kind : SampleKind) (all block piece : List ℤ) (held n at count next k : ℕ) → HasRows old mid kind all block held at
+    → (n ≡ 0) ⊎ (n ≡ held) → Puts {E = E} mid new (Ok n) (samples_text kind (take (held - n) block)) → n + k ≤ length block
+    → length piece ≡ k → count ≤ k → AreSamples all at count piece → at + count ≤ length all → All (IsOfKind kind) all → next ≡ at + count
+    → HasRows old new kind all (put_mid n k block piece) (n + count) next
+rows_more old mid new kind all block piece held n at count next k h either put fits size few are ends each e =
+    let front : take (n + count) (put_mid n k block piece) ≡ take n block ++ take count piece = piece_held block piece n k count fits size few in
     record {
-      put = row_gathered old new kind all block (put_mid n k block row) row n at width next (room_made old mid new kind all block held at n h either put) is e front;
-      each = subst (All (IsOfKind kind)) (sym front) (All-append (IsOfKind kind) (take n block) row (before either) each);
-      room = omega (arith, length-put_mid);
+      put = rows_gathered old new kind all block (put_mid n k block piece) (take count piece) n at count next (room_made old mid new kind all block held at n h either put) is e front;
+      each = subst (All (IsOfKind kind)) (sym front) (All-append (IsOfKind kind) (take n block) (take count piece) (before either) (subst (All (IsOfKind kind)) (sym is) (All-take (IsOfKind kind) count (drop at all) (All-drop (IsOfKind kind) at all each))));
+      room = omega (arith, length-put_mid, fits, few);
     }
   where
+    is : take count piece ≡ take count (drop at all)
+    is = row_taken all (take count piece) at count (length-take-le count piece (omega (arith, size, few))) ends (λ i lt. get_or-take count piece i (pos 0) lt ∙ are i lt)
+
     before : (n ≡ 0) ⊎ (n ≡ held) → All (IsOfKind kind) (take n block)
     before (inl e) = λ i d lt. absurd (omega (arith, ap (λ m. length (take m block)) e))
     before (inr e) = subst (λ m. All (IsOfKind kind) (take m block)) (sym e) h.each
 
-    length-put_mid : length (put_mid n k block row) ≡ length block
+    length-put_mid : length (put_mid n k block piece) ≡ length block
     length-put_mid =
-        length-append (take n block) (row ++ drop k (drop n block))
-        ∙ omega (arith, length-append row (drop k (drop n block)), length-drop k (drop n block), length-drop n block, length-take-le n block (omega arith), len, size)
+        length-append (take n block) (piece ++ drop k (drop n block))
+        ∙ omega (arith, length-append piece (drop k (drop n block)), length-drop k (drop n block), length-drop n block, length-take-le n block (omega arith), size)
 
 -- what a block held could not be put
 pub rows_failed : {T U E E' : Type 0} (old mid new : Tape) (kind : SampleKind) (all block : List ℤ) (held at : ℕ) (e : E) (e' : E') → HasRows old mid kind all block held at
@@ -113,3 +126,16 @@ pub rows_end : (a b c r : ℕ) → b * c ≤ r → a * b * c ≤ r * a
 rows_end a b c r h =
     let l : a * (b * c) ≤ a * r = mul-le-mul_left a h in
     omega arith
+
+-- the rows before one, and those up to another
+pub rows_joined : (a r e : ℕ) → r ≤ e → e * a ≡ r * a + (e - r) * a
+rows_joined a r e le = by_count (e - r) (omega arith)
+  where
+    by_count : (d : ℕ) → r + d ≡ e → e * a ≡ r * a + d * a
+    by_count d s = subst (λ m. m * a ≡ r * a + d * a) s (omega arith)
+
+-- these are among the samples
+pub rows_fit : (a b c r e : ℕ) → r ≤ e → e ≤ b * c → r * a + (e - r) * a ≤ a * b * c
+rows_fit a b c r e le ends =
+    let l : a * e ≤ a * (b * c) = mul-le-mul_left a ends in
+    omega (arith, rows_joined a r e le)

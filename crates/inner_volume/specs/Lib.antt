@@ -1,3 +1,4 @@
 pub mod Places
 pub mod Unpadded
 pub mod Rows
+pub mod Held

@@ -4,6 +4,7 @@
 
 mod places;
 mod printed;
+mod rows;
 mod saved;
 
 pub use places::{layer_of, place_in, plane_in};

@@ -1,31 +1,84 @@
 //! A volume without its pad in print, as a file of a shelf: a row of samples in a line.
 
-ghost use Rattle.std.specs.Prelude.{◌≡◌, ◌+◌, ◌*◌, ◌≤◌, length, flat_map, All, Ok, IfOk};
+ghost use Rattle.std.specs.Prelude.{◌≡◌, ◌+◌, ◌*◌, ◌<◌, ◌≤◌, length, take, drop, flat_map, All, Ok, IfOk};
 ghost use Rattle.iso_base.specs.Volume.{inner_grid};
 ghost use Rattle.iso_base.specs.Samples.{IsOfKind};
 ghost use Rattle.iso_io.specs.Seen.{Puts, Stages};
 ghost use Rattle.iso_io.specs.Shelves.{Stores, file_tape};
 ghost use Rattle.nrrd.specs.Nrrd.{nrrd_of};
 ghost use Rattle.nrrd.specs.Writing.{coded_line, rows_of};
-ghost use Rattle.inner_volume.specs.Unpadded.{inner_voxels, saved_as_hex, saved_as_text, saved_in_print};
+ghost use Rattle.inner_volume.specs.Held.{AreHeld};
+ghost use Rattle.inner_volume.specs.Unpadded.{inner_samples, inner_voxels, saved_as_hex, saved_as_text, saved_in_print};
 
 use crate::places::inner_sizes;
-use crate::saved::copy_row;
+use crate::rows::copy_rows;
 use brick_store::BrickStore;
 use iso_base::{SampleKind, Sizes};
 use iso_io::{Failed, Shelf, ShelfFile, Sink, write_all_of};
-use mesh_text::Fours;
+use mesh_text::{Counted, Digits, Fours};
 use nrrd::{coded_head_bytes, put_coded_head};
 use nrrd_text::{SampleLines, gather_hex, gather_text};
 
-/// The most samples in a row.
-const MOST: usize = 1_026;
+/// The most samples in the rows that bricks have of a plane: nine rows of 1,026.
+const MOST: usize = 9_234;
+
+/// Rows that a block holds: from one to before another.
+#[derive(Clone, Copy)]
+struct Held {
+    first: u32,
+    end: u32,
+}
+
+/// Sees to it that a block holds a row, which comes behind those that it held.
+fn hold_row(store: &BrickStore, sizes: &Sizes, number: u32, held: Held, block: &mut [i64]) -> Held
+    requires sizes { sizes.now ≡ inner_grid store.now }
+    requires number { number < sizes.now.ny * sizes.now.nz }
+    requires room { length block.old ≡ 9234 }
+    requires held { AreHeld store.now held block.old }
+    requires first { held.first ≤ number }
+    requires next { number ≤ held.end }
+    ensures held { AreHeld store.now result block.new }
+    ensures first { result.first ≤ number }
+    ensures holds { number < result.end }
+{
+    let _ = sizes.nx();
+    if number < held.end {
+        return held;
+    }
+    Held {
+        first: number,
+        end: copy_rows(store, sizes, number, block),
+    }
+}
+
+/// A row that a block holds.
+fn held_row<'a>(
+    store: &BrickStore,
+    sizes: &Sizes,
+    number: u32,
+    held: Held,
+    block: &'a [i64],
+) -> &'a [i64]
+    requires sizes { sizes.now ≡ inner_grid store.now }
+    requires number { number < sizes.now.ny * sizes.now.nz }
+    requires room { length block.now ≡ 9234 }
+    requires held { AreHeld store.now held block.now }
+    requires first { held.first ≤ number }
+    requires holds { number < held.end }
+    ensures value { result.now ≡ take sizes.now.nx (drop (number * sizes.now.nx) (inner_samples store.now)) }
+    ensures each { All (IsOfKind store.now.kind) result.now }
+{
+    let _ = store.sizes();
+    let width = sizes.nx() as usize;
+    let from = (number - held.first) as usize * width;
+    &block[from..from + width]
+}
 
 /// Puts the line of a row behind what waits, and says how many bytes it has.
-fn gather_row<K: Sink>(
+fn gather_row<K: Sink, D: Digits>(
     sink: &mut K,
     waiting: &mut SampleLines,
-    digits: &Fours,
+    digits: &D,
     kind: SampleKind,
     hex: bool,
     row: &[i64],
@@ -39,22 +92,22 @@ fn gather_row<K: Sink>(
     if hex {
         gather_hex(sink, waiting, kind, row)
     } else {
-        gather_text(sink, waiting, digits, row)
+        gather_text(sink, waiting, digits, kind, row)
     }
 }
 
 /// Puts the lines of all rows off the pad's layer behind what waits, and says how many bytes they have.
-fn gather_rows<K: Sink>(
+fn gather_rows<K: Sink, D: Digits>(
     sink: &mut K,
     waiting: &mut SampleLines,
-    digits: &Fours,
+    digits: &D,
     store: &BrickStore,
     sizes: &Sizes,
     hex: bool,
-    row: &mut [i64],
+    block: &mut [i64],
 ) -> Result<u64, Failed>
     requires sizes { sizes.now ≡ inner_grid store.now }
-    requires room { length row.old ≡ sizes.now.nx }
+    requires room { length block.old ≡ 9234 }
     ensures lines { Stages (K.seen sink.old) (K.seen sink.new) waiting.old waiting.new result
         (flat_map (coded_line hex store.now.kind) (rows_of (inner_voxels store.now))) }
     ensures bytes { IfOk result (λ n. n ≡ length (flat_map (coded_line hex store.now.kind) (rows_of (inner_voxels store.now)))) }
@@ -62,15 +115,37 @@ fn gather_rows<K: Sink>(
 {
     let kind = store.kind();
     let mut bytes = 0u64;
+    let mut held = Held { first: 0, end: 0 };
     for number in 0..sizes.ny() * sizes.nz() {
-        copy_row(store, sizes, number, row);
+        held = hold_row(store, sizes, number, held, block);
+        let row = held_row(store, sizes, number, held, block);
         bytes += gather_row(sink, waiting, digits, kind, hex, row)?;
     }
     Ok(bytes)
 }
 
 /// Writes the lines of all rows off the pad's layer, and says how many bytes they have.
-fn put_rows<K: Sink>(
+fn put_rows<K: Sink, D: Digits>(
+    sink: &mut K,
+    digits: &D,
+    store: &BrickStore,
+    sizes: &Sizes,
+    hex: bool,
+) -> Result<u64, Failed>
+    requires { sizes.now ≡ inner_grid store.now }
+    ensures lines { Puts (K.seen sink.old) (K.seen sink.new) result (flat_map (coded_line hex store.now.kind) (rows_of (inner_voxels store.now))) }
+    ensures bytes { IfOk result (λ n. n ≡ length (flat_map (coded_line hex store.now.kind) (rows_of (inner_voxels store.now)))) }
+    ensures bound { IfOk result (λ n. n ≤ 25000 * (sizes.now.ny * sizes.now.nz)) }
+{
+    let mut block = [0; MOST];
+    let mut waiting = SampleLines::new();
+    let bytes = gather_rows(sink, &mut waiting, digits, store, sizes, hex, &mut block)?;
+    write_all_of(sink, waiting.as_bytes())?;
+    Ok(bytes)
+}
+
+/// The same. A table of the digits of numbers is made only where there are numbers.
+fn put_coded_rows<K: Sink>(
     sink: &mut K,
     store: &BrickStore,
     sizes: &Sizes,
@@ -81,12 +156,11 @@ fn put_rows<K: Sink>(
     ensures bytes { IfOk result (λ n. n ≡ length (flat_map (coded_line hex store.now.kind) (rows_of (inner_voxels store.now)))) }
     ensures bound { IfOk result (λ n. n ≤ 25000 * (sizes.now.ny * sizes.now.nz)) }
 {
-    let mut samples = [0; MOST];
-    let mut waiting = SampleLines::new();
-    let row = &mut samples[..sizes.nx() as usize];
-    let bytes = gather_rows(sink, &mut waiting, &Fours::new(), store, sizes, hex, row)?;
-    write_all_of(sink, waiting.as_bytes())?;
-    Ok(bytes)
+    if hex {
+        put_rows(sink, &Counted, store, sizes, hex)
+    } else {
+        put_rows(sink, &Fours::new(), store, sizes, hex)
+    }
 }
 
 /// Writes the volume without its pad in print, a head and its rows, and says how many bytes they have.
@@ -103,7 +177,7 @@ fn put_printed<K: Sink>(
     let _ = sizes.nx();
     let kind = store.kind();
     put_coded_head(sink, sizes, kind, hex)?;
-    let bytes = put_rows(sink, store, sizes, hex)?;
+    let bytes = put_coded_rows(sink, store, sizes, hex)?;
     Ok(coded_head_bytes(sizes, kind, hex) + bytes)
 }
 

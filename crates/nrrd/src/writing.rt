@@ -98,8 +98,9 @@ fn printed(hex: bool) -> Encoding
     if hex { Encoding::Hex } else { Encoding::Text }
 }
 
-/// Appends the head of a volume whose samples follow in print to a sink, as hex digits or as numbers: these have no byte
-/// order. `Failed` comes as for `put_nrrd_head`. No memory is taken.
+/// Appends the head of a volume whose samples follow in print to a sink, as hex digits or as numbers. Digits of samples
+/// wider than a byte have a byte order, which the head says: little. Numbers have none. `Failed` comes as for
+/// `put_nrrd_head`. No memory is taken.
 pub fn put_coded_head<K: Sink>(
     sink: &mut K,
     sizes: &Sizes,

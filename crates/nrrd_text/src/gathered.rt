@@ -3,11 +3,10 @@
 ghost use Rattle.std.specs.Prelude.{◌≡◌, ◌+◌, ◌*◌, ◌^◌, ◌<◌, ◌≤◌, ◌⊎◌, ◌∷◌, ◌++◌, [], All, IfOk, flat_map, length};
 ghost use Rattle.std.specs.Fmt.{signed_decimal};
 ghost use Rattle.iso_io.specs.Seen.{Stages};
-ghost use Rattle.iso_base.specs.Samples.{IsOfKind};
-ghost use Rattle.nrrd_text.specs.Writing.{next_number, samples_digits};
+ghost use Rattle.nrrd_text.specs.Forms.{IsOfForm, printed};
 
+use crate::forms::Form;
 use crate::sample_lines::SampleLines;
-use iso_base::SampleKind;
 use iso_io::{Failed, Sink, write_all_of};
 use mesh_text::Digits;
 
@@ -71,37 +70,41 @@ pub(crate) fn gather_first<K: Sink, D: Digits>(
     Ok((waiting.len() - before) as u64)
 }
 
-/// Puts some numbers behind what waits, each behind a space, and says how many bytes they have.
+/// Puts some samples in print behind what waits, and says how many bytes they have.
 fn gather_piece<K: Sink, D: Digits>(
     sink: &mut K,
     waiting: &mut SampleLines,
     digits: &D,
+    form: Form,
     values: &[i64],
 ) -> Result<u64, Failed>
-    requires { length values.now ≤ 256 }
-    ensures staged { Stages (K.seen sink.old) (K.seen sink.new) waiting.old waiting.new result (flat_map next_number values.now) }
-    ensures bytes { IfOk result (λ n. n ≡ length (flat_map next_number values.now)) }
+    requires form { All (IsOfForm form) values.now }
+    requires room { length values.now ≤ 256 }
+    ensures staged { Stages (K.seen sink.old) (K.seen sink.new) waiting.old waiting.new result (flat_map (printed form) values.now) }
+    ensures bytes { IfOk result (λ n. n ≡ length (flat_map (printed form) values.now)) }
     ensures few { IfOk result (λ n. n ≤ 24 * length values.now) }
 {
     make_room(sink, waiting, values.len())?;
     let before = waiting.len();
-    waiting.push_others(digits, values);
+    waiting.push(digits, form, values);
     Ok((waiting.len() - before) as u64)
 }
 
-/// Puts numbers behind what waits, each behind a space.
-pub(crate) fn gather_numbers<K: Sink, D: Digits>(
+/// Puts samples in print behind what waits.
+pub(crate) fn gather_samples<K: Sink, D: Digits>(
     sink: &mut K,
     waiting: &mut SampleLines,
     digits: &D,
+    form: Form,
     values: &[i64],
 ) -> Result<(), Failed>
-    ensures { Stages (K.seen sink.old) (K.seen sink.new) waiting.old waiting.new result (flat_map next_number values.now) }
+    requires { All (IsOfForm form) values.now }
+    ensures { Stages (K.seen sink.old) (K.seen sink.new) waiting.old waiting.new result (flat_map (printed form) values.now) }
 {
     let mut rest = values;
     while !rest.is_empty() {
         let (piece, others) = next_piece(rest);
-        gather_piece(sink, waiting, digits, piece)?;
+        gather_piece(sink, waiting, digits, form, piece)?;
         rest = others;
     }
     Ok(())
@@ -112,54 +115,21 @@ pub(crate) fn gather_counted<K: Sink, D: Digits>(
     sink: &mut K,
     waiting: &mut SampleLines,
     digits: &D,
+    form: Form,
     values: &[i64],
 ) -> Result<u64, Failed>
+    requires form { All (IsOfForm form) values.now }
     requires few { length values.now ≤ 2 ^ 32 }
-    ensures numbers { Stages (K.seen sink.old) (K.seen sink.new) waiting.old waiting.new result (flat_map next_number values.now) }
-    ensures bytes { IfOk result (λ n. n ≡ length (flat_map next_number values.now)) }
+    ensures samples { Stages (K.seen sink.old) (K.seen sink.new) waiting.old waiting.new result (flat_map (printed form) values.now) }
+    ensures bytes { IfOk result (λ n. n ≡ length (flat_map (printed form) values.now)) }
     ensures bound { IfOk result (λ n. n ≤ 24 * length values.now) }
 {
     let mut bytes = 0u64;
     let mut rest = values;
     while !rest.is_empty() {
         let (piece, others) = next_piece(rest);
-        bytes += gather_piece(sink, waiting, digits, piece)?;
+        bytes += gather_piece(sink, waiting, digits, form, piece)?;
         rest = others;
     }
     Ok(bytes)
-}
-
-/// Puts the digits of some samples behind what waits.
-fn gather_digits<K: Sink>(
-    sink: &mut K,
-    waiting: &mut SampleLines,
-    kind: SampleKind,
-    values: &[i64],
-) -> Result<(), Failed>
-    requires kind { All (IsOfKind kind) values.now }
-    requires few { length values.now ≤ 256 }
-    ensures { Stages (K.seen sink.old) (K.seen sink.new) waiting.old waiting.new result (samples_digits kind values.now) }
-{
-    make_room(sink, waiting, values.len())?;
-    waiting.push_samples(kind, values);
-    Ok(())
-}
-
-/// Puts the digits of samples behind what waits.
-pub(crate) fn gather_samples<K: Sink>(
-    sink: &mut K,
-    waiting: &mut SampleLines,
-    kind: SampleKind,
-    values: &[i64],
-) -> Result<(), Failed>
-    requires { All (IsOfKind kind) values.now }
-    ensures { Stages (K.seen sink.old) (K.seen sink.new) waiting.old waiting.new result (samples_digits kind values.now) }
-{
-    let mut rest = values;
-    while !rest.is_empty() {
-        let (piece, others) = next_piece(rest);
-        gather_digits(sink, waiting, kind, piece)?;
-        rest = others;
-    }
-    Ok(())
 }

@@ -55,7 +55,7 @@ pub(crate) fn put_number<D: Digits>(digits: &D, value: i64, room: &mut [u8], at:
 
 /// Writes a number behind another: a space, and its digits.
 #[inline(always)]
-fn put_next<D: Digits>(digits: &D, value: i64, room: &mut [u8], at: usize) -> usize
+pub(crate) fn put_next<D: Digits>(digits: &D, value: i64, room: &mut [u8], at: usize) -> usize
     requires { at + 21 ≤ length room.old }
     ensures end { result ≤ at + 21 }
     ensures behind { at ≤ result }

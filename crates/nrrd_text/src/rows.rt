@@ -4,21 +4,24 @@ ghost use Rattle.iso_io.specs.Seen.{Stages};
 ghost use Rattle.iso_base.specs.Samples.{IsOfKind};
 ghost use Rattle.nrrd_text.specs.Writing.{hex_line, text_line};
 
+use crate::forms::{Form, numbers_of};
 use crate::gathered::{gather_counted, gather_end, gather_first, gather_samples};
 use crate::sample_lines::SampleLines;
 use iso_base::SampleKind;
 use iso_io::{Failed, Sink};
-use mesh_text::Digits;
+use mesh_text::{Counted, Digits};
 
-/// Puts a line of numbers, one space between two, behind what waits, and says how many bytes it has. What waits is written
+/// Puts a line of samples as numbers, one space between two, behind what waits, and says how many bytes it has. What waits is written
 /// where there is no room, and by the caller at the end. After `Failed` the sink has taken a front of what waited and the
 /// line, and its count of faults rose. No memory is taken.
 pub fn gather_text<K: Sink, D: Digits>(
     sink: &mut K,
     waiting: &mut SampleLines,
     digits: &D,
+    kind: SampleKind,
     values: &[i64],
 ) -> Result<u64, Failed>
+    requires each { All (IsOfKind kind) values.now }
     requires few { length values.now ≤ 2 ^ 32 }
     ensures line { Stages (K.seen sink.old) (K.seen sink.new) waiting.old waiting.new result (text_line values.now) }
     ensures bytes { IfOk result (λ n. n ≡ length (text_line values.now)) }
@@ -29,7 +32,7 @@ pub fn gather_text<K: Sink, D: Digits>(
         return Ok(1);
     };
     let first = gather_first(sink, waiting, digits, *first)?;
-    let bytes = gather_counted(sink, waiting, digits, others)?;
+    let bytes = gather_counted(sink, waiting, digits, numbers_of(kind), others)?;
     gather_end(sink, waiting)?;
     Ok(first + bytes + 1)
 }
@@ -48,7 +51,7 @@ pub fn gather_hex<K: Sink>(
     ensures bytes { IfOk result (λ n. n ≡ length (hex_line kind values.now)) }
     ensures bound { IfOk result (λ n. n ≤ 24 * length values.now + 1) }
 {
-    gather_samples(sink, waiting, kind, values)?;
+    gather_samples(sink, waiting, &Counted, Form::Digits(kind), values)?;
     gather_end(sink, waiting)?;
     Ok(2 * u64::from(kind.width()) * values.len() as u64 + 1)
 }

@@ -2,25 +2,26 @@
 
 ghost use Rattle.std.specs.Prelude.{◌≡◌, ◌+◌, ◌*◌, ◌<◌, ◌≤◌, ◌∷◌, ◌++◌, [], IsTrue, All, length, flat_map};
 ghost use Rattle.std.specs.Fmt.{signed_decimal};
-ghost use Rattle.iso_base.specs.Samples.{IsOfKind};
-ghost use Rattle.nrrd_text.specs.Writing.{next_number, samples_digits};
+ghost use Rattle.nrrd_text.specs.Forms.{IsOfForm, printed};
 
+use crate::byte_numbers::ByteNumbers;
+use crate::forms::Form;
 use crate::hex_digits::Pairs;
 use crate::numbers::{put_number, put_others};
-use iso_base::SampleKind;
 use mesh_text::Digits;
 use std::marker::Model;
 
 /// So many bytes wait at most: a write of the system costs as much as thousands of bytes.
 const BLOCK: usize = 32_768;
 
-/// Lines of samples, one behind another, each written where it stays until all are taken, and a table of hex digits.
+/// Lines of samples, one behind another, each written where it stays until all are taken, and tables of what is printed.
 /// Contracts see the bytes of the lines, which are at most 32,768.
 #[derive(Drop)]
 pub struct SampleLines {
     bytes: [u8; BLOCK],
     end: usize,
     pairs: Pairs,
+    numbers: ByteNumbers,
 }
 
 impl Model for SampleLines {
@@ -42,6 +43,7 @@ impl SampleLines {
             bytes: [0; BLOCK],
             end: 0,
             pairs: Pairs::new(),
+            numbers: ByteNumbers::new(),
         }
     }
 
@@ -99,25 +101,19 @@ impl SampleLines {
         self.end = put_number(digits, value, &mut self.bytes, self.end);
     }
 
-    /// Puts numbers behind the others, each behind a space.
+    /// Puts samples in print behind the others.
     #[inline(always)]
-    pub(crate) fn push_others<D: Digits>(&mut self, digits: &D, values: &[i64])
-        requires { length self.old + 24 * length values.now ≤ 32768 }
-        ensures numbers { self.new ≡ self.old ++ flat_map next_number values.now }
+    pub(crate) fn push<D: Digits>(&mut self, digits: &D, form: Form, values: &[i64])
+        requires form { All (IsOfForm form) values.now }
+        requires room { length self.old + 24 * length values.now ≤ 32768 }
+        ensures samples { self.new ≡ self.old ++ flat_map (printed form) values.now }
         ensures few { length self.new ≤ length self.old + 24 * length values.now }
     {
-        self.end = put_others(digits, values, &mut self.bytes, self.end);
-    }
-
-    /// Puts the digits of samples behind the others.
-    #[inline(always)]
-    pub(crate) fn push_samples(&mut self, kind: SampleKind, values: &[i64])
-        requires kind { All (IsOfKind kind) values.now }
-        requires room { length self.old + 24 * length values.now ≤ 32768 }
-        ensures { self.new ≡ self.old ++ samples_digits kind values.now }
-    {
-        self.end = self
-            .pairs
-            .put_samples(kind, values, &mut self.bytes, self.end);
+        let (room, at) = (&mut self.bytes, self.end);
+        self.end = match form {
+            Form::Numbers => put_others(digits, values, room, at),
+            Form::Bytes => self.numbers.put_bytes(values, room, at),
+            Form::Digits(kind) => self.pairs.put_samples(kind, values, room, at),
+        };
     }
 }

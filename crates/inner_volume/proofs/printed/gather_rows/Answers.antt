@@ -11,40 +11,41 @@ use Rattle.inner_volume.proofs.printed.gather_rows.Goals as goal
 pub returns-in_err-bytes-clause-lines : goal.returns-in_err-bytes-clause-lines
 returns-in_err-bytes-clause-lines g c =
     let v = c.args.store.now in
-    let row = c.copy_row.new.samples in
+    let row = c.held_row-row.result.now in
     let low = rw (c.ny.ensures.value, c.nz.ensures.value) at c.loop-number-test.true in
     let is : coded_line c.args.hex c.kind-kind.result row ≡ coded_line c.args.hex v.kind (get_or (rows_of (inner_voxels v)) c.loop-number.number [])
     = ap (λ k. coded_line c.args.hex k row) c.kind-kind.ensures
-    ∙ ap (coded_line c.args.hex v.kind) (row_printed v c.args.sizes.now c.loop-number.number row c.requires.sizes low c.copy_row.ensures.value) in
+    ∙ ap (coded_line c.args.hex v.kind) (row_printed v c.args.sizes.now c.loop-number.number row c.requires.sizes low c.held_row-row.ensures.value) in
     let p = err_from_is_err_and c.from_residual.result c.from_residual.ensures.1 in
     rw p.1 (staged_front _ _ _ _ _ _ _ _ _ _ _ _
-    (next_first (coded_line c.args.hex v.kind) 25000 _ _ _ _ (coded_line c.args.hex c.kind-kind.result row) (rows_of (inner_voxels v)) c.loop-number.number c.loop-number.bytes [] c.loop-number.invariant
+    (next_first (coded_line c.args.hex v.kind) 25000 _ _ _ _ (coded_line c.args.hex c.kind-kind.result row) (rows_of (inner_voxels v)) c.loop-number.number c.loop-number.bytes [] c.loop-number.invariant.pieces
     (row_among v c.args.sizes.now c.loop-number.number c.requires.sizes low) is)
     c.in_err-bytes.ensures.line)
 
 pub loop-number-preserved : goal.loop-number-preserved
 loop-number-preserved g c =
     let v = c.args.store.now in
-    let row = c.copy_row.new.samples in
+    let row = c.held_row-row.result.now in
     let low = rw (c.ny.ensures.value, c.nz.ensures.value) at c.loop-number-test.true in
     let is : coded_line c.args.hex c.kind-kind.result row ≡ coded_line c.args.hex v.kind (get_or (rows_of (inner_voxels v)) c.loop-number.number [])
     = ap (λ k. coded_line c.args.hex k row) c.kind-kind.ensures
-    ∙ ap (coded_line c.args.hex v.kind) (row_printed v c.args.sizes.now c.loop-number.number row c.requires.sizes low c.copy_row.ensures.value) in
-    subst (λ n. HasPieces (coded_line c.args.hex v.kind) 25000 (g.K.Sink.seen c.args.sink.now) (g.K.Sink.seen c.gather_row.new.sink) c.args.waiting.now c.gather_row.new.waiting
+    ∙ ap (coded_line c.args.hex v.kind) (row_printed v c.args.sizes.now c.loop-number.number row c.requires.sizes low c.held_row-row.ensures.value) in
+    let pieces = subst (λ n. HasPieces (coded_line c.args.hex v.kind) 25000 (g.K.Sink.seen c.args.sink.now) (g.K.Sink.seen c.gather_row.new.sink) c.args.waiting.now c.gather_row.new.waiting
     (rows_of (inner_voxels v)) (c.loop-number.number + 1) (c.loop-number.bytes + n)) (sym c.in_ok-bytes.ensures.bytes)
-    (pieces_more (coded_line c.args.hex v.kind) 25000 _ _ _ _ _ _ (coded_line c.args.hex c.kind-kind.result row) (rows_of (inner_voxels v)) c.loop-number.number c.loop-number.bytes [] _ c.loop-number.invariant
-    (row_among v c.args.sizes.now c.loop-number.number c.requires.sizes low) is (omega (arith, c.in_ok-bytes.ensures.bytes, c.in_ok-bytes.ensures.bound)) c.in_ok-bytes.ensures.line)
+    (pieces_more (coded_line c.args.hex v.kind) 25000 _ _ _ _ _ _ (coded_line c.args.hex c.kind-kind.result row) (rows_of (inner_voxels v)) c.loop-number.number c.loop-number.bytes [] _ c.loop-number.invariant.pieces
+    (row_among v c.args.sizes.now c.loop-number.number c.requires.sizes low) is (omega (arith, c.in_ok-bytes.ensures.bytes, c.in_ok-bytes.ensures.bound)) c.in_ok-bytes.ensures.line) in
+    record { pieces = pieces; held = c.hold_row-held.ensures.held; first = omega (arith, c.hold_row-held.ensures.first); next = omega (arith, c.hold_row-held.ensures.holds) }
 
 pub returns-clause-lines : goal.returns-clause-lines
 returns-clause-lines g c =
     let v = c.args.store.now in
     let past = rw (c.ny.ensures.value, c.nz.ensures.value) at c.loop-number-test.false in
     let gone = ap (flat_map (coded_line c.args.hex v.kind)) (no_rows v c.args.sizes.now c.loop-number.number c.requires.sizes past) in
-    staged_whole _ _ _ _ _ _ (subst (HasStaged _ _ _ _) gone c.loop-number.invariant.staged)
+    staged_whole _ _ _ _ _ _ (subst (HasStaged _ _ _ _) gone c.loop-number.invariant.pieces.staged)
 
 pub returns-clause-bytes : goal.returns-clause-bytes
 returns-clause-bytes g c =
     let v = c.args.store.now in
     let past = rw (c.ny.ensures.value, c.nz.ensures.value) at c.loop-number-test.false in
     let gone = ap (λ l. length (flat_map (coded_line c.args.hex v.kind) l)) (no_rows v c.args.sizes.now c.loop-number.number c.requires.sizes past) in
-    omega (arith, gone, c.loop-number.invariant.count)
+    omega (arith, gone, c.loop-number.invariant.pieces.count)

@@ -1,21 +1,23 @@
 use Rattle.std.proofs.lemmas.Result.{err_from_is_err_and}
 use Rattle.std.proofs.Common.{subst}
 use Rattle.iso_io.proofs.Staging.{HasStaged, staged_front, staged_more}
-use Rattle.iso_base.specs.Samples.{IsOfKind}
-use Rattle.nrrd_text.specs.Writing.{sample_digits}
-use Rattle.nrrd_text.proofs.Lines.{each_later, pieces_joined}
+use Rattle.nrrd_text.specs.Forms.{IsOfForm, printed}
+use Rattle.nrrd_text.proofs.Lines.{each_first, each_later, pieces_joined}
 use Rattle.nrrd_text.proofs.gathered.gather_samples.Goals as goal
 
-pub returns-in_err-gather_digits : goal.returns-in_err-gather_digits
-returns-in_err-gather_digits g c =
-    let split = pieces_joined (sample_digits c.args.kind) c.loop-rest.rest.now c.next_piece.result.0.now c.next_piece.result.1.now c.next_piece.ensures.parts in
+pub gather_piece-requires-clause-form : goal.gather_piece-requires-clause-form
+gather_piece-requires-clause-form g c = each_first (IsOfForm c.args.form) _ _ _ c.next_piece.ensures.parts c.loop-rest.invariant.form
+
+pub returns-in_err-gather_piece : goal.returns-in_err-gather_piece
+returns-in_err-gather_piece g c =
+    let split = pieces_joined (printed c.args.form) c.loop-rest.rest.now c.next_piece.result.0.now c.next_piece.result.1.now c.next_piece.ensures.parts in
     let p = err_from_is_err_and c.from_residual.result c.from_residual.ensures.1 in
-    rw p.1 (staged_front _ _ _ _ _ _ _ _ _ _ _ _ (subst (HasStaged _ _ _ _) split c.loop-rest.invariant.staged) c.in_err-gather_digits.ensures)
+    rw p.1 (staged_front _ _ _ _ _ _ _ _ _ _ _ _ (subst (HasStaged _ _ _ _) split c.loop-rest.invariant.staged) c.in_err-gather_piece.ensures.staged)
 
 pub loop-rest-preserved : goal.loop-rest-preserved
 loop-rest-preserved g c =
-    let split = pieces_joined (sample_digits c.args.kind) c.loop-rest.rest.now c.next_piece.result.0.now c.next_piece.result.1.now c.next_piece.ensures.parts in
+    let split = pieces_joined (printed c.args.form) c.loop-rest.rest.now c.next_piece.result.0.now c.next_piece.result.1.now c.next_piece.ensures.parts in
     record {
-      staged = staged_more _ _ _ _ _ _ _ _ _ (subst (HasStaged _ _ _ _) split c.loop-rest.invariant.staged) c.in_ok-gather_digits.ensures;
-      kind = each_later (IsOfKind c.args.kind) _ _ _ c.next_piece.ensures.parts c.loop-rest.invariant.kind;
+      staged = staged_more _ _ _ _ _ _ _ _ _ (subst (HasStaged _ _ _ _) split c.loop-rest.invariant.staged) c.in_ok-gather_piece.ensures.staged;
+      form = each_later (IsOfForm c.args.form) _ _ _ c.next_piece.ensures.parts c.loop-rest.invariant.form;
     }

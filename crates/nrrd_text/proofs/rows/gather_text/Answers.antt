@@ -3,8 +3,15 @@ use Rattle.std.specs.Fmt.{signed_decimal}
 use Rattle.std.proofs.lemmas.Int.{to_z-of_z}
 use Rattle.std.proofs.lemmas.Result.{err_from_is_err_and}
 use Rattle.iso_io.proofs.Staging.{staged_front, staged_more, staged_whole}
-use Rattle.nrrd_text.proofs.Lines.{length-text_line, line_begins}
+use Rattle.iso_base.specs.Samples.{IsOfKind}
+use Rattle.nrrd_text.proofs.Lines.{each_later, length-text_line, line_begins}
 use Rattle.nrrd_text.proofs.rows.gather_text.Goals as goal
+
+pub gather_counted-requires-clause-form : goal.gather_counted-requires-clause-form
+gather_counted-requires-clause-form g c =
+    let v = c.in-Some.first.now in
+    let each = each_later (IsOfKind c.args.kind) c.args.values.now (v ∷ []) c.in-Some.others.now c.in-Some.ensures.cases.0 c.requires.each in
+    λ k d lt. c.numbers_of.ensures.fits _ (each k d lt)
 
 pub returns-in_err-first-clause-line : goal.returns-in_err-first-clause-line
 returns-in_err-first-clause-line g c =
@@ -20,7 +27,7 @@ returns-in_err-bytes-clause-line g c =
     let e : to_z w64 (of_z w64 v) ≡ v = search (rules, to_z-of_z) in
     let begun = line_begins (g.K.Sink.seen c.args.sink.now) c.args.waiting.now (signed_decimal v) c.args.values.now v c.in-Some.others.now c.in-Some.ensures.cases.0 refl in
     let p = err_from_is_err_and c.from_residual-in_err-bytes.result c.from_residual-in_err-bytes.ensures.1 in
-    rw p.1 (staged_front _ _ _ _ _ _ _ _ _ (10 ∷ []) _ _ (staged_more _ _ _ _ _ _ _ _ _ begun (rw e at c.in_ok-first.ensures.staged)) c.in_err-bytes.ensures.numbers)
+    rw p.1 (staged_front _ _ _ _ _ _ _ _ _ (10 ∷ []) _ _ (staged_more _ _ _ _ _ _ _ _ _ begun (rw e at c.in_ok-first.ensures.staged)) (rw (c.numbers_of.ensures.text c.in-Some.others.now) at c.in_err-bytes.ensures.samples))
 
 pub returns-in_err-gather_end-2-clause-line : goal.returns-in_err-gather_end-2-clause-line
 returns-in_err-gather_end-2-clause-line g c =
@@ -29,7 +36,7 @@ returns-in_err-gather_end-2-clause-line g c =
     let begun = line_begins (g.K.Sink.seen c.args.sink.now) c.args.waiting.now (signed_decimal v) c.args.values.now v c.in-Some.others.now c.in-Some.ensures.cases.0 refl in
     let p = err_from_is_err_and c.from_residual-in_err-gather_end-2.result c.from_residual-in_err-gather_end-2.ensures.1 in
     rw p.1 (staged_front _ _ _ _ _ _ _ _ _ [] _ _
-    (staged_more _ _ _ _ _ _ _ (10 ∷ []) _ (staged_more _ _ _ _ _ _ _ _ _ begun (rw e at c.in_ok-first.ensures.staged)) c.in_ok-bytes.ensures.numbers) c.in_err-gather_end-2.ensures)
+    (staged_more _ _ _ _ _ _ _ (10 ∷ []) _ (staged_more _ _ _ _ _ _ _ _ _ begun (rw e at c.in_ok-first.ensures.staged)) (rw (c.numbers_of.ensures.text c.in-Some.others.now) at c.in_ok-bytes.ensures.samples)) c.in_err-gather_end-2.ensures)
 
 pub returns-clause-line : goal.returns-clause-line
 returns-clause-line g c =
@@ -38,14 +45,14 @@ returns-clause-line g c =
     let begun = line_begins (g.K.Sink.seen c.args.sink.now) c.args.waiting.now (signed_decimal v) c.args.values.now v c.in-Some.others.now c.in-Some.ensures.cases.0 refl in
     staged_whole _ _ _ _ _ _
     (staged_more _ _ _ _ _ _ _ [] _
-    (staged_more _ _ _ _ _ _ _ (10 ∷ []) _ (staged_more _ _ _ _ _ _ _ _ _ begun (rw e at c.in_ok-first.ensures.staged)) c.in_ok-bytes.ensures.numbers) c.in_ok-gather_end-2.ensures)
+    (staged_more _ _ _ _ _ _ _ (10 ∷ []) _ (staged_more _ _ _ _ _ _ _ _ _ begun (rw e at c.in_ok-first.ensures.staged)) (rw (c.numbers_of.ensures.text c.in-Some.others.now) at c.in_ok-bytes.ensures.samples)) c.in_ok-gather_end-2.ensures)
 
 pub returns-clause-bytes : goal.returns-clause-bytes
 returns-clause-bytes g c =
     let v = c.in-Some.first.now in
     let e : to_z w64 (of_z w64 v) ≡ v = search (rules, to_z-of_z) in
     ap (λ n. n + c.in_ok-bytes.bytes + 1) (rw e at c.in_ok-first.ensures.bytes)
-    ∙ length-text_line (signed_decimal v) c.args.values.now v c.in-Some.others.now c.in_ok-bytes.bytes c.in-Some.ensures.cases.0 refl c.in_ok-bytes.ensures.bytes
+    ∙ length-text_line (signed_decimal v) c.args.values.now v c.in-Some.others.now c.in_ok-bytes.bytes c.in-Some.ensures.cases.0 refl (rw (c.numbers_of.ensures.text c.in-Some.others.now) at c.in_ok-bytes.ensures.bytes)
 
 pub returns-clause-bound : goal.returns-clause-bound
 returns-clause-bound g c = omega (arith, c.in_ok-first.ensures.few, c.in_ok-bytes.ensures.bound, ap length c.in-Some.ensures.cases.0)

@@ -1,0 +1,169 @@
+//! Rows of samples off the pad's layer, copied out of the bricks: all that a line of bricks has of a plane at once, since the
+//! copies of a brick lie together in memory and those of the next brick do not.
+
+ghost use Rattle.std.specs.Prelude.{◌≡◌, ℕ, ◌+◌, ◌-◌, ◌*◌, ◌%◌, ◌<◌, ◌≤◌, length};
+ghost use Rattle.iso_defs.specs.Bricks.{bricks_along};
+ghost use Rattle.iso_base.specs.Volume.{inner_grid};
+ghost use Rattle.inner_volume.specs.Rows.{ArePieces, AreRowsOf, AreSamples, HasColumns};
+ghost use Rattle.inner_volume.specs.Unpadded.{inner_samples};
+
+use crate::places::layer_of;
+use brick_store::{BrickId, BrickStore};
+use iso_base::Sizes;
+
+/// Rows off the pad's layer that the same bricks have: the number of the first row and how many they are, the first brick
+/// that they go through, and where they begin in it. The offsets across and up are the same in each brick behind.
+#[derive(Clone, Copy)]
+struct BrickRows {
+    row: u32,
+    count: u32,
+    first: u32,
+    x: u32,
+    y: u32,
+    z: u32,
+}
+
+/// The rows from one on that the same bricks have.
+fn brick_rows(store: &BrickStore, sizes: &Sizes, row: u32) -> BrickRows
+    requires sizes { sizes.now ≡ inner_grid store.now }
+    requires row { row < sizes.now.ny * sizes.now.nz }
+    ensures rows { AreRowsOf store.now result }
+    ensures first { result.row ≡ row }
+    ensures some { 0 < result.count }
+    ensures within { row + result.count ≤ sizes.now.ny * sizes.now.nz }
+{
+    let stored = store.sizes();
+    let layer = layer_of(store);
+    let (y, z) = (row % sizes.ny() + layer, row / sizes.ny() + layer);
+    let (across, up) = (y.saturating_sub(1) / 8, z.saturating_sub(1) / 8);
+    let (along_x, along_y) = ((stored.nx() + 6) / 8, (stored.ny() + 6) / 8);
+    BrickRows {
+        row,
+        count: (9 - (y - 8 * across)).min(sizes.ny() - row % sizes.ny()),
+        first: along_x * (across + along_y * up),
+        x: layer,
+        y: y - 8 * across,
+        z: z - 8 * up,
+    }
+}
+
+/// Copies so many samples of each of some rows of a brick, from a place of its copies on, into rows of samples from a column on.
+#[inline(always)]
+fn copy_pieces(
+    copies: &[i64],
+    from: usize,
+    count: usize,
+    rows: usize,
+    samples: &mut [i64],
+    at: usize,
+    width: usize,
+)
+    requires copies { length copies.now ≡ 729 }
+    requires rows { rows ≤ 9 }
+    requires inside { from + 9 * rows + count ≤ 738 }
+    requires fits { at + count ≤ width }
+    requires room { width * rows ≤ length samples.old }
+    ensures { ArePieces copies.now samples.old samples.new from count rows at width }
+{
+    for row in 0..rows {
+        let source = from + 9 * row;
+        let target = width * row + at;
+        samples[target..target + count].copy_from_slice(&copies[source..source + count]);
+    }
+}
+
+/// Copies so many samples that a brick has of each of some rows, from an offset along x on.
+#[inline(always)]
+fn copy_from_brick(
+    store: &BrickStore,
+    sizes: &Sizes,
+    rows: &BrickRows,
+    brick: u32,
+    offset: usize,
+    count: usize,
+    samples: &mut [i64],
+    at: usize,
+)
+    requires sizes { sizes.now ≡ inner_grid store.now }
+    requires rows { AreRowsOf store.now rows.now }
+    requires brick { brick < bricks_along store.now.grid 0 }
+    requires place { 8 * brick + offset ≡ at + rows.now.x }
+    requires inside { offset + count ≤ 9 }
+    requires fits { at + count ≤ sizes.now.nx }
+    requires room { sizes.now.nx * rows.now.count ≤ length samples.old }
+    requires before { HasColumns store.now rows.now at samples.old }
+    ensures { HasColumns store.now rows.now (at + count) samples.new }
+{
+    let _ = store.sizes();
+    let copies = store.brick(BrickId(rows.first + brick));
+    let from = offset + (9 * (rows.y + 9 * rows.z)) as usize;
+    copy_pieces(
+        copies,
+        from,
+        count,
+        rows.count as usize,
+        samples,
+        at,
+        sizes.nx() as usize,
+    );
+}
+
+/// Copies eight samples of each of some rows from each brick, as far as eight are left, and says how many of a row these are.
+fn copy_eights(store: &BrickStore, sizes: &Sizes, rows: &BrickRows, samples: &mut [i64]) -> usize
+    requires sizes { sizes.now ≡ inner_grid store.now }
+    requires rows { AreRowsOf store.now rows.now }
+    requires room { sizes.now.nx * rows.now.count ≤ length samples.old }
+    ensures columns { HasColumns store.now rows.now result samples.new }
+    ensures eights { result % 8 ≡ 0 }
+    ensures within { result ≤ sizes.now.nx }
+    ensures few { sizes.now.nx < result + 8 }
+{
+    let _ = store.sizes();
+    let width = sizes.nx() as usize;
+    let mut x = 0;
+    while x + 8 <= width {
+        let brick = (x / 8) as u32;
+        copy_from_brick(store, sizes, rows, brick, rows.x as usize, 8, samples, x);
+        x += 8;
+    }
+    x
+}
+
+/// Copies what is left of each of some rows behind the eights: one brick has it, the last or the one before.
+fn copy_rest(store: &BrickStore, sizes: &Sizes, rows: &BrickRows, x: usize, samples: &mut [i64])
+    requires sizes { sizes.now ≡ inner_grid store.now }
+    requires rows { AreRowsOf store.now rows.now }
+    requires eights { x % 8 ≡ 0 }
+    requires within { x ≤ sizes.now.nx }
+    requires few { sizes.now.nx < x + 8 }
+    requires room { sizes.now.nx * rows.now.count ≤ length samples.old }
+    requires before { HasColumns store.now rows.now x samples.old }
+    ensures { HasColumns store.now rows.now sizes.now.nx samples.new }
+{
+    let stored = store.sizes();
+    let count = sizes.nx() as usize - x;
+    if count == 0 {
+        return;
+    }
+    let brick = (x as u32 / 8).min((stored.nx() + 6) / 8 - 1);
+    let offset = (x as u32 + rows.x - 8 * brick) as usize;
+    copy_from_brick(store, sizes, rows, brick, offset, count, samples, x);
+}
+
+/// Copies the samples of rows off the pad's layer, from a row on, one row behind another, as many as the same bricks have of
+/// them, and says before which row they end.
+pub(crate) fn copy_rows(store: &BrickStore, sizes: &Sizes, row: u32, samples: &mut [i64]) -> u32
+    requires sizes { sizes.now ≡ inner_grid store.now }
+    requires row { row < sizes.now.ny * sizes.now.nz }
+    requires room { sizes.now.nx * 9 ≤ length samples.old }
+    ensures some { row < result }
+    ensures within { result ≤ sizes.now.ny * sizes.now.nz }
+    ensures few { result ≤ row + 9 }
+    ensures value { AreSamples (inner_samples store.now) (row * sizes.now.nx) ((result - row) * sizes.now.nx) samples.new }
+{
+    let _ = (store.sizes(), sizes.nx());
+    let rows = brick_rows(store, sizes, row);
+    let x = copy_eights(store, sizes, &rows, samples);
+    copy_rest(store, sizes, &rows, x, samples);
+    rows.row + rows.count
+}
