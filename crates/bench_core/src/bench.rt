@@ -188,7 +188,7 @@ impl Bench {
         if n > MOST_FILLED {
             return Err(BenchFault::FillTooLarge { n });
         }
-        let Ok(change) = area_change(self.alloc, &self.store, area, &value) else {
+        let Ok(change) = area_change(self.alloc, &self.store, &self.tree, area, &value) else {
             return Err(BenchFault::Memory);
         };
         self.make(change);

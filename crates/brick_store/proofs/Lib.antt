@@ -12,3 +12,4 @@ pub mod BoxPoints
 pub mod Replacing
 pub mod BoxWriting
 pub mod BoxVolumes
+pub mod Taking

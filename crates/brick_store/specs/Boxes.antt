@@ -68,6 +68,10 @@ AreOfKind kind (Each values) = All (IsOfKind kind) values.now
 abbrev pub boxed : Grid → Area → Values → List ℤ → List ℤ
 boxed g a values samples = replaced (is_in_area g a) (value_in g a values) samples
 
+-- all samples of a box are one value
+abbrev pub AreOne : Grid → Area → ℤ → List ℤ → Type 0
+AreOne g a value samples = (p : ℕ) → p < point_count g → is_in_area g a p ≡ true → sample samples p ≡ value
+
 -- the point at these offsets lies in the box
 pub record IsOfBox (g : Grid) (a : Area) (b x y z : ℕ) : Type 0 where
   pub x_from : a.low.x ≤ brick_start g b 0 + x

@@ -96,7 +96,8 @@ fn nine(value: &i64) -> [i64; 9]
 
 /// Copies so many values from a place on over the copies from a place on. Nine of them, as many as a whole row has, are
 /// copied without a call.
-fn put(copies: &mut [i64], start: usize, values: &[i64], from: usize, count: usize)
+#[inline(always)]
+pub(crate) fn put(copies: &mut [i64], start: usize, values: &[i64], from: usize, count: usize)
     requires room { start + count ≤ length copies.old }
     requires there { from + count ≤ length values.now }
     ensures { copies.new ≡ row_set start (take count (drop from values.now)) copies.old }

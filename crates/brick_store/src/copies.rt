@@ -24,6 +24,7 @@ pub fn copy_place(brick: BrickId, x: u32, y: u32, z: u32) -> usize
 }
 
 /// The place of the copy of a point in the first brick that holds it.
+#[inline(always)]
 pub fn home_place(sizes: &Sizes, p: Point) -> usize
     requires { IsPoint sizes.now p }
     ensures value { result ≡ home_place sizes.now p }
@@ -98,6 +99,7 @@ pub fn row<'a>(sizes: &Sizes, copies: &'a [i64], brick: BrickId, y: u8, z: u8) -
 
 /// The copies from a point on along x, as far as the first brick that holds it has them.
 #[tactic(auto, using(crate::proofs::Standing::few_bricks))]
+#[inline(always)]
 pub fn row_from<'a>(sizes: &Sizes, copies: &'a [i64], p: Point) -> &'a [i64]
     requires copies { AreCopies sizes.now copies.now }
     requires point { IsPoint sizes.now p }

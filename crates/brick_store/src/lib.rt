@@ -8,7 +8,8 @@ mod flat;
 mod numbering;
 mod rows;
 mod store;
+mod taken;
 
 pub use boxes::Values;
-pub use numbering::BrickId;
+pub use numbering::{BrickId, brick_at, home};
 pub use store::BrickStore;

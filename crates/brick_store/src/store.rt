@@ -15,7 +15,7 @@ ghost use Rattle.brick_store.specs.Boxes.{AreAsMany, AreOfKind, IsInnerArea, box
 
 use crate::boxes::Values;
 use crate::numbering::{self, BrickId};
-use crate::{boxes, copies, filling, flat, rows};
+use crate::{boxes, copies, filling, flat, rows, taken};
 use arrayvec::ArrayVec;
 use iso_base::{CellName, Memory, Point, SampleKind, Sizes};
 use std::alloc::Global;
@@ -196,11 +196,21 @@ impl BrickStore {
 
     /// The samples from a point of the stored grid on, along x, as far as the first brick that holds it has them: its own
     /// copies, where they lie in memory.
+    #[inline(always)]
     pub fn row_from(&self, p: Point) -> &[i64]
         requires { IsPoint self.now.grid p }
         ensures { result.now ≡ map (λ x. sample self.now.samples (index_of self.now.grid p + x)) (below (row_rest self.now.grid p)) }
     {
         copies::row_from(&self.sizes, &self.copies, p)
+    }
+
+    /// Copies the samples from a point of the stored grid on, along x, so many as there is room for.
+    pub fn copy_row(&self, p: Point, into: &mut [i64])
+        requires point { IsPoint self.now.grid p }
+        requires fits { p.x + length into.old ≤ self.now.grid.nx }
+        ensures { into.new ≡ map (λ d. sample self.now.samples (index_of self.now.grid p + d)) (below (length into.old)) }
+    {
+        taken::copy_row(&self.sizes, &self.copies, p, into);
     }
 
     /// The volume as one list of samples. The store stays.

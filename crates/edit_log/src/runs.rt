@@ -1,15 +1,18 @@
 //! Values of a box, kept as runs of equal ones or each by itself.
 
-ghost use Rattle.std.specs.Prelude.{◌≡◌, ◌+◌, ◌^◌, ◌<◌, ◌≤◌, [], ◌∷◌, ◌++◌, All, IfOk, IfSome, OnOk, drop, length, take};
+ghost use Rattle.std.specs.Prelude.{◌≡◌, ℕ, ◌+◌, ◌^◌, ◌<◌, ◌≤◌, [], ◌∷◌, ◌++◌, All, IfOk, IfSome, OnOk, drop, length, take};
+ghost use Rattle.std.specs.Bool.{OnTrue};
 ghost use Rattle.iso_base.specs.Points.{IsPoint};
 ghost use Rattle.iso_base.specs.Samples.{IsOfKind};
+ghost use Rattle.iso_base.specs.Volume.{sample};
 ghost use Rattle.voxel_list.specs.Areas.{area_count};
-ghost use Rattle.edit_log.specs.Boxes.{IsInnerArea, area_samples, restored, row_samples};
+ghost use Rattle.brick_store.specs.Boxes.{AreOne};
+ghost use Rattle.edit_log.specs.Boxes.{IsInnerArea, area_samples, restored};
 ghost use Rattle.edit_log.specs.Runs.{gathered, values_left, values_of};
 
 use crate::boxes::{PIECE, area_count, area_point, fill_area, piece_of_row};
 use brick_store::{BrickStore, Values};
-use iso_base::{Memory, Point};
+use iso_base::Memory;
 use std::alloc::{AllocError, Global};
 use std::marker::Model;
 use voxel_list::FillBox;
@@ -62,63 +65,50 @@ fn extend(runs: &mut Vec<Run>, run: &mut Run, value: &i64) -> Result<(), AllocEr
     Ok(())
 }
 
-/// Puts values behind the others.
+/// Whether eight values from a place on are all one value. Their number is known, so that they are compared without a loop.
+#[inline(always)]
+fn are_eight(values: &[i64], start: usize, value: &i64) -> bool
+    requires { start + 8 ≤ length values.now }
+    ensures { OnTrue result ((k : ℕ) → start ≤ k → k < start + 8 → sample values.now k ≡ value.now) }
+{
+    for k in start..start + 8 {
+        if values[k] != *value {
+            return false;
+        }
+    }
+    true
+}
+
+/// Whether values are all one value: eights of them, and those that are left.
+fn are_all(values: &[i64], value: &i64) -> bool
+    ensures { OnTrue result ((k : ℕ) → k < length values.now → sample values.now k ≡ value.now) }
+{
+    let eights = values.len() / 8;
+    for k in 0..eights {
+        if !are_eight(values, 8 * k, value) {
+            return false;
+        }
+    }
+    for at in 8 * eights..values.len() {
+        if values[at] != *value {
+            return false;
+        }
+    }
+    true
+}
+
+/// Puts values behind the others. Where all of them go on with the run, they are counted at once.
 fn extend_all(runs: &mut Vec<Run>, run: &mut Run, values: &[i64]) -> Result<(), AllocError>
     requires { run.old.count + length values.now < 2 ^ 32 }
     ensures values { OnOk result (gathered runs.new.items run.new ≡ gathered runs.old.items run.old ++ values.now) }
     ensures count { OnOk result (run.new.count ≤ run.old.count + length values.now) }
 {
+    if are_all(values, &run.value) {
+        run.count += values.len() as u32;
+        return Ok(());
+    }
     for value in values {
         extend(runs, run, value)?;
-    }
-    Ok(())
-}
-
-/// Puts the samples of a row, so many from a point on along x, behind the others. What one brick has is taken at once.
-fn extend_row(
-    store: &BrickStore,
-    from: Point,
-    count: u32,
-    runs: &mut Vec<Run>,
-    run: &mut Run,
-) -> Result<(), AllocError>
-    requires point { IsPoint store.now.grid from }
-    requires fits { from.x + count ≤ store.now.grid.nx }
-    requires few { run.old.count + count < 2 ^ 32 }
-    ensures values { OnOk result (gathered runs.new.items run.new ≡ gathered runs.old.items run.old ++ row_samples store.now from count) }
-    ensures count { OnOk result (run.new.count ≤ run.old.count + count) }
-{
-    let _ = store.sizes();
-    let mut done = 0;
-    while done < count {
-        let x = from.x + done;
-        let samples = store.row_from(Point { x, ..from });
-        let piece = (samples.len() as u32).min(count - done);
-        extend_all(runs, run, &samples[..piece as usize])?;
-        done += piece;
-    }
-    Ok(())
-}
-
-/// Puts the samples of a row, so many from a point on along x, behind the others, each by itself.
-fn add_row(
-    store: &BrickStore,
-    from: Point,
-    count: u32,
-    values: &mut Vec<i64>,
-) -> Result<(), AllocError>
-    requires point { IsPoint store.now.grid from }
-    requires fits { from.x + count ≤ store.now.grid.nx }
-    ensures { OnOk result (values.new.items ≡ values.old.items ++ row_samples store.now from count) }
-{
-    let _ = store.sizes();
-    let mut done = 0;
-    while done < count {
-        let x = from.x + done;
-        let samples = store.row_from(Point { x, ..from });
-        let piece = (samples.len() as u32).min(count - done);
-        values.extend_from_slice(&samples[..piece as usize])?;
-        done += piece;
     }
     Ok(())
 }
@@ -140,6 +130,7 @@ fn equal_samples(
 {
     let sizes = store.sizes();
     let count = area_count(&sizes, area);
+    let mut row = [0; PIECE as usize];
     let mut runs = Vec::new(alloc);
     let mut run = Run {
         value: store.get(area.low()),
@@ -151,8 +142,9 @@ fn equal_samples(
             return Ok(None);
         }
         let piece = piece_of_row(area, k, count);
-        let from = area_point(&sizes, area, k);
-        extend_row(store, from, piece, &mut runs, &mut run)?;
+        let values = &mut row[..piece as usize];
+        store.copy_row(area_point(&sizes, area, k), values);
+        extend_all(&mut runs, &mut run, values)?;
         k += piece;
     }
     runs.push(run)?;
@@ -166,12 +158,14 @@ fn each_sample(alloc: Global, store: &BrickStore, area: &FillBox) -> Result<Vec<
 {
     let sizes = store.sizes();
     let count = area_count(&sizes, area);
+    let mut row = [0; PIECE as usize];
     let mut values = Vec::with_capacity(alloc, count as usize)?;
     let mut k = 0;
     while k < count {
         let piece = piece_of_row(area, k, count);
-        let from = area_point(&sizes, area, k);
-        add_row(store, from, piece, &mut values)?;
+        let taken = &mut row[..piece as usize];
+        store.copy_row(area_point(&sizes, area, k), taken);
+        values.extend_from_slice(taken)?;
         k += piece;
     }
     Ok(values)
@@ -262,6 +256,27 @@ impl Runs {
             return Ok(Runs { kept });
         }
         let kept = Kept::Each(each_sample(alloc, store, area)?);
+        Ok(Runs { kept })
+    }
+
+    /// The samples of a box that are all one value. No sample is looked at.
+    pub fn of_one(
+        alloc: Global,
+        store: &BrickStore,
+        area: &FillBox,
+        value: &i64,
+    ) -> Result<Runs, Memory>
+        requires high { IsPoint store.now.grid area.now.high }
+        requires same { AreOne store.now.grid area.now value.now store.now.samples }
+        ensures { IfOk result (λ r. r ≡ area_samples store.now.grid area.now store.now.samples) }
+    {
+        let count = area_count(&store.sizes(), area);
+        let mut runs = Vec::with_capacity(alloc, 1)?;
+        runs.push(Run {
+            value: *value,
+            count,
+        })?;
+        let kept = Kept::Equal(runs);
         Ok(Runs { kept })
     }
 

@@ -3,6 +3,7 @@
 
 mod bricks;
 mod nodes;
+mod one_value;
 mod span;
 mod tree;
 

@@ -1,18 +1,22 @@
-ghost use Rattle.std.specs.Prelude.{◌≡◌, ℕ, ◌+◌, ◌*◌, ◌^◌, ◌<◌, ◌≤◌, IfOk, length, slice_set};
+ghost use Rattle.std.specs.Prelude.{◌≡◌, ℕ, ◌+◌, ◌*◌, ◌^◌, ◌<◌, ◌≤◌, IfOk, IfSome, length, slice_set};
 ghost use Rattle.iso_defs.specs.Bricks.{brick_count, is_active};
+ghost use Rattle.iso_base.specs.Points.{IsPoint};
 ghost use Rattle.iso_base.specs.Shifted.{field};
 ghost use Rattle.iso_base.specs.Volume.{IsVolume, Volume};
 ghost use Rattle.span_tree.specs.Spans.{IsRightFor, no_span, span_at, span_of, straddles};
+ghost use Rattle.brick_store.specs.Boxes.{AreOne};
 ghost use Rattle.brick_store.specs.Next.{IsNext};
 ghost use Rattle.span_tree.specs.Nodes.{IsTree, first_spans, node_at};
 
 use crate::bricks;
 use crate::nodes::{join_all, next_place, places_below, put};
+use crate::one_value::{first_least, is_one};
 use crate::span::Span;
 use brick_store::{BrickId, BrickStore};
 use iso_base::{Level, Memory, Sizes};
 use std::alloc::{AllocError, Global};
 use std::marker::Model;
+use voxel_list::FillBox;
 
 /// The least and the greatest sample of each brick of a store, by number. Contracts see a tree as the list of them:
 /// it is right for a store where these are the store's.
@@ -92,6 +96,21 @@ impl SpanTree {
         let half = places_below(self.height);
         let leaf = next_place(&self.nodes, self.height, half + from as usize, level)?;
         Some(BrickId((leaf - half) as u32))
+    }
+
+    /// The value of all samples of a box where it is that of each brick that has one of them, by their spans, without a look at
+    /// any sample. None says nothing of them.
+    pub fn one_value(&self, area: &FillBox) -> Option<i64>
+        requires { IsPoint self.now.grid area.now.high }
+        ensures { (v : Volume) → IsVolume v → IsRightFor self.now v → IfSome result (λ value. AreOne v.grid area.now value v.samples) }
+    {
+        let _ = area.low();
+        let half = places_below(self.height);
+        let value = first_least(&self.sizes, &self.nodes, half, area);
+        if !is_one(&self.sizes, &self.nodes, half, area, value) {
+            return None;
+        }
+        Some(value)
     }
 
     /// Takes the least and the greatest sample of one brick from the store again. Those of the others stay.
