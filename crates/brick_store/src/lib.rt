@@ -7,8 +7,10 @@ mod filling;
 mod flat;
 mod numbering;
 mod rows;
+mod sample_runs;
 mod store;
 
 pub use boxes::Values;
 pub use numbering::BrickId;
+pub use sample_runs::SampleRuns;
 pub use store::BrickStore;
