@@ -82,13 +82,31 @@ impl Bench {
         ensures above { IfOk result (λ _. begin_fault volume.pad level ≡ None) }
         ensures fault { IfErr result (λ fault. (fault ≡ BeginFault.Memory) ⊎ (begin_fault volume.pad level ≡ Some fault)) }
     {
-        let _ = volume.sizes();
+        // A level is refused before memory is asked for.
         if let Some(fault) = refused(volume.pad(), level) {
             return Err(fault);
         }
         let Ok(store) = BrickStore::of(alloc, volume) else {
             return Err(BeginFault::Memory);
         };
+        Bench::begin_over(alloc, store, level, capacity)
+    }
+
+    /// The same for a volume that is in bricks already.
+    pub fn begin_over(
+        alloc: Global,
+        store: BrickStore,
+        level: Level,
+        capacity: Capacity,
+    ) -> Result<Bench, BeginFault>
+        ensures opened { IfOk result (λ b. b ≡ first_bench store level capacity) }
+        ensures sound { IfOk result (λ b. IsState b.state) }
+        ensures above { IfOk result (λ _. begin_fault store.pad level ≡ None) }
+        ensures fault { IfErr result (λ fault. (fault ≡ BeginFault.Memory) ⊎ (begin_fault store.pad level ≡ Some fault)) }
+    {
+        if let Some(fault) = refused(store.pad(), level) {
+            return Err(fault);
+        }
         let Ok(tree) = SpanTree::of(alloc, &store) else {
             return Err(BeginFault::Memory);
         };

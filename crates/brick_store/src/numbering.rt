@@ -4,7 +4,7 @@ ghost use Rattle.std.specs.List.{range_with_len};
 ghost use Rattle.arrayvec.specs.ArrayVec.{array_vec_len};
 ghost use Rattle.iso_defs.specs.Lists.{below};
 ghost use Rattle.iso_defs.specs.Grid.{is_cell, point_count};
-ghost use Rattle.iso_defs.specs.Bricks.{bricks_along, brick_count, brick_start, in_brick};
+ghost use Rattle.iso_defs.specs.Bricks.{bricks_along, brick_count, brick_start};
 ghost use Rattle.iso_base.specs.Points.{IsPoint};
 ghost use Rattle.iso_base.specs.Sizing.{IsGrid};
 ghost use Rattle.brick_store.specs.Copies.{home};
@@ -100,15 +100,6 @@ pub fn points_along(sizes: &Sizes, brick: BrickId) -> [u8; 3]
         (sizes.ny() - first.y).min(9) as u8,
         (sizes.nz() - first.z).min(9) as u8,
     ]
-}
-
-/// Whether a brick has nine points along each axis.
-pub fn is_whole(sizes: &Sizes, brick: BrickId) -> bool
-    requires { brick.0 < brick_count sizes.now }
-    ensures { result ≡ in_brick sizes.now brick.0 8 8 8 }
-{
-    let first = first_point(sizes, brick);
-    first.x + 8 < sizes.nx() && (first.y + 8 < sizes.ny() && first.z + 8 < sizes.nz())
 }
 
 /// The first brick along an axis that reaches a coordinate.

@@ -15,6 +15,7 @@ ghost use Rattle.brick_store.specs.Boxes.{AreAsMany, AreOfKind, IsInnerArea, box
 
 use crate::boxes::Values;
 use crate::numbering::{self, BrickId};
+use crate::sample_runs::SampleRuns;
 use crate::{boxes, copies, filling, flat, rows, taken};
 use arrayvec::ArrayVec;
 use iso_base::{CellName, Memory, Point, SampleKind, Sizes};
@@ -48,12 +49,27 @@ impl BrickStore {
     pub fn of(alloc: Global, volume: VoxelList) -> Result<BrickStore, Memory>
         ensures { IfOk result (λ b. b ≡ volume) }
     {
-        let sizes = volume.sizes();
-        let copies = filling::all_copies(alloc, &sizes, volume.samples())?;
+        let (sizes, kind, pad) = (volume.sizes(), volume.kind(), volume.pad());
+        BrickStore::of_samples(alloc, sizes, kind, pad, &volume)
+    }
+
+    /// The bricks of the volume of these sizes, kind, pad and samples. Each row of a brick is copied from the list, so that
+    /// it may lie in a file.
+    pub fn of_samples<S: SampleRuns>(
+        alloc: Global,
+        sizes: Sizes,
+        kind: SampleKind,
+        pad: Option<i64>,
+        samples: &S,
+    ) -> Result<BrickStore, Memory>
+        requires { IsVolume (record { grid = sizes; kind = kind; pad = pad; samples = S.list samples.now }) }
+        ensures { IfOk result (λ b. b ≡ record { grid = sizes; kind = kind; pad = pad; samples = S.list samples.now }) }
+    {
+        let copies = filling::all_copies(alloc, &sizes, samples)?;
         Ok(BrickStore {
             sizes,
-            kind: volume.kind(),
-            pad: volume.pad(),
+            kind,
+            pad,
             copies,
         })
     }

@@ -9,12 +9,13 @@ use Rattle.voxel_list.specs.Padding.{grown}
 use Rattle.voxel_list.specs.declared.pad.PadFault.{PadFault}
 use Rattle.voxel_list.specs.declared.pad.PadFault.TheVariants as pads
 use Rattle.iso_io.specs.Files.{Files}
+use Rattle.nrrd.specs.Files.{IsRead}
 use Rattle.nrrd.specs.Nrrd.{nrrd_of, Fails}
 use Rattle.nrrd.specs.declared.fault.NrrdFault.{NrrdFault}
 use Rattle.nrrd.specs.declared.fault.NrrdFault.TheVariants as faults
 use Rattle.commands.specs.declared.volumes.NoVolume.{NoVolume}
 use Rattle.commands.specs.declared.volumes.NoVolume.TheVariants as reasons
-use Rattle.commands.specs.Volumes.{IsNotRaised, IsNoVolume, IsRead, of_read, pad_refusal, raised, volume_refusal, volume_limit, volume_of, with_pad}
+use Rattle.commands.specs.Volumes.{IsNotRaised, IsNoVolume, of_read, pad_refusal, raised, volume_refusal, volume_limit, volume_of, with_pad}
 use Rattle.endings.specs.declared.answer.VolumeFault.{VolumeFault}
 use Rattle.endings.specs.declared.answer.VolumeFault.TheVariants.{Nrrd}
 

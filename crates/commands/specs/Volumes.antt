@@ -59,10 +59,6 @@ abbrev pub volume_answer : NoVolume → Answer
 volume_answer (reasons.Refused fault) = answers.BadVolume fault
 volume_answer reasons.Memory = answers.Memory
 
--- this is the volume of a file's bytes, without a pad
-abbrev pub IsRead : List ℕ → Volume → Type 0
-IsRead bytes v = (read : Voxels × ℕ) × (nrrd_of bytes ≡ Ok read) × (v ≡ unpadded read.0)
-
 -- why a volume gets no pad; want of memory says nothing
 abbrev pub IsNotRaised : ℤ → ℤ → Volume → NoVolume → Type 0
 IsNotRaised pad level v (reasons.Refused fault) = with_pad (Some pad) level v ≡ Err fault

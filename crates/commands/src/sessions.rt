@@ -5,7 +5,7 @@ ghost use Rattle.commands.specs.Outcome.{call_between};
 ghost use Rattle.commands.specs.Serving.{asked_for};
 ghost use Rattle.commands.specs.Sessions.{RunsSession, answer_of};
 
-use crate::volumes::volume_of_file;
+use crate::volumes::bricks_on_shelf;
 use bench_core::{BeginFault, Bench, Capacity};
 use endings::Answer;
 use iso_base::{Level, Memory, Steps};
@@ -44,11 +44,11 @@ pub fn run_script<S: Source, K: Sink, H: Shelf, L: Ledger>(
     ensures { RunsSession (asked_for level pad name.now capacity.bricks capacity.pages)
         (call_between S.seen K.seen H.seen input.old input.new output.old output.new shelf.old shelf.new left.new steps.old steps.new) result }
 {
-    let volume = match volume_of_file(alloc, shelf, name, pad, level) {
-        Ok(volume) => volume,
+    let store = match bricks_on_shelf(alloc, shelf, name, pad, level) {
+        Ok(store) => store,
         Err(answer) => return answer,
     };
-    let mut bench = match Bench::begin(alloc, volume, level, capacity) {
+    let mut bench = match Bench::begin_over(alloc, store, level, capacity) {
         Ok(bench) => bench,
         Err(BeginFault::Memory) => return Answer::Memory,
         // The level was found to be above the pad when the volume was opened.

@@ -2,11 +2,14 @@
 ghost use Rattle.std.specs.Prelude.{◌≡◌, ◌≤◌, length, ℤ, Option, None, Some, Ok, IfOk, IfErr, IfSome};
 ghost use Rattle.iso_base.specs.Samples.{IsSample};
 ghost use Rattle.iso_io.specs.Seen.{ReadsAll};
+ghost use Rattle.nrrd.specs.Files.{IsRead};
 ghost use Rattle.bench_core.specs.Machine.{begin_fault, IsAbovePad};
-ghost use Rattle.commands.specs.Volumes.{volume_limit, FileIs, HoldsNone, HoldsVolume, IsNotRaised, IsNoVolume, IsRead, LacksVolume, volume_of, with_pad};
+ghost use Rattle.commands.specs.Volumes.{volume_limit, FileIs, HoldsNone, HoldsVolume, IsNotRaised, IsNoVolume, LacksVolume, volume_of, with_pad};
 
+use brick_store::BrickStore;
 use endings::{Answer, VolumeFault};
-use iso_base::Level;
+use file_bricks::bricks_of_file;
+use iso_base::{Level, Memory};
 use iso_io::{Shelf, Source, read_all_of};
 use nrrd::{NrrdFault, read_volume};
 use std::alloc::Global;
@@ -49,6 +52,17 @@ impl From<PadFault> for NoVolume {
             PadFault::Size(fault) => NoVolume::Refused(VolumeFault::Pad(fault)),
             PadFault::Memory => NoVolume::Memory,
         }
+    }
+}
+
+impl From<Memory> for NoVolume {
+    ghost use Rattle.std.specs.Prelude.{◌≡◌};
+    ghost use Rattle.commands.specs.declared.volumes.NoVolume.TheVariants.{Memory};
+
+    ghost from_gives = { λ _ reason. reason ≡ Memory };
+
+    fn from(_: Memory) -> NoVolume {
+        NoVolume::Memory
     }
 }
 
@@ -138,22 +152,43 @@ pub fn volume_of_input<S: Source>(
     Ok(volume_in(alloc, bytes, pad, level)?)
 }
 
-/// The volume of a file of the shelf.
-pub fn volume_of_file<H: Shelf>(
+/// The same volume in bricks. Where it has no pad, raw samples are read into the bricks out of the file's bytes; a volume
+/// with a pad is made as a list first.
+pub fn bricks_in(
+    alloc: Global,
+    bytes: Vec<u8>,
+    pad: Option<i64>,
+    level: Level,
+) -> Result<BrickStore, NoVolume>
+    requires { IfSome pad IsSample }
+    ensures volume { IfOk result (λ v. volume_of pad level bytes.items ≡ Ok v) }
+    ensures above { IfOk result (λ v. begin_fault v.pad level ≡ None) }
+    ensures fault { IfErr result (IsNoVolume pad level bytes.items) }
+{
+    match pad {
+        None => Ok(bricks_of_file(alloc, &bytes)?),
+        Some(_) => {
+            let volume = volume_in(alloc, bytes, pad, level)?;
+            Ok(BrickStore::of(alloc, volume)?)
+        }
+    }
+}
+
+/// The volume of a file of the shelf, in bricks.
+pub fn bricks_on_shelf<H: Shelf>(
     alloc: Global,
     shelf: &mut H,
     name: &str,
     pad: Option<i64>,
     level: Level,
-) -> Result<VoxelList, Answer>
+) -> Result<BrickStore, Answer>
     requires { IfSome pad IsSample }
     ensures same { (H.seen shelf.new).files ≡ (H.seen shelf.old).files }
     ensures later { (H.seen shelf.old).faults ≤ (H.seen shelf.new).faults }
     ensures volume { IfOk result (λ v. FileIs (H.seen shelf.old) name.now (λ bytes. volume_of pad level bytes ≡ Ok v)) }
     ensures above { IfOk result (λ v. begin_fault v.pad level ≡ None) }
-    ensures raised { IfOk result (λ v. IsAbovePad v.pad level) }
     ensures fault { IfErr result (λ answer. LacksVolume pad level name.now (H.seen shelf.old) (H.seen shelf.new) answer) }
 {
     let bytes = shelf.read(alloc, name, LIMIT)?;
-    Ok(volume_in(alloc, bytes, pad, level)?)
+    Ok(bricks_in(alloc, bytes, pad, level)?)
 }

@@ -34,7 +34,7 @@ pub twos_32 : (n : ℕ) → n < 2 ^ 32 → cast_signed w32 n ≡ twos_complement
 twos_32 n lt = decide (ltb n (2 ^ 31)) (λ t. let h = ltb-true n (2 ^ 31) t in rw t (omega (arith, ints))) (λ f. let h = ltb-false n (2 ^ 31) f in rw f (omega (arith, ints)))
 
 -- two maps that agree
-same_map : (f g : ℕ → ℤ) (xs : List ℕ) → ((i : ℕ) → f i ≡ g i) → map f xs ≡ map g xs
+pub same_map : (f g : ℕ → ℤ) (xs : List ℕ) → ((i : ℕ) → f i ≡ g i) → map f xs ≡ map g xs
 same_map f g [] e = refl
 same_map f g (x ∷ xs) e = let a = e x in let b = same_map f g xs e in rw (a, b) refl
 

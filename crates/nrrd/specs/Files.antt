@@ -1,6 +1,7 @@
 -- Volumes as their files hold them.
-use Rattle.std.specs.Prelude.{ℕ}
-use Rattle.iso_base.specs.Volume.{Voxels}
+use Rattle.std.specs.Prelude.{◌≡◌, ℕ, List, Ok}
+use Rattle.iso_base.specs.Volume.{Voxels, Volume, unpadded}
+use Rattle.nrrd.specs.Nrrd.{nrrd_of}
 use Rattle.nrrd.specs.declared.volume.FileVolume.{FileVolume}
 use Rattle.nrrd.specs.declared.volume.FileVolume.TheVariants.{Raw, Read}
 
@@ -12,3 +13,7 @@ file_voxels (Read v) = v
 -- it, and the number of bytes after it
 abbrev pub seen_volume : FileVolume × ℕ → Voxels × ℕ
 seen_volume read = (file_voxels read.0, read.1)
+
+-- this is the volume of a file's bytes, without a pad
+abbrev pub IsRead : List ℕ → Volume → Type 0
+IsRead bytes v = (read : Voxels × ℕ) × (nrrd_of bytes ≡ Ok read) × (v ≡ unpadded read.0)

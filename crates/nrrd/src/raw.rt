@@ -5,6 +5,7 @@ ghost use Rattle.iso_base.specs.Samples.{width_of};
 ghost use Rattle.iso_base.specs.Volume.{IsVoxels, sample};
 ghost use Rattle.nrrd.specs.Raw.{voxels_in};
 
+use crate::runs::read_run;
 use crate::samples::{sample_at, samples_of};
 use iso_base::{SampleKind, Sizes};
 use std::alloc::{AllocError, Global};
@@ -69,6 +70,17 @@ impl<'a> RawVolume<'a> {
         ensures { result ≡ sample self.now.samples index }
     {
         sample_at(self.kind, self.big, self.bytes, index as usize)
+    }
+
+    /// Copies the samples from an index on over the numbers of a list, as many as it has.
+    #[inline(always)]
+    pub fn copy_run(&self, start: u32, into: &mut [i64])
+        requires { start + length into.old ≤ length self.now.samples }
+        ensures { into.new ≡ take (length into.old) (drop start self.now.samples) }
+    {
+        // Reading a size brings in that the sizes are those of a grid.
+        let _ = self.sizes.nx();
+        read_run(self.kind, self.big, self.bytes, start as usize, into);
     }
 
     /// So many samples from an index on.

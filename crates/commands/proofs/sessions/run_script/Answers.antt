@@ -5,5 +5,5 @@ use Rattle.commands.proofs.sessions.run_script.Goals as goal
 
 pub returns-in-Ok-run_session : goal.returns-in-Ok-run_session
 returns-in-Ok-run_session g c =
-    opened (asked_for c.args.level c.args.pad c.args.name.now c.args.capacity.bricks c.args.capacity.pages) _ _ c.in-Ok-run_session.ending c.in-Ok.volume c.in-Ok-begin.bench c.run_session.new.bench _
-    c.in-Ok.ensures.volume c.in-Ok-begin.ensures.opened c.in-Ok-begin.ensures.sound refl c.in-Ok.ensures.same c.in-Ok.ensures.later c.answer.ensures c.in-Ok-run_session.ensures.ends
+    opened (asked_for c.args.level c.args.pad c.args.name.now c.args.capacity.bricks c.args.capacity.pages) _ _ c.in-Ok-run_session.ending c.in-Ok.store c.in-Ok-begin_over.bench c.run_session.new.bench _
+    c.in-Ok.ensures.volume c.in-Ok-begin_over.ensures.opened c.in-Ok-begin_over.ensures.sound refl c.in-Ok.ensures.same c.in-Ok.ensures.later c.answer.ensures c.in-Ok-run_session.ensures.ends

@@ -1,0 +1,54 @@
+//! The bricks of a volume in its file.
+ghost use Rattle.std.specs.Prelude.{◌≡◌, IfOk, IfErr};
+ghost use Rattle.iso_base.specs.Volume.{unpadded};
+ghost use Rattle.nrrd.specs.Files.{file_voxels, IsRead};
+ghost use Rattle.nrrd.specs.Nrrd.{Fails, nrrd_of};
+
+use brick_store::{BrickStore, SampleRuns};
+use iso_base::Memory;
+use nrrd::{FileVolume, NrrdFault, RawVolume, read_file_volume};
+use std::alloc::Global;
+use voxel_list::VoxelList;
+
+/// The samples of a volume in the bytes of its file.
+#[derive(Clone, Copy, Debug)]
+struct RawSamples<'a> {
+    volume: &'a RawVolume<'a>,
+}
+
+impl<'a> SampleRuns for RawSamples<'a> {
+    ghost list = { λ s. s.volume.now.samples };
+
+    #[inline(always)]
+    fn copy_run(&self, start: u32, into: &mut [i64]) {
+        self.volume.copy_run(start, into);
+    }
+}
+
+/// The bricks of a volume whose samples stay in its file.
+fn bricks_in_place<'a>(alloc: Global, volume: &'a RawVolume<'a>) -> Result<BrickStore, Memory>
+    ensures { IfOk result (λ b. b ≡ unpadded volume.now) }
+{
+    let (sizes, kind) = (volume.sizes(), volume.kind());
+    BrickStore::of_samples(alloc, sizes, kind, None, &RawSamples { volume })
+}
+
+/// The bricks of a volume, wherever its samples lie.
+fn bricks_of(alloc: Global, volume: FileVolume<'_>) -> Result<BrickStore, Memory>
+    ensures { IfOk result (λ b. b ≡ unpadded (file_voxels volume.entry)) }
+{
+    match volume {
+        FileVolume::Raw(raw) => bricks_in_place(alloc, &raw),
+        FileVolume::Read(read) => BrickStore::of(alloc, VoxelList::of(read)),
+    }
+}
+
+/// The bricks of the volume in the bytes of a file, without a pad; bytes after the samples are not read. The refusals are
+/// those of the reader of volumes, and last `Memory`.
+pub fn bricks_of_file(alloc: Global, bytes: &[u8]) -> Result<BrickStore, NrrdFault>
+    ensures volume { IfOk result (IsRead bytes.now) }
+    ensures fault { IfErr result (λ fault. Fails fault (nrrd_of bytes.now)) }
+{
+    let (volume, _) = read_file_volume(alloc, bytes)?;
+    Ok(bricks_of(alloc, volume)?)
+}
