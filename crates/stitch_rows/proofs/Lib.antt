@@ -9,3 +9,4 @@ pub mod FlagRows
 pub mod RunFlags
 pub mod StillFlags
 pub mod LoopCases
+pub mod Corners
