@@ -1,24 +1,27 @@
--- The rows of a plane of a brick, one after the other.
-use Rattle.std.proofs.Common.{◌≡◌, ◌∙◌, ℕ, ◌+◌, ◌-◌, ◌*◌, ◌%◌, ◌<◌, ◌≤◌, ℤ, true, List, [], length, drop, get_or, set, take, refl, sym, ap, subst, arith, inl, inr}
+-- The rows of a plane of a brick.
+use Rattle.std.proofs.Common.{◌≡◌, ◌∙◌, ℕ, ◌+◌, ◌-◌, ◌*◌, ◌/◌, ◌%◌, ◌<◌, ◌≤◌, ◌&&◌, ℤ, true, cond, List, length, drop, get_or, set, take, refl, sym, ap, subst, arith, inl, inr, zero-add}
 use Rattle.std.proofs.lemmas.Bool.{cases_lt}
-use Rattle.std.proofs.lemmas.List.{get_or-set_other, get_or-set_same, length-set}
+use Rattle.std.proofs.lemmas.List.{ext_get_or, get_or-drop, get_or-set_other, get_or-set_same, get_or-take, length-drop, length-set, length-take}
+use Rattle.std.proofs.lemmas.List.FromFn.{get_or-map-range_with_len, length-map-range_with_len}
 use Rattle.iso_defs.specs.Grid.{Grid}
-use Rattle.iso_defs.specs.Bricks.{brick_count, entries, in_brick, row_cases}
+use Rattle.iso_defs.specs.Cell.{cell_signs}
+use Rattle.iso_defs.specs.Bricks.{brick_cell, brick_count, brick_point, cells_along, entries, in_brick, is_mixed}
 use Rattle.iso_base.specs.Shifted.{field}
 use Rattle.iso_base.specs.Sizing.{IsGrid}
 use Rattle.iso_base.specs.Volume.{Volume}
 use Rattle.brick_store.specs.Holding.{points_along}
-use Rattle.brick_mesh.specs.Block.{BrickAt}
-use Rattle.brick_mesh.specs.Entries.{entries_from, first_cases}
-use Rattle.brick_mesh.proofs.Runs.{first_all, first_long}
+use Rattle.brick_mesh.specs.Block.{BrickAt, IsCell, heights}
+use Rattle.brick_mesh.specs.Entries.{case_of}
+use Rattle.brick_mesh.proofs.Runs.{is_active_in}
 use Rattle.brick_mesh.proofs.Spans.{inside, offsets}
+use Rattle.mesh_cache.specs.Cache.{Item}
+use Rattle.mesh_cache.specs.Economy.{is_fresh}
 use Rattle.stitch_rows.specs.Named.{IsCellRow}
 use Rattle.stitch_rows.proofs.Places.{few_bricks}
 use Rattle.kept_mesh.specs.declared.planes.Plane.{Plane}
-use Rattle.kept_mesh.specs.Kept.{brick_in, from_least, left_from}
+use Rattle.kept_mesh.specs.Kept.{last_case, looped_case, looped_cases}
 use Rattle.kept_mesh.specs.Planes.{AreNone, IsHeld, IsPlane, IsPlaneAt}
-use Rattle.kept_mesh.proofs.EntryRuns.{skips}
-use Rattle.kept_mesh.proofs.RowCases.{from_row}
+use Rattle.kept_mesh.proofs.EntryRuns.{case_at, case_of_cell}
 
 -- the first row of cells of a plane in which the brick has a row of cells
 pub first_there : (g : Grid) (brick y z : ℕ) → IsCellRow g brick y z → in_brick g brick 1 1 (z + 1) ≡ true
@@ -28,86 +31,80 @@ first_there g brick y z row =
     let o = offsets g brick 1 (y + 1) (z + 1) (omega arith) (omega arith) (omega arith) row.there in
     inside g brick 1 1 (z + 1) (record { x-in = o.x-in; y-in = omega (arith, o.y-in); z-in = o.z-in }) (omega arith) (omega arith) (omega arith)
 
--- the first rows are filled
-pub record AreFilled (v : Volume) (level : ℤ) (brick z : ℕ) (rows : List (List ℕ)) (count : ℕ) : Type 0 where
-  pub long : length rows ≡ 8
-  pub each : (y : ℕ) → y < count → take (points_along v.grid brick 0 - 1) (get_or rows y []) ≡ row_cases v.grid (field v.samples level) brick y z
+-- the cell at a place of a row that is there
+cell_there : (b : BrickAt) (y z x cell : ℕ) → IsCellRow b.grid b.brick y z → x + 1 < points_along b.grid b.brick 0 → x < 8 → cell ≡ 64 * z + (8 * y + x) → IsCell b cell
+cell_there b y z x cell row room few is =
+    let hy : y < 8 = row.y_low in
+    let hz : z < 8 = row.z_low in
+    let o = offsets b.grid b.brick 1 (y + 1) (z + 1) (omega arith) (omega arith) (omega arith) row.there in
+    record {
+      local = omega arith;
+      there = inside b.grid b.brick (cell % 8 + 1) (cell / 8 % 8 + 1) (cell / 64 + 1)
+          (record { x-in = omega (arith, room); y-in = omega (arith, o.y-in); z-in = omega (arith, o.z-in) })
+          (omega arith) (omega arith) (omega arith);
+    }
 
-module _ (v : Volume) (level : ℤ) (brick z : ℕ) (known : brick < brick_count v.grid) (hz : z < 8) (there : in_brick v.grid brick 1 1 (z + 1) ≡ true) where
-  pub is_row : (y along : ℕ) → along ≡ points_along v.grid brick 1 → y < along - 1 → IsCellRow v.grid brick y z
-  is_row y along e low =
-      let o = offsets v.grid brick 1 1 (z + 1) (omega arith) (omega arith) (omega arith) there in
-      record {
-        known = known;
-        y_low = omega (arith, e);
-        z_low = hz;
-        there = inside v.grid brick 1 (y + 1) (z + 1) (record { x-in = o.x-in; y-in = omega (arith, e); z-in = o.z-in }) (omega arith) (omega (arith, e)) (omega arith);
-      }
+-- the cases of a plane of a brick, by its entries
+module _ (b : BrickAt) (z : ℕ) (all cases : List ℕ) (is : all ≡ entries b.grid (heights b) b.brick) (long : length cases ≡ 64)
+    (each : (k : ℕ) → k < 64 → get_or cases k 0 ≡ last_case 0 all (64 * z + k)) where
+  module _ (y : ℕ) (row : IsCellRow b.grid b.brick y z) where
+    case_here : (x : ℕ) → x + 1 < points_along b.grid b.brick 0 → x < 8 → get_or cases (8 * y + x) 0 ≡ looped_case b.grid (heights b) (brick_point b.grid b.brick x y z)
+    unfolding looped_case case_of
+    case_here x room few =
+        let hy : y < 8 = row.y_low in
+        let hz : z < 8 = row.z_low in
+        let cell : ℕ = 64 * z + (8 * y + x) in
+        let there = cell_there b y z x cell row room few refl in
+        let mixed : is_active_in b cell ≡ is_mixed (cell_signs b.grid (heights b) (brick_cell b.grid b.brick cell))
+        = ap (λ h. h && is_mixed (cell_signs b.grid (heights b) (brick_cell b.grid b.brick cell))) there.there in
+        let along_x : cell % 8 ≡ x = omega arith in
+        let along_y : cell / 8 % 8 ≡ y = omega arith in
+        let along_z : cell / 64 ≡ z = omega arith in
+        let point : brick_cell b.grid b.brick cell ≡ brick_point b.grid b.brick x y z
+        = ap (λ i. brick_point b.grid b.brick i (cell / 8 % 8) (cell / 64)) along_x
+        ∙ (ap (λ j. brick_point b.grid b.brick x j (cell / 64)) along_y ∙ ap (brick_point b.grid b.brick x y) along_z) in
+        each (8 * y + x) (omega arith)
+        ∙ (case_of_cell b cell 0 all (omega arith) is
+        ∙ (ap (λ t. cond t (case_at b cell) 0) mixed
+        ∙ ap (λ q. cond (is_mixed (cell_signs b.grid (heights b) q)) (case_of b.grid (heights b) q) 0) point))
 
-  long_row : (y : ℕ) (cases : List ℕ) → cases ≡ row_cases v.grid (field v.samples level) brick y z → length cases ≡ points_along v.grid brick 0 - 1
-  long_row y cases is =
-      ap length (is ∙ sym (first_all (brick_in v level brick) y z (points_along v.grid brick 0 - 1) refl))
-      ∙ first_long (brick_in v level brick) y z (points_along v.grid brick 0 - 1)
-
-  pub few_cases : (y : ℕ) (cases : List ℕ) → cases ≡ row_cases v.grid (field v.samples level) brick y z → length cases ≤ 8
-  few_cases y cases is = omega (arith, long_row y cases is)
-
-  pub filled_more : (rows : List (List ℕ)) (y : ℕ) (cases row : List ℕ) → y < 8 → cases ≡ row_cases v.grid (field v.samples level) brick y z → take (length cases) row ≡ cases
-      → AreFilled v level brick z rows y → AreFilled v level brick z (set rows y row) (y + 1)
-  filled_more rows y cases row low is begins before = record {
-    long = length-set rows y row ∙ before.long;
-    each = λ k h. elim (cases_lt k y) [
-      | inl earlier ↦ ap (take (points_along v.grid brick 0 - 1)) (get_or-set_other rows y k row [] (λ e. omega arith)) ∙ before.each k earlier
-      | inr here ↦ (
-          let same : y ≡ k = omega arith in
-          subst (λ k. take (points_along v.grid brick 0 - 1) (get_or (set rows y row) k []) ≡ row_cases v.grid (field v.samples level) brick k z) same
-          (ap (take (points_along v.grid brick 0 - 1)) (get_or-set_same rows y row [] (omega (arith, before.long)))
-          ∙ (ap (λ n. take n row) (sym (long_row y cases is)) ∙ (begins ∙ is))))
-    ];
-  }
-
-  -- the entries of the first row on
-  pub left_first : (all : List ℕ) → all ≡ entries v.grid (field v.samples level) brick → from_least (1024 * (8 * (0 + 8 * z))) (drop 0 all) ≡ left_from v level brick (8 * (0 + 8 * z))
-  left_first all is = from_row (brick_in v level brick) (8 * (0 + 8 * z)) all (from_least (1024 * (8 * (0 + 8 * z))) all) (omega arith) is refl
-
-  -- those of the next row on
-  pub left_next : (y y' at : ℕ) (all : List ℕ) → y < 8 → y' ≡ y + 1 → drop at all ≡ left_from v level brick (8 * (y + 8 * z) + (points_along v.grid brick 0 - 1))
-      → from_least (1024 * (8 * (y' + 8 * z))) (drop at all) ≡ left_from v level brick (8 * (y' + 8 * z))
-  left_next y y' at all low more left =
-      let first : ℕ = 8 * (y + 8 * z) in
-      let w : ℕ = points_along v.grid brick 0 - 1 in
-      let narrow : points_along v.grid brick 0 - 1 ≤ 8 = omega arith in
-      let least : ℕ = 8 * (y' + 8 * z) in
-      let sum : 8 * (y + 8 * z) + (points_along v.grid brick 0 - 1) + (8 - (points_along v.grid brick 0 - 1)) ≡ 8 * (y' + 8 * z) = omega (arith, narrow) in
-      let count : 512 - (8 * (y + 8 * z) + (points_along v.grid brick 0 - 1)) ≡ 8 - (points_along v.grid brick 0 - 1) + (512 - 8 * (y' + 8 * z)) = omega (arith, narrow) in
-      ap (from_least (1024 * least)) (left ∙ ap (entries_from (brick_in v level brick) (first + w)) count)
-      ∙ skips (brick_in v level brick) least (first + w) (8 - w) (512 - least) sum
-
-  -- all of them
-  pub whole_plane : (plane : Plane) (count along : ℕ) → plane.brick ≡ brick → plane.z ≡ z → plane.width ≡ points_along v.grid brick 0 - 1 → along ≡ points_along v.grid brick 1 → along - 1 ≤ count
-      → AreFilled v level brick z plane.rows count → IsPlane v level plane
-  whole_plane plane count along b e w a long filled = record {
-    narrow = omega (arith, w);
-    rows = λ y row. (
-        let row' : IsCellRow v.grid brick y z = subst (λ n. IsCellRow v.grid brick y n) e (subst (λ n. IsCellRow v.grid n y plane.z) b row) in
-        let hy : y < 8 = row'.y_low in
-        let o = offsets v.grid brick 1 (y + 1) (z + 1) (omega arith) (omega arith) (omega arith) row'.there in
-        ap (λ n. take n (get_or plane.rows y [])) w
-        ∙ (filled.each y (omega (arith, o.y-in, a))
-        ∙ (ap (λ n. row_cases v.grid (field v.samples level) n y z) (sym b) ∙ ap (λ n. row_cases v.grid (field v.samples level) plane.brick y n) (sym e))));
-  }
+    pub plane_row : (width : ℕ) → width ≡ points_along b.grid b.brick 0 - 1 → take width (drop (8 * y) cases) ≡ looped_cases b.grid (heights b) b.brick y z
+    plane_row width w =
+        let hy : y < 8 = row.y_low in
+        let few : width ≡ cells_along b.grid b.brick = omega arith in
+        let narrow : width ≤ 8 = omega arith in
+        let rest : length (drop (8 * y) cases) ≡ 64 - 8 * y = length-drop (8 * y) cases ∙ ap (λ n. n - 8 * y) long in
+        let count : length (take width (drop (8 * y) cases)) ≡ width = length-take width (drop (8 * y) cases) ∙ (omega (arith, rest)) in
+        let case = λ (x : ℕ). looped_case b.grid (heights b) (brick_point b.grid b.brick x y z) in
+        ext_get_or 0 (take width (drop (8 * y) cases)) (looped_cases b.grid (heights b) b.brick y z)
+        (count ∙ (few ∙ sym (length-map-range_with_len case 0 (cells_along b.grid b.brick))))
+        (λ x low.
+        let within : x < width = omega (arith, count) in
+        get_or-take width (drop (8 * y) cases) x 0 within
+        ∙ (get_or-drop (8 * y) cases x 0
+        ∙ (case_here x (omega arith) (omega arith)
+        ∙ sym (get_or-map-range_with_len case 0 (cells_along b.grid b.brick) x x 0 (omega arith) (zero-add x)))))
 
 -- a plane of no brick
-pub none_plane : (v : Volume) (level : ℤ) (plane : Plane) → IsGrid v.grid → plane.brick ≡ 4294967295 → plane.width ≤ 8 → IsPlane v level plane
-none_plane v level plane is none narrow =
-    record { narrow = narrow; rows = λ y row. absurd (omega (arith, row.known, few_bricks v.grid is, none)) }
+pub none_plane : (v : Volume) (level : ℤ) (items : List Item) (plane : Plane) → IsGrid v.grid → plane.brick ≡ 4294967295 → plane.width ≤ 8 → IsPlane v level items plane
+none_plane v level items plane is none narrow = record {
+  narrow = narrow;
+  fresh = λ known. absurd (omega (arith, known, few_bricks v.grid is, none));
+  rows = λ y row. absurd (omega (arith, row.known, few_bricks v.grid is, none));
+}
 
 -- the cases of a row of a plane
-pub row_held : (v : Volume) (level : ℤ) (brick y z : ℕ) (plane : Plane) → IsPlane v level plane → IsPlaneAt brick z plane → IsCellRow v.grid brick y z
-    → take plane.width (get_or plane.rows y []) ≡ row_cases v.grid (field v.samples level) brick y z
-row_held v level brick y z plane is at row =
+pub row_held : (v : Volume) (level : ℤ) (items : List Item) (brick y z : ℕ) (plane : Plane) → IsPlane v level items plane → IsPlaneAt brick z plane → IsCellRow v.grid brick y z
+    → take plane.width (drop (8 * y) plane.cases) ≡ looped_cases v.grid (field v.samples level) brick y z
+row_held v level items brick y z plane is at row =
     is.rows y (subst (λ n. IsCellRow v.grid plane.brick y n) (sym at.same_z) (subst (λ n. IsCellRow v.grid n y z) (sym at.same_brick) row))
-    ∙ (ap (λ n. row_cases v.grid (field v.samples level) n y plane.z) at.same_brick ∙ ap (λ n. row_cases v.grid (field v.samples level) brick y n) at.same_z)
+    ∙ (ap (λ n. looped_cases v.grid (field v.samples level) n y plane.z) at.same_brick ∙ ap (λ n. looped_cases v.grid (field v.samples level) brick y n) at.same_z)
+
+-- its brick is kept
+pub fresh_held : (v : Volume) (level : ℤ) (items : List Item) (brick z : ℕ) (plane : Plane) → IsPlane v level items plane → IsPlaneAt brick z plane → brick < brick_count v.grid
+    → is_fresh brick level items ≡ true
+fresh_held v level items brick z plane is at known =
+    subst (λ n. is_fresh n level items ≡ true) at.same_brick (is.fresh (subst (λ n. n < brick_count v.grid) (sym at.same_brick) known))
 
 -- one plane of no brick more
 pub none_more : (planes : List Plane) (at : ℕ) (plane : Plane) → at < 129 → plane.brick ≡ 4294967295 → plane.width ≤ 8 → AreNone planes at → AreNone (set planes at plane) (at + 1)

@@ -1,6 +1,6 @@
 pub mod EntryRuns
+pub mod LastCase
 pub mod Ascending
-pub mod RowCases
 pub mod Waits
-pub mod Scanning
+pub mod Names
 pub mod Filled

@@ -8,11 +8,10 @@ use Rattle.std.proofs.lemmas.List.Sums.{length-filter}
 use Rattle.iso_defs.specs.Lists.{below}
 use Rattle.iso_defs.specs.Bricks.{brick_count, is_active}
 use Rattle.iso_base.specs.Shifted.{field}
-use Rattle.iso_base.specs.Volume.{Volume}
 use Rattle.mesh_cache.specs.Cache.{Cache, kept_at}
 use Rattle.mesh_cache.specs.Economy.{Refresh, is_fresh, is_waiting, waiting}
 use Rattle.mesh_cache.proofs.Refreshing.{refresh_keeps}
-use Rattle.stitch_rows.specs.Named.{NamesCases, asked_among, is_asked}
+use Rattle.stitch_rows.specs.Named.{asked_among, is_asked}
 use Rattle.kept_mesh.specs.Kept.{Kept, named_by}
 
 -- the bricks that are asked for are those that wait
@@ -49,7 +48,3 @@ fewer_wait g samples level before after bricks r =
     waited k h =
         let parts = and_parts (is_active g (field samples level) k) (not (is_fresh k level after.items)) h in
         rw (parts.0, still k (kept_at k level before.items) refl parts.1) refl
-
--- the rows name the cases of every brick
-pub names_cases : (k : Kept) → NamesCases (named_by k) k.volume.grid (field k.volume.samples k.level)
-names_cases k = record { grid = refl; each = λ brick y z active row. refl }

@@ -1,16 +1,20 @@
 -- The cases of the cells of a brick that lie in a plane across z.
-use Rattle.std.specs.Prelude.{◌≡◌, ℕ, ◌%◌, ◌<◌, ◌≤◌, ℤ, List, [], length, slice_index_or, take}
-use Rattle.iso_defs.specs.Bricks.{row_cases}
+use Rattle.std.specs.Prelude.{◌≡◌, ℕ, ◌*◌, ◌%◌, ◌<◌, ◌≤◌, ℤ, List, drop, length, slice_index_or, take, true}
+use Rattle.iso_defs.specs.Bricks.{brick_count}
 use Rattle.iso_base.specs.Shifted.{field}
 use Rattle.iso_base.specs.Volume.{Volume}
+use Rattle.mesh_cache.specs.Cache.{Item}
+use Rattle.mesh_cache.specs.Economy.{is_fresh}
 use Rattle.stitch_rows.specs.Named.{IsCellRow}
+use Rattle.kept_mesh.specs.Kept.{looped_cases}
 use Rattle.kept_mesh.specs.declared.planes.Plane.{Plane}
 
--- these are the cases of a plane of a brick, if the volume has such a brick
-pub record IsPlane (v : Volume) (level : ℤ) (plane : Plane) : Type 0 where
+-- these are the cases of a plane of a brick, if the volume has such a brick; it is kept at the level then
+pub record IsPlane (v : Volume) (level : ℤ) (items : List Item) (plane : Plane) : Type 0 where
   pub narrow : plane.width ≤ 8
+  pub fresh : plane.brick < brick_count v.grid → is_fresh plane.brick level items ≡ true
   pub rows : (y : ℕ) → IsCellRow v.grid plane.brick y plane.z
-      → take plane.width (slice_index_or plane.rows y []) ≡ row_cases v.grid (field v.samples level) plane.brick y plane.z
+      → take plane.width (drop (8 * y) plane.cases) ≡ looped_cases v.grid (field v.samples level) plane.brick y plane.z
 
 -- the first of 129 planes are of no brick
 pub record AreNone (planes : List Plane) (count : ℕ) : Type 0 where

@@ -1,6 +1,6 @@
 //! The cases of the cells of a volume in bricks: those of a kept brick by its entries, others by its samples.
 
-ghost use Rattle.std.specs.Prelude.{◌≡◌, [], ◌+◌, ◌*◌, ◌<◌, ◌≤◌, Some, All, false, slice_index_or, take, true};
+ghost use Rattle.std.specs.Prelude.{◌≡◌, ◌+◌, ◌*◌, ◌<◌, ◌≤◌, Some, All, drop, length, take, true};
 ghost use Rattle.std.specs.Bool.{OnTrue};
 ghost use Rattle.iso_defs.specs.Bricks.{brick_count, in_brick};
 ghost use Rattle.mesh_cache.specs.Cache.{kept_at};
@@ -59,10 +59,10 @@ fn hold(
     requires brick { brick.0 < brick_count store.now.grid }
     requires z { z < 8 }
     requires there { in_brick store.now.grid brick.0 1 1 (z + 1) ≡ true }
-    requires planes { All (IsPlane store.now level) planes.old }
-    ensures planes { All (IsPlane store.now level) planes.new }
+    requires planes { All (IsPlane store.now level cache.now.items) planes.old }
+    ensures planes { All (IsPlane store.now level cache.now.items) planes.new }
     ensures here { OnTrue result (IsHeld brick.0 z planes.new) }
-    ensures kept { result ≡ false → is_fresh brick.0 level cache.now.items ≡ false }
+    ensures kept { result ≡ is_fresh brick.0 level cache.now.items }
 {
     let at = (brick.0 % PLANES) as usize;
     if is_plane(&planes[at], brick, z) {
@@ -77,14 +77,15 @@ fn hold(
 
 /// Replaces the rows by the first cases of a row.
 #[inline(always)]
-fn put_cases(row: &[u16; 8], width: u8, rows: &mut ArrayVec<u16, 8>)
-    requires { width ≤ 8 }
+fn put_cases(row: &[u16], width: u8, rows: &mut ArrayVec<u16, 8>)
+    requires row { length row.now ≡ 8 }
+    requires width { width ≤ 8 }
     ensures { rows.new.items ≡ take width row.now }
 {
     rows.clear();
     // Eight cases are copied without a call.
     if width == 8 {
-        rows.try_extend_from_slice(row).unwrap();
+        rows.try_extend_from_slice(&row[..8]).unwrap();
         return;
     }
     rows.try_extend_from_slice(&row[..width as usize]).unwrap();
@@ -95,9 +96,10 @@ fn put_cases(row: &[u16; 8], width: u8, rows: &mut ArrayVec<u16, 8>)
 fn put_row(plane: &Plane, y: u8, rows: &mut ArrayVec<u16, 8>)
     requires y { y < 8 }
     requires narrow { plane.now.width ≤ 8 }
-    ensures { rows.new.items ≡ take plane.now.width (slice_index_or plane.now.rows y []) }
+    ensures { rows.new.items ≡ take plane.now.width (drop (8 * y) plane.now.cases) }
 {
-    put_cases(&plane.rows[y as usize], plane.width, rows);
+    let start = 8 * y as usize;
+    put_cases(&plane.cases[start..start + 8], plane.width, rows);
 }
 
 /// The cases of the rows of a volume's bricks at a level: of a brick that the cache keeps at the level by its entries. These are
@@ -121,7 +123,7 @@ impl<'a> Model for KeptRows<'a> {
 
     ghost view = { λ r. record { volume = r.store.now; level = r.level; cache = r.cache.now } };
 
-    ghost invariant = { λ r. IsRight r.store.now.grid r.store.now.samples r.cache.now.items × All (IsPlane r.store.now r.level) r.planes };
+    ghost invariant = { λ r. IsRight r.store.now.grid r.store.now.samples r.cache.now.items × All (IsPlane r.store.now r.level r.cache.now.items) r.planes };
 }
 
 impl<'a> KeptRows<'a> {

@@ -178,7 +178,7 @@ fn write_cell<K: Sink>(
         return Ok(());
     }
     block.reserve(sink)?;
-    let corners = field.corner_heights(cell.index);
+    let corners = field.corner_heights(cell);
     put_centres(field, style, cell, &corners, case, block);
     Ok(())
 }

@@ -18,7 +18,7 @@ case_is v q =
     let back = values_back (cell_values v.grid (heights v) q) refl in
     record { small = back.0; loops = loops_are v q (cell_case v.grid (heights v) q) back.1 }
 
-no_loops : row_loops 0 ≡ []
+pub no_loops : row_loops 0 ≡ []
 unfolding row_loops case_at cases
 no_loops = refl
 

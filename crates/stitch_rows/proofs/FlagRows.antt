@@ -150,7 +150,7 @@ module _ (v : Leveled) (is : IsLeveled v) (y z : ℕ) (hy : y < v.grid.ny) (hz :
   pub flags_more : (x n : ℕ) (least : ℤ) (here up far : List ℤ) (old new : List ℕ) → 8 * x + 1 < v.grid.nx → n ≡ min 9 (v.grid.nx - 8 * x)
       → IsRun v (8 * x) y z here → IsRun v (8 * x) (next_at y v.grid.ny) z up → IsRun v (8 * x) y (next_at z v.grid.nz) far
       → ((s : ℤ) → int_le least s ≡ is_above_level s v.level)
-      → ((i : ℕ) → i < length here → get_or new (8 * x + i) 0 ≡ run_flags least here up far i)
+      → ((i : ℕ) → i < length here → (8 * x + 9 < v.grid.nx → i < 8) → get_or new (8 * x + i) 0 ≡ run_flags least here up far i)
       → ((k : ℕ) → k < 8 * x → get_or new k 0 ≡ get_or old k 0) → AreFlagsTo v y z (8 * x) old → HasMoreFlags v y z (8 * x + 8) new
   unfolding run_flags
   flags_more x n least here up far old new wide few h u f law inside before flags =
@@ -161,15 +161,15 @@ module _ (v : Leveled) (is : IsLeveled v) (y z : ℕ) (hy : y < v.grid.ny) (hz :
       let wide_far : length far ≡ n = let e = f.count in omega arith in
       let bit : (run : List ℤ) (i p : ℕ) → get_or run i (pos 0) ≡ sample v.samples p → bit_from least (sample run i) ≡ sign_bit v p
       = λ run i p e. ap (λ b. cond b 1 0) (law (sample run i)) ∙ ap (λ s. sign_of v.level s) e in
-      let one : (k : ℕ) → k < v.grid.nx → k < 8 * x + n → (k + 1 < v.grid.nx → k + 1 < 8 * x + n) → get_or new k 0 ≡ flags_at v.grid (heights v) (row_start v.grid y z + k)
-      = λ k in_row low next. elim (cases_lt k (8 * x)) [
+      let one : (k : ℕ) → k < v.grid.nx → k < 8 * x + n → (k + 1 < v.grid.nx → k + 1 < 8 * x + n) → (8 * x + 9 < v.grid.nx → k < 8 * x + 8) → get_or new k 0 ≡ flags_at v.grid (heights v) (row_start v.grid y z + k)
+      = λ k in_row low next near. elim (cases_lt k (8 * x)) [
         | inl earlier ↦ before k earlier ∙ flags k in_row earlier
         | inr later ↦ (
             let i : ℕ = k - 8 * x in
             let within : i < n = omega arith in
             let point : 8 * x + i ≡ k = omega arith in
             let behind : 8 * x + (i + 1) ≡ k + 1 = omega arith in
-            sym (ap (λ n. get_or new n 0) point) ∙ (inside i (omega arith)
+            sym (ap (λ n. get_or new n 0) point) ∙ (inside i (omega arith) (λ wider. let m = near wider in omega arith)
             ∙ point_flags k (bit_from least (sample here i)) (bit_right least here i) (bit_from least (sample up i)) (bit_from least (sample far i)) in_row
             (bit here i (index v.grid (8 * x + i) y z) (h.each i (omega arith)) ∙ ap (λ n. at n y z) point)
             (λ more. let right : i + 1 < length here = let m = next more in omega arith in
@@ -180,6 +180,6 @@ module _ (v : Leveled) (is : IsLeveled v) (y z : ℕ) (hy : y < v.grid.ny) (hz :
             (bit far i (index v.grid (8 * x + i) y fz) (f.each i (omega arith)) ∙ ap (λ n. at n y fz) point)))
       ] in
       record {
-        first = λ k in_row low. one k in_row (omega arith) (λ more. omega arith);
-        all = λ last k in_row. one k in_row (omega arith) (λ more. omega arith);
+        first = λ k in_row low. one k in_row (omega arith) (λ more. omega arith) (λ wider. low);
+        all = λ last k in_row. one k in_row (omega arith) (λ more. omega arith) (λ wider. omega arith);
       }

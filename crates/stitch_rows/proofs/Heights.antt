@@ -1,23 +1,23 @@
 -- The shifted values of a volume.
-use Rattle.std.proofs.Common.{◌≡◌, ℕ, ◌+◌, ◌-◌, ◌*◌, ◌<◌, List, [], ◌∷◌, map, length, get_or, min, refl, sym, ◌∙◌, ap, ap₂, subst, ℤ, pos, arith, zero-add, true}
-use Rattle.std.proofs.lemmas.List.{get_or_default}
-use Rattle.std.proofs.lemmas.List.FromFn.{get_or-map-range_with_len, length-map-range_with_len}
-use Rattle.iso_defs.specs.Lists.{below}
+use Rattle.std.proofs.Common.{◌≡◌, ℕ, ◌+◌, ◌-◌, ◌*◌, ◌<◌, List, [], ◌∷◌, length, get_or, take, drop, min, refl, sym, ◌∙◌, ap, ap₂, subst, ℤ, pos, arith, true}
+use Rattle.std.proofs.lemmas.List.{get_or-drop, get_or-take, get_or_default, length-drop, length-take-le}
 use Rattle.iso_defs.specs.Grid.{Grid, index}
-use Rattle.iso_defs.specs.Cell.{cell_values, corner_point}
-use Rattle.iso_defs.specs.Bricks.{brick_count, brick_point, in_brick}
+use Rattle.iso_defs.specs.Cell.{corner_point}
+use Rattle.iso_defs.specs.Bricks.{brick_count, in_brick}
+use Rattle.iso_defs.proofs.Points.{index_in}
 use Rattle.iso_base.specs.Samples.{IsSample}
 use Rattle.iso_base.specs.Sizing.{IsGrid}
 use Rattle.iso_base.specs.Shifted.{shifted}
 use Rattle.iso_base.specs.Volume.{IsVolume, Volume, sample}
 use Rattle.iso_base.proofs.VolumeLaws.{sample_in_range}
-use Rattle.brick_store.specs.Holding.{row_length}
+use Rattle.brick_store.specs.Copies.{AreCopiesOf}
 use Rattle.flat_mesh.specs.Cases.{values_at}
 use Rattle.flat_mesh.specs.Lattice.{IsLeveled, Leveled}
 use Rattle.stitch_rows.specs.declared.bricks.BrickRow.{BrickRow}
 use Rattle.stitch_rows.specs.Bricks.{HoldRow}
 use Rattle.stitch_rows.specs.Rows.{at_level}
-use Rattle.stitch_rows.proofs.Places.{number_in, point_is, points_there, start_x, starts}
+use Rattle.stitch_rows.specs.Runs.{IsRun}
+use Rattle.stitch_rows.proofs.Places.{number_in, point_is, row_there}
 
 pub leveled : (v : Volume) (level : ℤ) → IsVolume v → IsLeveled (at_level v level)
 leveled v level is = record {
@@ -27,34 +27,55 @@ leveled v level is = record {
 }
 
 -- those of the corners of a cell
-pub corners_are : (f : Leveled) (v : Volume) (level : ℤ) (q : ℕ) (samples : List ℤ) (a b c d e f' g h : ℤ) → at_level v level ≡ f → samples ≡ cell_values v.grid (sample v.samples) q
-    → a ≡ shifted (get_or samples 0 (pos 0)) level → b ≡ shifted (get_or samples 1 (pos 0)) level → c ≡ shifted (get_or samples 2 (pos 0)) level → d ≡ shifted (get_or samples 3 (pos 0)) level
-    → e ≡ shifted (get_or samples 4 (pos 0)) level → f' ≡ shifted (get_or samples 5 (pos 0)) level → g ≡ shifted (get_or samples 6 (pos 0)) level → h ≡ shifted (get_or samples 7 (pos 0)) level
+pub corners_are : (f : Leveled) (v : Volume) (level : ℤ) (q : ℕ) (a b c d e f' g h : ℤ) → at_level v level ≡ f
+    → a ≡ shifted (sample v.samples (corner_point v.grid q 0)) level → b ≡ shifted (sample v.samples (corner_point v.grid q 1)) level
+    → c ≡ shifted (sample v.samples (corner_point v.grid q 2)) level → d ≡ shifted (sample v.samples (corner_point v.grid q 3)) level
+    → e ≡ shifted (sample v.samples (corner_point v.grid q 4)) level → f' ≡ shifted (sample v.samples (corner_point v.grid q 5)) level
+    → g ≡ shifted (sample v.samples (corner_point v.grid q 6)) level → h ≡ shifted (sample v.samples (corner_point v.grid q 7)) level
     → a ∷ b ∷ c ∷ d ∷ e ∷ f' ∷ g ∷ h ∷ [] ≡ values_at f q
 unfolding values_at
-corners_are f v level q samples a b c d e f' g h same list ea eb ec ed ee ef eg eh =
+corners_are f v level q a b c d e f' g h same ea eb ec ed ee ef eg eh =
     subst (λ f. a ∷ b ∷ c ∷ d ∷ e ∷ f' ∷ g ∷ h ∷ [] ≡ values_at f q) same
-    (ap₂ ◌∷◌ (ea ∙ at 0) (ap₂ ◌∷◌ (eb ∙ at 1) (ap₂ ◌∷◌ (ec ∙ at 2) (ap₂ ◌∷◌ (ed ∙ at 3)
-    (ap₂ ◌∷◌ (ee ∙ at 4) (ap₂ ◌∷◌ (ef ∙ at 5) (ap₂ ◌∷◌ (eg ∙ at 6) (ap₂ ◌∷◌ (eh ∙ at 7) refl))))))))
-  where
-    at : (k : ℕ) → shifted (get_or samples k (pos 0)) level ≡ shifted (get_or (map (λ c. sample v.samples (corner_point v.grid q c)) (below 8)) k (pos 0)) level
-    at k = ap (λ l. shifted (get_or l k (pos 0)) level) list
+    (ap₂ ◌∷◌ ea (ap₂ ◌∷◌ eb (ap₂ ◌∷◌ ec (ap₂ ◌∷◌ ed (ap₂ ◌∷◌ ee (ap₂ ◌∷◌ ef (ap₂ ◌∷◌ eg (ap₂ ◌∷◌ eh refl))))))))
 
--- a run of samples of a brick
+-- a run of samples of a brick, among its copies
 module _ (v : Volume) (is : IsVolume v) (x y z : ℕ) (hx : 8 * x + 1 < v.grid.nx) (hy : y < v.grid.ny) (hz : z < v.grid.nz) (held : BrickRow) (hold : HoldRow v.grid y z held)
-    (run : List ℤ) (same : run ≡ map (λ i. sample v.samples (brick_point v.grid (held.first + x) i held.y held.z)) (below (row_length v.grid (held.first + x)))) where
-  pub run_length : length run ≡ min 9 (v.grid.nx - 8 * x)
-  run_length =
-      ap length same ∙ (length-map-range_with_len (λ i. sample v.samples (brick_point v.grid (held.first + x) i held.y held.z)) 0 (row_length v.grid (held.first + x))
-      ∙ ap (λ n. min 9 (v.grid.nx - n)) (starts v.grid is.grid x y z hx hy hz held hold 0 ∙ start_x v.grid is.grid x y z hx hy hz))
+    (copies : List ℤ) (are : AreCopiesOf v.grid v.samples (held.first + x) copies) (low_y : held.y < 9) (low_z : held.z < 9)
+    (start count : ℕ) (at : start ≡ 9 * (held.y + 9 * held.z)) (few : count ≡ min 9 (v.grid.nx - 8 * x)) where
+  abbrev run : List ℤ
+  run = take (start + count - start) (drop start copies)
 
-  pub run_at : (k : ℕ) → k < length run → get_or run k (pos 0) ≡ sample v.samples (index v.grid (8 * x + k) y z)
+  run_length : length run ≡ min 9 (v.grid.nx - 8 * x)
+  run_length =
+      let all = are.count in
+      length-take-le (start + count - start) (drop start copies) (omega (arith, length-drop start copies)) ∙ omega (arith, few)
+
+  run_at : (k : ℕ) → k < length run → get_or run k (pos 0) ≡ sample v.samples (index v.grid (8 * x + k) y z)
   run_at k low =
-      let len : length run ≡ row_length v.grid (held.first + x)
-      = ap length same ∙ length-map-range_with_len (λ i. sample v.samples (brick_point v.grid (held.first + x) i held.y held.z)) 0 (row_length v.grid (held.first + x)) in
-      ap (λ l. get_or l k (pos 0)) same
-      ∙ (get_or-map-range_with_len (λ i. sample v.samples (brick_point v.grid (held.first + x) i held.y held.z)) 0 (row_length v.grid (held.first + x)) k k (pos 0) (omega arith) (zero-add k)
-      ∙ ap (sample v.samples) (point_is v.grid is.grid x y z hx hy hz held hold k))
+      let long = run_length in
+      let within : k < count = omega arith in
+      let wide : 8 * x + k < v.grid.nx = omega arith in
+      let ey : held.y + 0 ≡ held.y = omega arith in
+      let ez : held.z + 0 ≡ held.z = omega arith in
+      let deep : y + 0 < v.grid.ny = omega arith in
+      let high : z + 0 < v.grid.nz = omega arith in
+      let there : in_brick v.grid (held.first + x) k held.y held.z ≡ true
+      = ap (λ n. in_brick v.grid (held.first + x) k n held.z) (sym ey) ∙ (ap (in_brick v.grid (held.first + x) k (held.y + 0)) (sym ez)
+      ∙ row_there v.grid is.grid x y z hx hy hz held hold k 0 0 wide deep high) in
+      let place : start + k ≡ k + 9 * (held.y + 9 * held.z) = omega arith in
+      get_or-take (start + count - start) (drop start copies) k (pos 0) (omega arith)
+      ∙ (get_or-drop start copies k (pos 0)
+      ∙ (ap (sample copies) place
+      ∙ (are.each k held.y held.z (omega arith) low_y low_z there ∙ ap (sample v.samples) (point_is v.grid is.grid x y z hx hy hz held hold k))))
+
+  pub run_is : (level : ℤ) → IsRun (at_level v level) (8 * x) y z run
+  run_is level = record {
+    count = run_length;
+    each = run_at;
+    range = λ k d low.
+        let wide : 8 * x + k < v.grid.nx = omega (arith, run_length) in
+        subst IsSample (sym (get_or_default run k d (pos 0) low ∙ run_at k low)) (sample_in_range v (index v.grid (8 * x + k) y z) is (index_in v.grid (8 * x + k) y z wide hy hz));
+  }
 
 -- the same of a volume at a level
 module _ (f : Leveled) (v : Volume) (level : ℤ) (e : at_level v level ≡ f) (is : IsVolume v) (x y z : ℕ) (hx : 8 * x + 1 < f.grid.nx) (hy : y < f.grid.ny) (hz : z < f.grid.nz)
@@ -80,20 +101,14 @@ module _ (f : Leveled) (v : Volume) (level : ℤ) (e : at_level v level ≡ f) (
   pub brick_known : held.first + x < brick_count v.grid
   brick_known = number_in v.grid is.grid x y z wide deep high held here
 
-  pub row_inside : in_brick v.grid (held.first + x) 0 held.y held.z ≡ true
-  row_inside = points_there v.grid is.grid x y z wide deep high held here
-
   pub y_low : held.y < 9
   y_low = let h = hold.y_at in let n = subst IsGrid g_is is.grid in let t = n.y.most in omega arith
 
   pub z_low : held.z < 9
   z_low = let h = hold.z_at in let n = subst IsGrid g_is is.grid in let t = n.z.most in omega arith
 
-  module _ (run : List ℤ) (same : run ≡ map (λ i. sample v.samples (brick_point v.grid (held.first + x) i held.y held.z)) (below (row_length v.grid (held.first + x)))) where
-    pub length_is : length run ≡ min 9 (f.grid.nx - 8 * x)
-    length_is = subst (λ (g : Grid). length run ≡ min 9 (g.nx - 8 * x)) g_is (run_length v is x y z wide deep high held here run same)
-
-    pub each_is : (k : ℕ) → k < length run → get_or run k (pos 0) ≡ sample f.samples (index f.grid (8 * x + k) y z)
-    each_is k low =
-        run_at v is x y z wide deep high held here run same k low
-        ∙ (ap (λ g. sample v.samples (index g (8 * x + k) y z)) g_is ∙ ap (λ s. sample s (index f.grid (8 * x + k) y z)) s_is)
+  pub run_of : (copies : List ℤ) (start count : ℕ) → AreCopiesOf v.grid v.samples (held.first + x) copies → start ≡ 9 * (held.y + 9 * held.z) → count ≡ min 9 (v.grid.nx - 8 * x)
+      → IsRun f (8 * x) y z (take (start + count - start) (drop start copies))
+  run_of copies start count are at few =
+      subst (λ f. IsRun f (8 * x) y z (take (start + count - start) (drop start copies))) e
+      (run_is v is x y z wide deep high held here copies are y_low z_low start count at few level)

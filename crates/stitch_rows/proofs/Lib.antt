@@ -8,3 +8,5 @@ pub mod NextBricks
 pub mod FlagRows
 pub mod RunFlags
 pub mod StillFlags
+pub mod LoopCases
+pub mod Corners

@@ -81,6 +81,15 @@ module _ (g : Grid) (is : IsGrid g) (x y z : ℕ) (hx : 8 * x + 1 < g.nx) (hy : 
         ap (λ n. index g (n + i) (brick_start g (held.first + x) 1 + held.y) (brick_start g (held.first + x) 2 + held.z)) a
         ∙ (ap (λ n. index g (8 * x + i) n (brick_start g (held.first + x) 2 + held.z)) b ∙ ap (index g (8 * x + i) y) c)
 
+    -- and those of the next rows
+    pub offset_point : (i j k : ℕ) → brick_point g (held.first + x) i (held.y + j) (held.z + k) ≡ index g (8 * x + i) (y + j) (z + k)
+    offset_point i j k =
+        let a : brick_start g (held.first + x) 0 ≡ 8 * x = starts 0 ∙ start_x in
+        let b : brick_start g (held.first + x) 1 + (held.y + j) ≡ y + j = let s = start_y in let h = hold.y_at in let e = starts 1 in omega (arith, s, h, e) in
+        let c : brick_start g (held.first + x) 2 + (held.z + k) ≡ z + k = let s = start_z in let h = hold.z_at in let e = starts 2 in omega (arith, s, h, e) in
+        ap (λ n. index g (n + i) (brick_start g (held.first + x) 1 + (held.y + j)) (brick_start g (held.first + x) 2 + (held.z + k))) a
+        ∙ (ap (λ n. index g (8 * x + i) n (brick_start g (held.first + x) 2 + (held.z + k))) b ∙ ap (index g (8 * x + i) (y + j)) c)
+
     -- the row is in it
     pub row_there : (i j k : ℕ) → 8 * x + i < g.nx → y + j < g.ny → z + k < g.nz → in_brick g (held.first + x) i (held.y + j) (held.z + k) ≡ true
     row_there i j k hi hj hk =

@@ -69,13 +69,16 @@ unmixed_cell v brick x y z q none hx hy hz there same =
     let cell_quiet : is_active_cell g (heights v) brick local ≡ false = none_of (is_active_cell g (heights v) brick) 512 local none (omega arith) in
     ap (λ q. is_mixed (cell_signs g (heights v) q)) (sym cell) ∙ right_of_and (has_cell g brick local) (is_mixed (cell_signs g (heights v) (brick_cell g brick local))) has cell_quiet
 
-pub quiet_cell : (v : Leveled) (brick x y z q : ℕ) → is_active v.grid (heights v) brick ≡ false → x < 8 → y < 8 → z < 8
-    → in_brick v.grid brick (x + 1) (y + 1) (z + 1) ≡ true → brick_point v.grid brick x y z ≡ q → loops_at v q ≡ []
+-- a cell without a crossing edge has no loops
+pub unmixed_loops : (v : Leveled) (q : ℕ) → is_mixed (cell_signs v.grid (heights v) q) ≡ false → loops_at v q ≡ []
 unfolding loops_at
-quiet_cell v brick x y z q none hx hy hz there same =
-    let unmixed = unmixed_cell v brick x y z q none hx hy hz there same in
+unmixed_loops v q unmixed =
     let at : ℕ → Bool = λ c. is_above (heights v (corner_point v.grid q c)) in
     no_loops (at 0) (at 1) (at 2) (at 3) (at 4) (at 5) (at 6) (at 7) (cell_joined v.grid (heights v) q) unmixed
+
+pub quiet_cell : (v : Leveled) (brick x y z q : ℕ) → is_active v.grid (heights v) brick ≡ false → x < 8 → y < 8 → z < 8
+    → in_brick v.grid brick (x + 1) (y + 1) (z + 1) ≡ true → brick_point v.grid brick x y z ≡ q → loops_at v q ≡ []
+quiet_cell v brick x y z q none hx hy hz there same = unmixed_loops v q (unmixed_cell v brick x y z q none hx hy hz there same)
 
 -- the corners of a cell without a crossing edge are alike
 module _ (v : Leveled) (q : ℕ) (none : is_mixed (cell_signs v.grid (heights v) q) ≡ false) where

@@ -1,7 +1,6 @@
 -- No edge from a point of a brick that is not active is crossing.
-use Rattle.std.proofs.Common.{◌≡◌, ℕ, ◌+◌, ◌-◌, ◌*◌, ◌/◌, ◌%◌, ◌<◌, ◌≤◌, false, List, cond, get_or, inl, inr, length, min, set, refl, sym, ◌∙◌, ap, arith, eq-eqb}
+use Rattle.std.proofs.Common.{◌≡◌, ℕ, ◌+◌, ◌-◌, ◌*◌, ◌<◌, ◌≤◌, false, List, cond, get_or, inl, inr, length, min, refl, sym, ◌∙◌, ap, arith, eq-eqb}
 use Rattle.std.proofs.lemmas.Bool.{cases_lt}
-use Rattle.std.proofs.lemmas.List.{get_or-set_other, get_or-set_same, length-set}
 use Rattle.iso_defs.specs.Grid.{index}
 use Rattle.iso_defs.specs.Cell.{cell_signs, corner_point}
 use Rattle.iso_defs.specs.Bricks.{bricks_along, is_active, is_mixed}
@@ -14,24 +13,8 @@ use Rattle.stitch_rows.specs.Bricks.{HoldRow, brick_at, next_at}
 use Rattle.stitch_rows.specs.Rows.{AreFlagsTo, AreZerosFrom, HasMoreFlags}
 use Rattle.stitch_rows.proofs.FlagRows.{point_flags}
 use Rattle.stitch_rows.proofs.Places.{point_is, row_there}
+use Rattle.stitch_rows.proofs.Corners.{corner_at}
 use Rattle.stitch_rows.proofs.QuietBricks.{corner_alike, unmixed_cell}
-
--- the corner of a cell at these offsets
-corner_at : (v : Leveled) (x y z i j k : ℕ) → i ≤ 1 → j ≤ 1 → k ≤ 1
-    → corner_point v.grid (index v.grid x y z) (i + 2 * j + 4 * k) ≡ index v.grid (x + i) (y + j) (z + k)
-corner_at v x y z i j k hi hj hk =
-    let c : ℕ = i + 2 * j + 4 * k in
-    let ex : c % 2 ≡ i = omega arith in
-    let ey : c / 2 % 2 ≡ j = omega arith in
-    let ez : c / 4 ≡ k = omega arith in
-    moved (c % 2) (c / 2 % 2) (c / 4) ex ey ez ∙ spread v.grid.nx v.grid.ny
-  where
-    moved : (d e f : ℕ) → d ≡ i → e ≡ j → f ≡ k
-        → index v.grid x y z + (d * 1 + (e * v.grid.nx + f * (v.grid.nx * v.grid.ny))) ≡ index v.grid x y z + (i * 1 + (j * v.grid.nx + k * (v.grid.nx * v.grid.ny)))
-    moved d e f p q r = rw (p, q, r) refl
-
-    spread : (m n : ℕ) → x + m * (y + n * z) + (i * 1 + (j * m + k * (m * n))) ≡ x + i + m * (y + j + n * (z + k))
-    spread m n = omega arith
 
 flag_none : (c : ℕ) → flag_of c c c c ≡ 0
 flag_none c = let none : apart c c ≡ 0 = ap (λ b. cond b 0 1) (eq-eqb c c refl) in rw none refl
@@ -66,7 +49,7 @@ module _ (v : Leveled) (is : IsLeveled v) (x y z : ℕ) (hx : 8 * x + 1 < v.grid
       let eq : b + j ≡ q = omega arith in
       let er : d + k ≡ r = omega arith in
       let plain : corner_point v.grid (index v.grid a b d) 0 ≡ index v.grid a b d = omega arith in
-      let corner = corner_at v a b d i j k (omega arith) (omega arith) (omega arith) in
+      let corner = corner_at v.grid a b d i j k (omega arith) (omega arith) (omega arith) in
       let alike = corner_alike v (index v.grid a b d) none (i + 2 * j + 4 * k) (omega arith) in
       sym (ap (sign_bit v) plain) ∙ (sym (ap (λ b. cond b 1 0) alike) ∙ (ap (sign_bit v) corner
       ∙ (ap (λ n. sign_bit v (index v.grid n (b + j) (d + k))) ep ∙ (ap (λ n. sign_bit v (index v.grid p n (d + k))) eq ∙ ap (λ n. sign_bit v (index v.grid p q n)) er))))
@@ -89,34 +72,11 @@ module _ (v : Leveled) (is : IsLeveled v) (x y z : ℕ) (hx : 8 * x + 1 < v.grid
       (point_sign a b d k y (next_at z v.grid.nz) none (omega arith) (omega arith) (omega arith) (omega arith) (omega arith) (omega arith))
 
   -- zeros in place of their flags
-  pub zeros_more : (start end : ℕ) (old new : List ℕ) → start ≡ 8 * x → end ≡ min (start + 9) v.grid.nx
-      → ((k : ℕ) → start ≤ k → k < end → get_or new k 0 ≡ 0) → ((k : ℕ) → k < start → get_or new k 0 ≡ get_or old k 0)
-      → AreFlagsTo v y z (8 * x) old → HasMoreFlags v y z (8 * x + 8) new
-  zeros_more start end old new at to inside before flags =
-      let one : (k : ℕ) → k < v.grid.nx → min k (v.grid.nx - 2) < 8 * x + 8 → k < 8 * x + 9 → get_or new k 0 ≡ flags_at v.grid (heights v) (row_start v.grid y z + k)
-      = λ k in_row near low. elim (cases_lt k (8 * x)) [
-        | inl earlier ↦ before k (omega arith) ∙ flags k in_row earlier
-        | inr here ↦ inside k (omega arith) (omega arith) ∙ still_flags k in_row here near
+  pub zeros_more : (flags : List ℕ) → length flags ≡ v.grid.nx → AreZerosFrom (8 * x) flags → AreFlagsTo v y z (8 * x) flags → HasMoreFlags v y z (8 * x + 8) flags
+  zeros_more flags long zeros before =
+      let one : (k : ℕ) → k < v.grid.nx → min k (v.grid.nx - 2) < 8 * x + 8 → get_or flags k 0 ≡ flags_at v.grid (heights v) (row_start v.grid y z + k)
+      = λ k in_row near. elim (cases_lt k (8 * x)) [
+        | inl earlier ↦ before k in_row earlier
+        | inr here ↦ zeros k here (omega arith) ∙ still_flags k in_row here near
       ] in
-      record { first = λ k in_row low. one k in_row (omega arith) (omega arith); all = λ last k in_row. one k in_row (omega arith) (omega arith) }
-
--- a zero before zeros
-pub record IsZeroPut (start end : ℕ) (old new : List ℕ) : Type 0 where
-  pub inside : (k : ℕ) → start ≤ k → k < end → get_or new k 0 ≡ 0
-  pub before : (k : ℕ) → k < start → get_or new k 0 ≡ get_or old k 0
-
-pub zero_put : (start end : ℕ) (old new : List ℕ) → start < length old → end ≤ length old → new ≡ set old start 0 → AreZerosFrom (start + 1) old → IsZeroPut start end old new
-zero_put start end old new low room put zeros = record {
-  inside = λ k from within. elim (cases_lt start k) [
-    | inl behind ↦ ap (λ l. get_or l k 0) put ∙ (get_or-set_other old start k 0 0 (λ e. omega arith) ∙ zeros k (omega arith) (omega arith))
-    | inr here ↦ (
-        let same : start ≡ k = omega arith in
-        ap (λ l. get_or l k 0) put ∙ (sym (ap (λ n. get_or (set old start 0) n 0) same) ∙ get_or-set_same old start 0 0 low))
-  ];
-  before = λ k earlier. ap (λ l. get_or l k 0) put ∙ get_or-set_other old start k 0 0 (λ e. omega arith);
-}
-
-pub zero_behind : (start : ℕ) (old new : List ℕ) → new ≡ set old start 0 → AreZerosFrom (start + 1) old → AreZerosFrom (start + 9) new
-zero_behind start old new put zeros k from low =
-    let long : length new ≡ length old = ap length put ∙ length-set old start 0 in
-    ap (λ l. get_or l k 0) put ∙ (get_or-set_other old start k 0 0 (λ e. omega arith) ∙ zeros k (omega arith) (omega arith))
+      record { first = λ k in_row low. one k in_row (omega arith); all = λ last k in_row. one k in_row (omega arith) }

@@ -1,8 +1,9 @@
 -- The cases that are named for the cells of rows of bricks.
-use Rattle.std.specs.Prelude.{◌≡◌, ℕ, ◌+◌, ◌<◌, ◌&&◌, ℤ, Bool, true, not, cond, List}
+use Rattle.std.specs.Prelude.{◌≡◌, ℕ, ◌+◌, ◌<◌, ◌&&◌, ℤ, Bool, true, not, cond, List, All, map}
 use Rattle.std.specs.List.{count_by, range_with_len}
 use Rattle.iso_defs.specs.Grid.{Grid}
 use Rattle.iso_defs.specs.Bricks.{brick_count, bricks_along, in_brick, is_active, row_cases}
+use Rattle.cell_loops.specs.Loops.{row_loops}
 use Rattle.stitch_rows.specs.Bricks.{first_brick}
 
 -- for each row of each brick the case numbers of its cells, and which bricks are kept
@@ -18,10 +19,15 @@ pub record IsCellRow (g : Grid) (brick y z : ℕ) : Type 0 where
   pub z_low : z < 8
   pub there : in_brick g brick 1 (y + 1) (z + 1) ≡ true
 
--- these are named for each row of each active brick
+-- numbers of cases that have the loops of some cases: a cell without a crossing edge may go by either case that has no loops
+pub record HaveLoops (numbers cases : List ℕ) : Type 0 where
+  pub small : All (λ n. n < 656) numbers
+  pub loops : map row_loops numbers ≡ map row_loops cases
+
+-- these are named for the cases of each row of each active brick
 pub record NamesCases (names : Named) (g : Grid) (s : ℕ → ℤ) : Type 0 where
   pub grid : names.grid ≡ g
-  pub each : (brick y z : ℕ) → is_active g s brick ≡ true → IsCellRow g brick y z → names.cases brick y z ≡ row_cases g s brick y z
+  pub each : (brick y z : ℕ) → is_active g s brick ≡ true → IsCellRow g brick y z → HaveLoops (names.cases brick y z) (row_cases g s brick y z)
 
 -- how many steps a row of a brick may cost
 abbrev pub row_cost : Named → ℕ → ℕ

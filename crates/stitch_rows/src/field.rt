@@ -1,10 +1,11 @@
 //! A volume in bricks at a level: its shifted values, and its active bricks.
-ghost use Rattle.std.specs.Prelude.{◌≡◌, ℕ, ◌+◌, ◌-◌, ◌*◌, ◌<◌, ◌^◌, All, length, min, pos, slice_index_or, true, unsigned_abs};
-ghost use Rattle.iso_defs.specs.Grid.{index, is_cell, point_count};
+ghost use Rattle.std.specs.Prelude.{◌≡◌, ◌+◌, ◌*◌, ◌<◌, ◌^◌, All, length, unsigned_abs};
+ghost use Rattle.iso_defs.specs.Grid.{index};
 ghost use Rattle.iso_base.specs.Samples.{IsSample};
 ghost use Rattle.iso_base.specs.Shifted.{shifted};
 ghost use Rattle.iso_base.specs.Volume.{IsVolume, sample};
 ghost use Rattle.flat_mesh.specs.Cases.{values_at};
+ghost use Rattle.flat_mesh.specs.Centres.{IsCellAt};
 ghost use Rattle.flat_mesh.specs.Lattice.{IsLeveled, heights};
 ghost use Rattle.span_tree.specs.Spans.{IsRightFor};
 ghost use Rattle.stitch_rows.specs.Bricks.{HoldRow, IsNextFrom};
@@ -13,19 +14,20 @@ ghost use Rattle.stitch_rows.specs.Rows.{at_level};
 
 use crate::bricks::BrickRow;
 use brick_store::{BrickId, BrickStore};
-use iso_base::{CellName, Level, Sizes};
+use flat_mesh::Cell;
+use iso_base::{Level, Sizes};
 use span_tree::SpanTree;
 use std::marker::Model;
 
-/// The shifted value of a corner, from the samples at the corners of its cell.
+/// The shifted value of a copy of a sample.
 #[inline(always)]
-fn corner_height(level: Level, samples: &[i64; 8], corner: usize) -> i64
-    requires samples { All IsSample samples.now }
-    requires corner { corner < 8 }
-    ensures value { result ≡ shifted (slice_index_or samples.now corner (pos 0)) level }
+fn copied_height(level: Level, copies: &[i64], place: usize) -> i64
+    requires place { place < length copies.now }
+    requires sample { IsSample (sample copies.now place) }
+    ensures value { result ≡ shifted (sample copies.now place) level }
     ensures bound { unsigned_abs result < 2 ^ 44 }
 {
-    level.shifted(samples[corner])
+    level.shifted(copies[place])
 }
 
 /// A volume in bricks at a level, with the tree that finds its active bricks. Contracts see its grid, its samples and the
@@ -66,28 +68,32 @@ impl<'a> Field<'a> {
         self.store.sizes()
     }
 
-    /// The shifted values of the corners of a cell.
-    pub fn corner_heights(&self, cell: u32) -> [i64; 8]
-        requires index { cell < point_count self.now.grid }
-        requires cell { is_cell self.now.grid cell ≡ true }
-        ensures value { result ≡ values_at self.now cell }
+    /// The shifted values of the corners of a cell: all in the brick that has the cell.
+    pub fn corner_heights(&self, cell: Cell) -> [i64; 8]
+        requires { IsCellAt self.now.grid cell }
+        ensures value { result ≡ values_at self.now cell.index }
         ensures bound { All (λ v. unsigned_abs v < 2 ^ 44) result }
     {
-        let samples = self.store.cell_values(CellName(cell));
+        let sizes = self.store.sizes();
+        let low = cell.low;
+        let row = BrickRow::of(&sizes, low.y, low.z);
+        let copies = self.store.brick(BrickId(row.first + low.x / 8));
+        let place = (low.x % 8) as usize + 9 * (row.y as usize + 9 * row.z as usize);
         let level = self.level;
         [
-            corner_height(level, &samples, 0),
-            corner_height(level, &samples, 1),
-            corner_height(level, &samples, 2),
-            corner_height(level, &samples, 3),
-            corner_height(level, &samples, 4),
-            corner_height(level, &samples, 5),
-            corner_height(level, &samples, 6),
-            corner_height(level, &samples, 7),
+            copied_height(level, copies, place),
+            copied_height(level, copies, place + 1),
+            copied_height(level, copies, place + 9),
+            copied_height(level, copies, place + 10),
+            copied_height(level, copies, place + 81),
+            copied_height(level, copies, place + 82),
+            copied_height(level, copies, place + 90),
+            copied_height(level, copies, place + 91),
         ]
     }
 
     /// The samples of a row of points that a brick holds: those from 8 * x on, at most nine.
+    #[inline(always)]
     pub(crate) fn run(&self, row: BrickRow, x: u32, y: u32, z: u32) -> &[i64]
         requires x { 8 * x + 1 < self.now.grid.nx }
         requires y { y < self.now.grid.ny }
@@ -95,8 +101,12 @@ impl<'a> Field<'a> {
         requires row { HoldRow self.now.grid y z row }
         ensures { IsRun self.now (8 * x) y z result.now }
     {
-        let _ = self.store.sizes();
-        self.store.row(BrickId(row.first + x), row.y, row.z)
+        let _ = (y, z);
+        let sizes = self.store.sizes();
+        let copies = self.store.brick(BrickId(row.first + x));
+        let start = 9 * (row.y as usize + 9 * row.z as usize);
+        let count = (sizes.nx() - 8 * x).min(9) as usize;
+        &copies[start..start + count]
     }
 
     /// The least active brick from a number on, or a number behind all bricks.

@@ -1,11 +1,11 @@
 //! The points of a row: their flags, and the numbers of their crossing edges.
-ghost use Rattle.std.specs.Prelude.{◌≡◌, ℕ, ◌+◌, ◌-◌, ◌*◌, ◌<◌, ◌≤◌, All, IsTrue, cond, length, slice_index, slice_set};
+ghost use Rattle.std.specs.Prelude.{◌≡◌, ℕ, ◌+◌, ◌-◌, ◌*◌, ◌<◌, ◌≤◌, All, IsTrue, cond, length, min, slice_index};
 ghost use Rattle.crossing_edges.specs.Flags.{flags_from, rank};
 ghost use Rattle.flat_mesh.specs.Lattice.{heights};
 ghost use Rattle.flat_mesh.specs.Rows.{row_start};
 ghost use Rattle.corner_signs.specs.Rows.{bit_from};
 ghost use Rattle.crossing_edges.specs.Signs.{apart, flag_of};
-ghost use Rattle.stitch_rows.specs.Bricks.{AreMarked, HoldRow, HoldRows, IsStill, first_brick, next_at};
+ghost use Rattle.stitch_rows.specs.Bricks.{AreMarked, HoldRows, first_brick, next_at};
 ghost use Rattle.stitch_rows.specs.Rows.{AreFirst, AreFlags, AreFlagsTo, AreRuns, AreZerosFrom, HasMoreFlags, run_flags};
 
 use crate::active::ActiveRow;
@@ -105,20 +105,16 @@ fn are_quiet(here: &[i64], up: &[i64], far: &[i64], least: i64) -> bool
     }
 }
 
-/// Writes the flags of a run of points, from their samples and those of the next points along y and z.
-fn flag_run(here: &[i64], up: &[i64], far: &[i64], least: i64, out: &mut [u8])
-    requires some { 0 < length here.now }
+/// Writes the flags of so many points of a run, behind which another one stands.
+#[inline(always)]
+fn flag_front(here: &[i64], up: &[i64], far: &[i64], least: i64, count: usize, out: &mut [u8])
+    requires here { count < length here.now }
     requires up { length up.now ≡ length here.now }
     requires far { length far.now ≡ length here.now }
-    requires out { length out.old ≡ length here.now }
-    ensures { (i : ℕ) → i < length here.now → slice_index out.new i ≡ run_flags least here.now up.now far.now i }
+    requires out { count ≤ length out.old }
+    ensures { (i : ℕ) → i < count → slice_index out.new i ≡ run_flags least here.now up.now far.now i }
 {
-    if are_quiet(here, up, far, least) {
-        put_zeros(out);
-        return;
-    }
-    let last = here.len() - 1;
-    for i in 0..last {
+    for i in 0..count {
         out[i] = flags_of(
             sign(here[i], least),
             sign(here[i + 1], least),
@@ -126,6 +122,18 @@ fn flag_run(here: &[i64], up: &[i64], far: &[i64], least: i64, out: &mut [u8])
             sign(far[i], least),
         );
     }
+}
+
+/// Writes the flags of the points of a run with which a row ends.
+fn flag_run(here: &[i64], up: &[i64], far: &[i64], least: i64, out: &mut [u8])
+    requires some { 0 < length here.now }
+    requires up { length up.now ≡ length here.now }
+    requires far { length far.now ≡ length here.now }
+    requires out { length out.old ≡ length here.now }
+    ensures { (i : ℕ) → i < length here.now → slice_index out.new i ≡ run_flags least here.now up.now far.now i }
+{
+    let last = here.len() - 1;
+    flag_front(here, up, far, least, last, out);
     let end = sign(here[last], least);
     out[last] = flags_of(end, end, sign(up[last], least), sign(far[last], least));
 }
@@ -179,21 +187,32 @@ pub fn point_runs<'f>(field: &'f Field<'_>, rows: Rows, x: u32, y: u32, z: u32) 
     }
 }
 
-/// Writes the same from a place on.
+/// Writes the flags of a run of points from a place on, where zeros stand: of all but the last where the row goes on behind it,
+/// since the next brick has that one too.
 #[inline(always)]
 fn put_flags(here: &[i64], up: &[i64], far: &[i64], least: i64, start: usize, flags: &mut [u8])
-    requires some { 0 < length here.now }
+    requires room { start < length flags.old }
+    requires here { length here.now ≡ min 9 (length flags.old - start) }
     requires up { length up.now ≡ length here.now }
     requires far { length far.now ≡ length here.now }
-    requires flags { start + length here.now ≤ length flags.old }
-    ensures inside { (i : ℕ) → i < length here.now → slice_index flags.new (start + i) ≡ run_flags least here.now up.now far.now i }
+    requires zeros { AreZerosFrom start flags.old }
+    ensures inside { (i : ℕ) → i < length here.now → (start + 9 < length flags.old → i < 8)
+        → slice_index flags.new (start + i) ≡ run_flags least here.now up.now far.now i }
     ensures before { (k : ℕ) → k < start → slice_index flags.new k ≡ slice_index flags.old k }
-    ensures behind { (k : ℕ) → start + length here.now ≤ k → slice_index flags.new k ≡ slice_index flags.old k }
+    ensures behind { start + 9 < length flags.old → (k : ℕ) → start + 8 ≤ k → slice_index flags.new k ≡ slice_index flags.old k }
 {
-    flag_run(here, up, far, least, &mut flags[start..start + here.len()]);
+    if are_quiet(here, up, far, least) {
+        return;
+    }
+    if flags.len() - start > 9 {
+        flag_front(here, up, far, least, 8, &mut flags[start..start + 8]);
+    } else {
+        flag_run(here, up, far, least, &mut flags[start..]);
+    }
 }
 
-/// Writes the flags of the points of a row that an active brick holds: those from 8 * x on.
+/// Writes the flags of the points of a row that an active brick holds: those from 8 * x on, where zeros stand.
+#[inline(always)]
 fn active_flags(field: &Field, rows: Rows, x: u32, y: u32, z: u32, flags: &mut [u8])
     requires x { 8 * x + 1 < field.now.grid.nx }
     requires y { y < field.now.grid.ny }
@@ -201,9 +220,9 @@ fn active_flags(field: &Field, rows: Rows, x: u32, y: u32, z: u32, flags: &mut [
     requires rows { HoldRows field.now.grid y z rows }
     requires flags { length flags.old ≡ field.now.grid.nx }
     requires before { AreFlagsTo field.now y z (8 * x) flags.old }
-    requires zeros { AreZerosFrom (8 * x + 1) flags.old }
+    requires zeros { AreZerosFrom (8 * x) flags.old }
     ensures flags { HasMoreFlags field.now y z (8 * x + 8) flags.new }
-    ensures zeros { AreZerosFrom (8 * x + 9) flags.new }
+    ensures zeros { 8 * x + 9 < field.now.grid.nx → AreZerosFrom (8 * x + 8) flags.new }
 {
     let _ = field.sizes();
     let runs = point_runs(field, rows, x, y, z);
@@ -219,34 +238,9 @@ fn put_zeros(flags: &mut [u8])
     flags.fill(0);
 }
 
-/// Writes 0 at a place.
+/// Writes the flags of the points of a row that a brick holds: those from 8 * x on, where zeros stand. From the points of a brick
+/// that is not active no crossing edge begins, so that the zeros are left.
 #[inline(always)]
-fn put_zero(at: usize, flags: &mut [u8])
-    requires { at < length flags.old }
-    ensures { flags.new ≡ slice_set flags.old at 0 }
-{
-    flags[at] = 0;
-}
-
-/// Writes the flags of the points of a row that a brick holds which is not active: those from 8 * x on. Zeros stand behind the
-/// first of them.
-fn quiet_flags(field: &Field, row: BrickRow, x: u32, y: u32, z: u32, flags: &mut [u8])
-    requires x { 8 * x + 1 < field.now.grid.nx }
-    requires y { y < field.now.grid.ny }
-    requires z { z < field.now.grid.nz }
-    requires row { HoldRow field.now.grid y z row }
-    requires still { IsStill field.now (row.first + x) }
-    requires flags { length flags.old ≡ field.now.grid.nx }
-    requires before { AreFlagsTo field.now y z (8 * x) flags.old }
-    requires zeros { AreZerosFrom (8 * x + 1) flags.old }
-    ensures flags { HasMoreFlags field.now y z (8 * x + 8) flags.new }
-    ensures zeros { AreZerosFrom (8 * x + 9) flags.new }
-{
-    let _ = field.sizes();
-    put_zero(8 * x as usize, flags);
-}
-
-/// Writes the flags of the points of a row that a brick holds: those from 8 * x on.
 fn brick_flags(
     field: &Field,
     active: &ActiveRow,
@@ -264,15 +258,13 @@ fn brick_flags(
     requires rows { HoldRows field.now.grid y z rows }
     requires flags { length flags.old ≡ field.now.grid.nx }
     requires before { AreFlagsTo field.now y z (8 * x) flags.old }
-    requires zeros { AreZerosFrom (8 * x + 1) flags.old }
+    requires zeros { AreZerosFrom (8 * x) flags.old }
     ensures flags { HasMoreFlags field.now y z (8 * x + 8) flags.new }
-    ensures zeros { AreZerosFrom (8 * x + 9) flags.new }
+    ensures zeros { 8 * x + 9 < field.now.grid.nx → AreZerosFrom (8 * x + 8) flags.new }
 {
     let _ = field.sizes();
     if active.is_active(x) {
         active_flags(field, rows, x, y, z, flags);
-    } else {
-        quiet_flags(field, rows.here, x, y, z, flags);
     }
 }
 

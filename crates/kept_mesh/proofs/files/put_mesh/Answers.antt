@@ -4,7 +4,8 @@ use Rattle.iso_base.specs.Shifted.{field}
 use Rattle.stitch_rows.specs.Named.{NamesCases, asked_among}
 use Rattle.kept_mesh.specs.Kept.{Kept, named_by}
 use Rattle.kept_mesh.specs.Texts.{scratch_text}
-use Rattle.kept_mesh.proofs.Waits.{asked_wait, names_cases}
+use Rattle.kept_mesh.proofs.Names.{names_cases}
+use Rattle.kept_mesh.proofs.Waits.{asked_wait}
 use Rattle.kept_mesh.proofs.files.put_mesh.Goals as goal
 
 pub write_ply-requires-clause-named : goal.write_ply-requires-clause-named

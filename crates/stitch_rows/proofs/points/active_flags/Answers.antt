@@ -5,6 +5,15 @@ use Rattle.iso_base.specs.Shifted.{is_above_level}
 use Rattle.stitch_rows.proofs.FlagRows.{flags_more}
 use Rattle.stitch_rows.proofs.points.active_flags.Goals as goal
 
+pub put_flags-requires-clause-here : goal.put_flags-requires-clause-here
+put_flags-requires-clause-here c = omega (arith, c.point_runs-runs.ensures.here.count, c.requires.flags)
+
+pub put_flags-requires-clause-up : goal.put_flags-requires-clause-up
+put_flags-requires-clause-up c = omega (arith, c.point_runs-runs.ensures.here.count, c.point_runs-runs.ensures.up.count)
+
+pub put_flags-requires-clause-far : goal.put_flags-requires-clause-far
+put_flags-requires-clause-far c = omega (arith, c.point_runs-runs.ensures.here.count, c.point_runs-runs.ensures.far.count)
+
 pub returns-clause-flags : goal.returns-clause-flags
 returns-clause-flags c =
     let v = c.args.field.now in
@@ -15,8 +24,8 @@ returns-clause-flags c =
     (to_z w64 (of_z w64 least)) runs.here.now runs.up.now runs.far.now c.args.flags.now c.put_flags.new.flags c.requires.x refl
     c.point_runs-runs.ensures.here c.point_runs-runs.ensures.up c.point_runs-runs.ensures.far
     (λ s. ap (λ l. int_le l s) e ∙ (c.least_above-least.ensures s ∙ ap (is_above_level s) c.level.ensures))
-    c.put_flags.ensures.inside c.put_flags.ensures.before c.requires.before
+    (λ i low near. c.put_flags.ensures.inside i low (λ wider. near (omega (arith, wider, c.requires.flags)))) c.put_flags.ensures.before c.requires.before
 
 pub returns-clause-zeros : goal.returns-clause-zeros
-returns-clause-zeros c = λ k from low.
-    c.put_flags.ensures.behind k (omega (arith, from, c.point_runs-runs.ensures.here.count)) ∙ c.requires.zeros k (omega (arith, from)) (omega (arith, low))
+returns-clause-zeros c = λ wider k from low.
+    c.put_flags.ensures.behind (omega (arith, wider, c.requires.flags)) k (omega (arith, from)) ∙ c.requires.zeros k (omega (arith, from)) (omega (arith, low))

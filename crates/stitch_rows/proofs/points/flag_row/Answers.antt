@@ -7,7 +7,7 @@ use Rattle.stitch_rows.proofs.points.flag_row.Goals as goal
 pub loop-x-init : goal.loop-x-init
 loop-x-init c = record {
   flags = record { first = λ k in_row low. absurd (omega arith); all = λ last. absurd (omega (arith, last, c.requires.y, c.sizes-sizes.ensures.leveled.grid.x.least)) };
-  zeros = λ k from low. c.put_zeros.ensures k (omega arith) low;
+  zeros = λ wide k from low. c.put_zeros.ensures k (omega arith) low;
 }
 
 pub loop-x-preserved : goal.loop-x-preserved
@@ -15,8 +15,11 @@ loop-x-preserved c =
     let next : 8 * c.loop-x.x + 8 ≡ 8 * (c.loop-x.x + 1) = omega arith in
     record {
       flags = subst (λ n. HasMoreFlags c.args.field.now c.args.y c.args.z n c.brick_flags.new.flags) next c.brick_flags.ensures.flags;
-      zeros = λ k from low. c.brick_flags.ensures.zeros k (omega (arith, from)) low;
+      zeros = λ wide k from low. c.brick_flags.ensures.zeros (omega (arith, wide)) k (omega (arith, from)) low;
     }
+
+pub brick_flags-requires-clause-zeros : goal.brick_flags-requires-clause-zeros
+brick_flags-requires-clause-zeros c = c.loop-x.invariant.zeros (omega (arith, c.loop-x-test.true, c.count_along-x-end.ensures.value, c.nx.ensures.value, ap (λ (g : Grid). g.nx) c.sizes-sizes.ensures.value))
 
 pub returns-clause-each : goal.returns-clause-each
 returns-clause-each c =

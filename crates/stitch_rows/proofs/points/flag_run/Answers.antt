@@ -1,32 +1,9 @@
-use Rattle.std.proofs.Common.{◌≡◌, ℕ, ◌+◌, ◌-◌, ◌∙◌, rules, ℤ, pos, w64, to_z, of_z, get_or, length, ap, ap₂, subst, sym, arith}
+use Rattle.std.proofs.Common.{◌≡◌, ℕ, ◌-◌, ◌∙◌, rules, ℤ, pos, w64, to_z, of_z, get_or, length, ap₂, subst, arith}
 use Rattle.std.proofs.lemmas.Int.{to_z-of_z}
 use Rattle.corner_signs.specs.Rows.{bit_from}
 use Rattle.stitch_rows.specs.Rows.{run_flags}
-use Rattle.stitch_rows.proofs.RunFlags.{inner_flags, last_flags, written_more}
+use Rattle.stitch_rows.proofs.RunFlags.{last_flags, written_more}
 use Rattle.stitch_rows.proofs.points.flag_run.Goals as goal
-
-pub returns-then-are_quiet : goal.returns-then-are_quiet
-returns-then-are_quiet c = λ i low.
-    let e : to_z w64 (of_z w64 c.args.least) ≡ c.args.least = search (rules, to_z-of_z) in
-    let quiet = subst (λ (l : ℤ). run_flags l c.args.here.now c.args.up.now c.args.far.now i ≡ 0) e (c.are_quiet.ensures c.if-are_quiet.true i low) in
-    c.put_zeros.ensures i (omega arith) (omega (arith, low, c.requires.out, c.put_zeros.auto.flags)) ∙ sym quiet
-
-pub loop-i-preserved : goal.loop-i-preserved
-loop-i-preserved c =
-    let i = c.loop-i.i in
-    let here = c.args.here.now in
-    let up = c.args.up.now in
-    let far = c.args.far.now in
-    let least : ℤ = to_z w64 (of_z w64 c.args.least) in
-    let ea : to_z w64 (of_z w64 (get_or here i (pos 0))) ≡ get_or here i (pos 0) = search (rules, to_z-of_z) in
-    let eb : to_z w64 (of_z w64 (get_or here (i + 1) (pos 0))) ≡ get_or here (i + 1) (pos 0) = search (rules, to_z-of_z) in
-    let ec : to_z w64 (of_z w64 (get_or up i (pos 0))) ≡ get_or up i (pos 0) = search (rules, to_z-of_z) in
-    let ed : to_z w64 (of_z w64 (get_or far i (pos 0))) ≡ get_or far i (pos 0) = search (rules, to_z-of_z) in
-    written_more (run_flags least here up far) c.loop-i.out i c.flags_of.result (omega arith)
-    (inner_flags least here up far i c.flags_of.result c.sign.result c.sign-in-loop-i.result c.sign-in-loop-i-2.result c.sign-in-loop-i-3.result c.flags_of.ensures
-    (c.sign.ensures ∙ ap (bit_from least) ea) (c.sign-in-loop-i-2.ensures ∙ ap (bit_from least) ec) (c.sign-in-loop-i-3.ensures ∙ ap (bit_from least) ed)
-    (omega arith) (c.sign-in-loop-i.ensures ∙ ap (bit_from least) eb))
-    c.loop-i.invariant
 
 pub returns : goal.returns
 returns c = λ k low.
@@ -34,13 +11,12 @@ returns c = λ k low.
     let up = c.args.up.now in
     let far = c.args.far.now in
     let i : ℕ = length here - 1 in
-    let end : c.loop-i.i ≡ i = omega arith in
     let e : to_z w64 (of_z w64 c.args.least) ≡ c.args.least = search (rules, to_z-of_z) in
     let ea : to_z w64 (of_z w64 (get_or here i (pos 0))) ≡ get_or here i (pos 0) = search (rules, to_z-of_z) in
     let ec : to_z w64 (of_z w64 (get_or up i (pos 0))) ≡ get_or up i (pos 0) = search (rules, to_z-of_z) in
     let ed : to_z w64 (of_z w64 (get_or far i (pos 0))) ≡ get_or far i (pos 0) = search (rules, to_z-of_z) in
-    written_more (run_flags c.args.least here up far) c.loop-i.out i c.flags_of-2.result (omega arith)
-    (last_flags c.args.least here up far i c.flags_of-2.result c.sign-end.result c.sign-end.result c.sign-2.result c.sign-3.result c.flags_of-2.ensures
-    (c.sign-end.ensures ∙ ap₂ bit_from e ea) (c.sign-2.ensures ∙ ap₂ bit_from e ec) (c.sign-3.ensures ∙ ap₂ bit_from e ed)
+    written_more (run_flags c.args.least here up far) c.flag_front.new.out i c.flags_of.result (omega (arith, c.flag_front.auto.out))
+    (last_flags c.args.least here up far i c.flags_of.result c.sign-end.result c.sign-end.result c.sign.result c.sign-2.result c.flags_of.ensures
+    (c.sign-end.ensures ∙ ap₂ bit_from e ea) (c.sign.ensures ∙ ap₂ bit_from e ec) (c.sign-2.ensures ∙ ap₂ bit_from e ed)
     (omega arith) (c.sign-end.ensures ∙ ap₂ bit_from e ea))
-    (λ k h. subst (λ (s : ℤ). get_or c.loop-i.out k 0 ≡ run_flags s here up far k) e (c.loop-i.invariant k (omega arith))) k (omega arith)
+    (λ k h. subst (λ (s : ℤ). get_or c.flag_front.new.out k 0 ≡ run_flags s here up far k) e (c.flag_front.ensures k (omega arith))) k (omega arith)

@@ -6,4 +6,4 @@ pub invariant_of-result : goal.invariant_of-result
 invariant_of-result c =
     let v = c.args.store.now in
     let none = c.no_planes.ensures in
-    (c.requires, λ k d low. none_plane v c.args.level _ c.sizes.ensures.volume.grid (none.brick k d (omega (arith, low, none.long))) (none.narrow k d (omega (arith, low, none.long))))
+    (c.requires, λ k d low. none_plane v c.args.level c.args.cache.now.items _ c.sizes.ensures.volume.grid (none.brick k d (omega (arith, low, none.long))) (none.narrow k d (omega (arith, low, none.long))))

@@ -1,4 +1,4 @@
-use Rattle.std.proofs.Common.{◌≡◌, ◌+◌, ◌-◌, ◌*◌, ◌≤◌, ◌<◌, ◌∙◌, ap, subst, sym, arith}
+use Rattle.std.proofs.Common.{◌≡◌, ◌-◌, ◌*◌, ◌≤◌, ◌∙◌, ap, subst, arith}
 use Rattle.iso_defs.specs.Bricks.{bricks_along}
 use Rattle.iso_defs.specs.Grid.{Grid}
 use Rattle.stitch_rows.specs.Bricks.{AreMarkedTo, first_brick}

@@ -1,6 +1,6 @@
 use Rattle.std.proofs.Common.{◌≡◌, ℕ, ◌<◌, get_or}
 use Rattle.stitch_rows.specs.Rows.{run_flags}
-use Rattle.stitch_rows.proofs.points.flag_run.Given as goal
+use Rattle.stitch_rows.proofs.points.flag_front.Given as goal
 
 abbrev pub invariant-loop-i : goal.invariant-loop-i
 invariant-loop-i l = (k : ℕ) → k < l.i → get_or l.out k 0 ≡ run_flags l.least l.here l.up l.far k
