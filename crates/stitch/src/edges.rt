@@ -143,7 +143,14 @@ fn put_if_crossing<H: Heights>(
 }
 
 /// Puts the lines of the vertices on the edges that begin at a point behind the others.
-pub fn put_point<H: Heights>(field: &H, style: Style, point: Point, flags: u8, ends: Ends, block: &mut Block)
+pub fn put_point<H: Heights>(
+    field: &H,
+    style: Style,
+    point: Point,
+    flags: u8,
+    ends: Ends,
+    block: &mut Block,
+)
     requires point { IsPoint (H.leveled field.now).grid point }
     requires flags { flags ≡ flags_at (H.leveled field.now).grid (heights (H.leveled field.now)) (index_of (H.leveled field.now).grid point) }
     requires ends { AreEnds (H.leveled field.now) point.x point.y point.z ends }
