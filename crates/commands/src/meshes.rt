@@ -1,39 +1,34 @@
 //! The mesh of a volume, from scratch.
 
-ghost use Rattle.std.specs.Prelude.{◌≡◌, [], ℤ, is_some, IfOk, IfSome};
-ghost use Rattle.iso_base.specs.Shifted.{field};
+ghost use Rattle.std.specs.Prelude.{◌≡◌, ℤ, is_some, IfOk, IfSome};
 ghost use Rattle.iso_base.specs.Volume.{Volume};
 ghost use Rattle.iso_base.specs.Samples.{IsSample};
 ghost use Rattle.iso_io.specs.Seen.{Puts};
-ghost use Rattle.flat_mesh.specs.Mesh.{mesh_of};
 ghost use Rattle.commands.specs.Meaning.{mesh_given, mesh_text};
 ghost use Rattle.commands.specs.Headline.{ShowsMesh};
 ghost use Rattle.commands.specs.Outcome.{Converts, streams_between};
 
 use crate::volumes::volume_of_input;
 use bench_core::watertight;
+use crossing_edges::{Numbers, SampleList};
 use endings::Answer;
-use flat_mesh::{Mesh, extract_flat};
 use iso_base::{Level, Written};
 use iso_io::{Failed, Sink, Source};
+use list_stitch::{ListMesh, Style};
 use mesh_text::TwoWayFormat;
-use mesh_write::{STAGE, put_mesh_as};
 use std::alloc::Global;
 use voxel_list::VoxelList;
 
 /// Appends the text of a volume's mesh.
-fn put_text<K: Sink>(
+fn put_text<S: SampleList, K: Sink>(
     sink: &mut K,
-    waiting: &mut Vec<u8>,
-    mesh: &Mesh,
-    padded: bool,
-    format: TwoWayFormat,
+    mesh: &ListMesh<'_, S>,
+    style: Style,
 ) -> Result<Written, Failed>
-    requires { waiting.old.items ≡ [] }
-    ensures { (v : Volume) (level : ℤ) → padded ≡ is_some v.pad → mesh.now ≡ mesh_of v.grid (field v.samples level)
-        → Puts (K.seen sink.old) (K.seen sink.new) result (mesh_text format level v) }
+    ensures { (v : Volume) (level : ℤ) → style.padded ≡ is_some v.pad → mesh.now ≡ record { grid = v.grid; samples = v.samples; level = level }
+        → Puts (K.seen sink.old) (K.seen sink.new) result (mesh_text style.format level v) }
 {
-    put_mesh_as(sink, waiting, mesh, format, padded)
+    mesh.write(style, sink)
 }
 
 fn is_padded(volume: &VoxelList) -> bool
@@ -42,7 +37,7 @@ fn is_padded(volume: &VoxelList) -> bool
     volume.pad().is_some()
 }
 
-/// Writes the mesh of a volume. The samples are let go before it is written.
+/// Writes the mesh of a volume, which is never held.
 pub fn extract<S: Source, K: Sink>(
     alloc: Global,
     level: Level,
@@ -60,16 +55,14 @@ pub fn extract<S: Source, K: Sink>(
         Err(answer) => return answer,
     };
     let padded = is_padded(&volume);
-    let extracted = extract_flat(alloc, &volume, level);
     watertight(&volume, level);
-    drop(volume);
-    let Ok(mesh) = extracted else {
+    let samples = Numbers {
+        numbers: volume.samples(),
+    };
+    let Ok(mesh) = ListMesh::of(alloc, volume.sizes(), &samples, level) else {
         return Answer::Memory;
     };
-    let Ok(mut waiting) = Vec::with_capacity(alloc, STAGE) else {
-        return Answer::Memory;
-    };
-    match put_text(output, &mut waiting, &mesh, padded, format) {
+    match put_text(output, &mesh, Style { format, padded }) {
         Ok(_) => Answer::Done,
         Err(Failed) => Answer::OutputFault,
     }

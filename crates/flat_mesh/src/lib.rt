@@ -7,13 +7,18 @@ mod centres;
 mod corners;
 mod extract;
 mod faces;
+mod heights;
 mod lattice;
 mod mesh;
 mod ranks;
 mod rows;
 mod slices;
 
+pub use cases::cell_case;
 pub use centres::Cell;
+pub use corners::corner_indices;
 pub use extract::extract_flat;
+pub use heights::Heights;
 pub use mesh::{Mesh, VertexName};
 pub use ranks::{cell_numbers, rank_points};
+pub use rows::cell_row;

@@ -22,7 +22,7 @@ use crate::walk::{have_no_loops, next_cases};
 use case_table::CaseRow;
 use cell_loops::{centre_count, loop_count, loop_edges};
 use edge_points::{RowRanks, place, rounded_mean, x_in_cell, y_in_cell, z_in_cell};
-use flat_mesh::Cell;
+use flat_mesh::{Cell, Heights};
 use iso_base::{Point, Steps};
 use iso_io::{Failed, Sink};
 use std::sync::ledger::Ledger;
@@ -36,13 +36,13 @@ const UPPER: [u8; 12] = [1, 3, 5, 7, 2, 3, 6, 7, 4, 5, 6, 7];
 
 /// The place on a crossing edge of a cell, from the shifted values of its corners.
 #[inline(always)]
-fn edge_place(field: &Field, cell: Cell, corners: &[i64; 8], edge: u8) -> u16
-    requires cell { IsCellAt field.now.grid cell }
-    requires corners { corners.now ≡ values_at field.now cell.index }
+fn edge_place<H: Heights>(field: &H, cell: Cell, corners: &[i64; 8], edge: u8) -> u16
+    requires cell { IsCellAt (H.leveled field.now).grid cell }
+    requires corners { corners.now ≡ values_at (H.leveled field.now) cell.index }
     requires small { All (λ v. unsigned_abs v < 2 ^ 44) corners.now }
     requires edge { edge < 12 }
-    requires crossing { crosses (cell_signs field.now.grid (heights field.now) cell.index) edge ≡ true }
-    ensures value { result ≡ cell_place field.now cell.index edge }
+    requires crossing { crosses (cell_signs (H.leveled field.now).grid (heights (H.leveled field.now)) cell.index) edge ≡ true }
+    ensures value { result ≡ cell_place (H.leveled field.now) cell.index edge }
     ensures bound { result ≤ 1000 }
 {
     let _ = field;
@@ -53,15 +53,15 @@ fn edge_place(field: &Field, cell: Cell, corners: &[i64; 8], edge: u8) -> u16
 }
 
 /// The centre of a loop, relative to its cell.
-fn local_centre(field: &Field, cell: Cell, corners: &[i64; 8], edges: &[u8]) -> [u32; 3]
-    requires cell { IsCellAt field.now.grid cell }
-    requires corners { corners.now ≡ values_at field.now cell.index }
+fn local_centre<H: Heights>(field: &H, cell: Cell, corners: &[i64; 8], edges: &[u8]) -> [u32; 3]
+    requires cell { IsCellAt (H.leveled field.now).grid cell }
+    requires corners { corners.now ≡ values_at (H.leveled field.now) cell.index }
     requires small { All (λ v. unsigned_abs v < 2 ^ 44) corners.now }
     requires edges { IsLoop edges.now }
-    requires crossing { AllCross field.now cell.index edges.now }
-    ensures x { slice_index result 0 ≡ local_mean (cell_place field.now cell.index) 0 edges.now }
-    ensures y { slice_index result 1 ≡ local_mean (cell_place field.now cell.index) 1 edges.now }
-    ensures z { slice_index result 2 ≡ local_mean (cell_place field.now cell.index) 2 edges.now }
+    requires crossing { AllCross (H.leveled field.now) cell.index edges.now }
+    ensures x { slice_index result 0 ≡ local_mean (cell_place (H.leveled field.now) cell.index) 0 edges.now }
+    ensures y { slice_index result 1 ≡ local_mean (cell_place (H.leveled field.now) cell.index) 1 edges.now }
+    ensures z { slice_index result 2 ≡ local_mean (cell_place (H.leveled field.now) cell.index) 2 edges.now }
     ensures bound { All (λ c. c ≤ 1000) result }
 {
     let mut x = 0;
@@ -82,21 +82,21 @@ fn local_centre(field: &Field, cell: Cell, corners: &[i64; 8], edges: &[u8]) -> 
 }
 
 /// Puts the line of the centre of a loop behind the others.
-fn put_centre(
-    field: &Field,
+fn put_centre<H: Heights>(
+    field: &H,
     style: Style,
     cell: Cell,
     corners: &[i64; 8],
     edges: &[u8],
     block: &mut Block,
 )
-    requires cell { IsCellAt field.now.grid cell }
-    requires corners { corners.now ≡ values_at field.now cell.index }
+    requires cell { IsCellAt (H.leveled field.now).grid cell }
+    requires corners { corners.now ≡ values_at (H.leveled field.now) cell.index }
     requires small { All (λ v. unsigned_abs v < 2 ^ 44) corners.now }
     requires edges { IsLoop edges.now }
-    requires crossing { AllCross field.now cell.index edges.now }
+    requires crossing { AllCross (H.leveled field.now) cell.index edges.now }
     requires room { block.old.page + 64 ≤ 4096 }
-    ensures put { (n : ℕ) → IsBehind block.old block.new (centre_line style field.now cell.index edges.now n) }
+    ensures put { (n : ℕ) → IsBehind block.old block.new (centre_line style (H.leveled field.now) cell.index edges.now n) }
     ensures few { block.new.page ≤ block.old.page + 64 }
     ensures bytes { block.new.total ≤ block.old.total + 64 }
 {
@@ -111,8 +111,8 @@ fn put_centre(
 }
 
 /// Puts the line of the centre of the loop of that turn behind the others, if it has one.
-fn put_if_centre(
-    field: &Field,
+fn put_if_centre<H: Heights>(
+    field: &H,
     style: Style,
     cell: Cell,
     corners: &[i64; 8],
@@ -120,13 +120,13 @@ fn put_if_centre(
     edges: &[u8],
     block: &mut Block,
 )
-    requires cell { IsCellAt field.now.grid cell }
-    requires corners { corners.now ≡ values_at field.now cell.index }
+    requires cell { IsCellAt (H.leveled field.now).grid cell }
+    requires corners { corners.now ≡ values_at (H.leveled field.now) cell.index }
     requires small { All (λ v. unsigned_abs v < 2 ^ 44) corners.now }
     requires edges { IsLoop edges.now }
-    requires crossing { AllCross field.now cell.index edges.now }
+    requires crossing { AllCross (H.leveled field.now) cell.index edges.now }
     requires room { block.old.page + 64 ≤ 4096 }
-    ensures put { IsBehind block.old block.new (loop_lines style.format style.padded (loop_centre field.now cell.index turn edges.now)) }
+    ensures put { IsBehind block.old block.new (loop_lines style.format style.padded (loop_centre (H.leveled field.now) cell.index turn edges.now)) }
     ensures few { block.new.page ≤ block.old.page + 64 }
     ensures bytes { block.new.total ≤ block.old.total + 64 }
 {
@@ -137,20 +137,20 @@ fn put_if_centre(
 }
 
 /// Puts the lines of the centres of a cell behind the others.
-fn put_centres(
-    field: &Field,
+fn put_centres<H: Heights>(
+    field: &H,
     style: Style,
     cell: Cell,
     corners: &[i64; 8],
     case: CaseRow,
     block: &mut Block,
 )
-    requires cell { IsCellAt field.now.grid cell }
-    requires corners { corners.now ≡ values_at field.now cell.index }
+    requires cell { IsCellAt (H.leveled field.now).grid cell }
+    requires corners { corners.now ≡ values_at (H.leveled field.now) cell.index }
     requires small { All (λ v. unsigned_abs v < 2 ^ 44) corners.now }
-    requires loops { row_loops case ≡ loops_at field.now cell.index }
+    requires loops { row_loops case ≡ loops_at (H.leveled field.now) cell.index }
     requires room { block.old.page + 256 ≤ 4096 }
-    ensures put { IsBehind block.old block.new (loop_lines style.format style.padded (loop_centres field.now cell.index 0 (row_loops case))) }
+    ensures put { IsBehind block.old block.new (loop_lines style.format style.padded (loop_centres (H.leveled field.now) cell.index 0 (row_loops case))) }
     ensures bytes { block.new.total ≤ block.old.total + 256 }
 {
     for turn in 0..loop_count(case) {
@@ -160,17 +160,17 @@ fn put_centres(
 }
 
 /// Puts the lines of the centres of a cell behind the others, and first makes room for them.
-fn write_cell<K: Sink>(
-    field: &Field,
+fn write_cell<H: Heights, K: Sink>(
+    field: &H,
     style: Style,
     cell: Cell,
     case: u16,
     block: &mut Block,
     sink: &mut K,
 ) -> Result<(), Failed>
-    requires cell { IsCellAt field.now.grid cell }
-    requires case { IsCaseOf field.now cell.index case }
-    ensures adds { Adds (K.seen sink.old) (K.seen sink.new) block.old block.new result (centres_text style.format style.padded field.now cell.index 1) }
+    requires cell { IsCellAt (H.leveled field.now).grid cell }
+    requires case { IsCaseOf (H.leveled field.now) cell.index case }
+    ensures adds { Adds (K.seen sink.old) (K.seen sink.new) block.old block.new result (centres_text style.format style.padded (H.leveled field.now) cell.index 1) }
     ensures bytes { IfOk result (λ _. block.new.total ≤ block.old.total + 256) }
 {
     let case = CaseRow::of(case);
@@ -185,8 +185,8 @@ fn write_cell<K: Sink>(
 
 /// Puts the lines of the centres of the cells of a row from a place to before an end behind the others.
 #[inline(always)]
-fn write_run<K: Sink>(
-    field: &Field,
+fn write_run<H: Heights, K: Sink>(
+    field: &H,
     style: Style,
     row: u32,
     y: u32,
@@ -197,16 +197,16 @@ fn write_run<K: Sink>(
     block: &mut Block,
     sink: &mut K,
 ) -> Result<(), Failed>
-    requires row { row < row_count field.now.grid }
-    requires y { y ≡ row % field.now.grid.ny }
-    requires z { z ≡ row / field.now.grid.ny }
-    requires place { y + field.now.grid.ny * z ≡ row }
+    requires row { row < row_count (H.leveled field.now).grid }
+    requires y { y ≡ row % (H.leveled field.now).grid.ny }
+    requires z { z ≡ row / (H.leveled field.now).grid.ny }
+    requires place { y + (H.leveled field.now).grid.ny * z ≡ row }
     requires from { from ≤ end }
-    requires end { end < field.now.grid.nx }
-    requires count { length cases.now ≡ field.now.grid.nx }
-    requires cases { IsCaseRow field.now row cases.now }
+    requires end { end < (H.leveled field.now).grid.nx }
+    requires count { length cases.now ≡ (H.leveled field.now).grid.nx }
+    requires cases { IsCaseRow (H.leveled field.now) row cases.now }
     ensures adds { Adds (K.seen sink.old) (K.seen sink.new) block.old block.new result
-        (centres_text style.format style.padded field.now (field.now.grid.nx * row + from) (end - from)) }
+        (centres_text style.format style.padded (H.leveled field.now) ((H.leveled field.now).grid.nx * row + from) (end - from)) }
     ensures bytes { IfOk result (λ _. block.new.total ≤ block.old.total + 256 * (end - from)) }
 {
     if end - from == 8 && have_no_loops(cases, from as usize) {
@@ -225,19 +225,19 @@ fn write_run<K: Sink>(
 }
 
 /// Puts the lines of the centres of a row of cells behind the others, brick by brick.
-fn write_cells<K: Sink>(
-    field: &Field,
+pub fn write_cells<H: Heights, K: Sink>(
+    field: &H,
     style: Style,
     row: u32,
     cases: &[u16],
     block: &mut Block,
     sink: &mut K,
 ) -> Result<(), Failed>
-    requires row { row < row_count field.now.grid }
-    requires count { length cases.now ≡ field.now.grid.nx }
-    requires cases { IsCaseRow field.now row cases.now }
-    ensures adds { Adds (K.seen sink.old) (K.seen sink.new) block.old block.new result (row_centres_text style field.now row) }
-    ensures bytes { IfOk result (λ _. block.new.total ≤ block.old.total + 256 * field.now.grid.nx) }
+    requires row { row < row_count (H.leveled field.now).grid }
+    requires count { length cases.now ≡ (H.leveled field.now).grid.nx }
+    requires cases { IsCaseRow (H.leveled field.now) row cases.now }
+    ensures adds { Adds (K.seen sink.old) (K.seen sink.new) block.old block.new result (row_centres_text style (H.leveled field.now) row) }
+    ensures bytes { IfOk result (λ _. block.new.total ≤ block.old.total + 256 * (H.leveled field.now).grid.nx) }
 {
     let sizes = field.sizes();
     let (y, z) = row_at(&sizes, row);

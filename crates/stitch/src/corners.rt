@@ -14,7 +14,7 @@ ghost use Rattle.stitch.specs.Numbers.{AreRowRanks};
 
 use crate::ranks::{edges_before, row_at};
 use edge_points::RowRanks;
-use flat_mesh::{Cell, cell_numbers};
+use flat_mesh::{Cell, Heights, cell_numbers};
 use stitch_rows::{ActiveRow, Field, ROW, RankedRow, rank_row};
 
 /// The rows of points round a row of cells: its own, the next one along y, and the same two of the next slice. `up` and `both`
@@ -49,10 +49,10 @@ impl Corners {
 
 /// The numbers of the edges of a cell.
 #[inline(always)]
-pub fn edge_numbers(field: &Field, corners: &Corners, cell: Cell) -> [u32; 12]
-    requires cell { IsCellAt field.now.grid cell }
-    requires corners { AreCorners field.now cell.low.y cell.low.z corners.now }
-    ensures { AreNumbers field.now cell.index result }
+pub fn edge_numbers<H: Heights>(field: &H, corners: &Corners, cell: Cell) -> [u32; 12]
+    requires cell { IsCellAt (H.leveled field.now).grid cell }
+    requires corners { AreCorners (H.leveled field.now) cell.low.y cell.low.z corners.now }
+    ensures { AreNumbers (H.leveled field.now) cell.index result }
 {
     let _ = field.sizes();
     let x = cell.low.x as usize;

@@ -13,7 +13,7 @@ use crate::walk::{have_no_loops, next_cases};
 use case_table::CaseRow;
 use cell_loops::{centre_count, triangle_count};
 use edge_points::RowRanks;
-use flat_mesh::Cell;
+use flat_mesh::{Cell, Heights};
 use iso_base::{Point, Steps};
 use std::sync::ledger::Ledger;
 use stitch_rows::{ActiveRow, CellRows, Field, ROW, count_along};
@@ -27,11 +27,11 @@ pub struct Counts {
 
 /// Counts a cell.
 #[inline(always)]
-fn count_cell(field: &Field, cell: Cell, case: u16, counts: Counts) -> Counts
-    requires cell { IsCellAt field.now.grid cell }
-    requires case { IsCaseOf field.now cell.index case }
-    requires counts { AreCounts field.now cell.index counts }
-    ensures { AreCounts field.now (cell.index + 1) result }
+fn count_cell<H: Heights>(field: &H, cell: Cell, case: u16, counts: Counts) -> Counts
+    requires cell { IsCellAt (H.leveled field.now).grid cell }
+    requires case { IsCaseOf (H.leveled field.now) cell.index case }
+    requires counts { AreCounts (H.leveled field.now) cell.index counts }
+    ensures { AreCounts (H.leveled field.now) (cell.index + 1) result }
 {
     let _ = field.sizes();
     let case = CaseRow::of(case);
@@ -43,8 +43,8 @@ fn count_cell(field: &Field, cell: Cell, case: u16, counts: Counts) -> Counts
 
 /// Counts the cells of a row from a place to before an end.
 #[inline(always)]
-fn count_run(
-    field: &Field,
+fn count_run<H: Heights>(
+    field: &H,
     row: u32,
     y: u32,
     z: u32,
@@ -53,16 +53,16 @@ fn count_run(
     cases: &[u16],
     counts: Counts,
 ) -> Counts
-    requires row { row < row_count field.now.grid }
-    requires y { y ≡ row % field.now.grid.ny }
-    requires z { z ≡ row / field.now.grid.ny }
-    requires place { y + field.now.grid.ny * z ≡ row }
+    requires row { row < row_count (H.leveled field.now).grid }
+    requires y { y ≡ row % (H.leveled field.now).grid.ny }
+    requires z { z ≡ row / (H.leveled field.now).grid.ny }
+    requires place { y + (H.leveled field.now).grid.ny * z ≡ row }
     requires from { from ≤ end }
-    requires end { end < field.now.grid.nx }
-    requires count { length cases.now ≡ field.now.grid.nx }
-    requires cases { IsCaseRow field.now row cases.now }
-    requires counts { AreCounts field.now (field.now.grid.nx * row + from) counts }
-    ensures { AreCounts field.now (field.now.grid.nx * row + end) result }
+    requires end { end < (H.leveled field.now).grid.nx }
+    requires count { length cases.now ≡ (H.leveled field.now).grid.nx }
+    requires cases { IsCaseRow (H.leveled field.now) row cases.now }
+    requires counts { AreCounts (H.leveled field.now) ((H.leveled field.now).grid.nx * row + from) counts }
+    ensures { AreCounts (H.leveled field.now) ((H.leveled field.now).grid.nx * row + end) result }
 {
     if end - from == 8 && have_no_loops(cases, from as usize) {
         return counts;
@@ -81,12 +81,12 @@ fn count_run(
 }
 
 /// Counts the cells of a row, brick by brick.
-fn count_cells(field: &Field, row: u32, cases: &[u16], counts: Counts) -> Counts
-    requires row { row < row_count field.now.grid }
-    requires count { length cases.now ≡ field.now.grid.nx }
-    requires cases { IsCaseRow field.now row cases.now }
-    requires counts { AreCounts field.now (field.now.grid.nx * row) counts }
-    ensures { AreCounts field.now (field.now.grid.nx * (row + 1)) result }
+pub fn count_cells<H: Heights>(field: &H, row: u32, cases: &[u16], counts: Counts) -> Counts
+    requires row { row < row_count (H.leveled field.now).grid }
+    requires count { length cases.now ≡ (H.leveled field.now).grid.nx }
+    requires cases { IsCaseRow (H.leveled field.now) row cases.now }
+    requires counts { AreCounts (H.leveled field.now) ((H.leveled field.now).grid.nx * row) counts }
+    ensures { AreCounts (H.leveled field.now) ((H.leveled field.now).grid.nx * (row + 1)) result }
 {
     let sizes = field.sizes();
     let (y, z) = row_at(&sizes, row);

@@ -21,6 +21,7 @@ use crate::block::Block;
 use crate::ranks::{edges_before, row_at};
 use crate::style::Style;
 use edge_points::{RowRanks, place};
+use flat_mesh::Heights;
 use iso_base::Point;
 use iso_io::{Failed, Sink};
 use stitch_rows::{
@@ -86,8 +87,8 @@ fn ends_at(field: &Field, runs: &PointRuns<'_>, x: u32, y: u32, z: u32, k: usize
 
 /// Puts the line of the vertex on a crossing edge behind the others, from the shifted values at its ends.
 #[inline(always)]
-fn put_edge(
-    field: &Field,
+fn put_edge<H: Heights>(
+    field: &H,
     style: Style,
     point: Point,
     axis: u8,
@@ -96,14 +97,14 @@ fn put_edge(
     block: &mut Block,
 )
     requires axis { axis < 3 }
-    requires point { IsPoint field.now.grid point }
-    requires crossing { IsTrue (is_crossing field.now.grid (heights field.now) (3 * index_of field.now.grid point + axis)) }
-    requires low { low ≡ heights field.now (index_of field.now.grid point) }
-    requires high { high ≡ heights field.now (index_of field.now.grid (next_along axis point)) }
+    requires point { IsPoint (H.leveled field.now).grid point }
+    requires crossing { IsTrue (is_crossing (H.leveled field.now).grid (heights (H.leveled field.now)) (3 * index_of (H.leveled field.now).grid point + axis)) }
+    requires low { low ≡ heights (H.leveled field.now) (index_of (H.leveled field.now).grid point) }
+    requires high { high ≡ heights (H.leveled field.now) (index_of (H.leveled field.now).grid (next_along axis point)) }
     requires low_bound { unsigned_abs low < 2 ^ 44 }
     requires high_bound { unsigned_abs high < 2 ^ 44 }
     requires room { block.old.page + 64 ≤ 4096 }
-    ensures put { IsBehind block.old block.new (edge_line style.format style.padded field.now (3 * index_of field.now.grid point + axis)) }
+    ensures put { IsBehind block.old block.new (edge_line style.format style.padded (H.leveled field.now) (3 * index_of (H.leveled field.now).grid point + axis)) }
     ensures few { block.new.page ≤ block.old.page + 64 }
     ensures bytes { block.new.total ≤ block.old.total + 64 }
 {
@@ -114,8 +115,8 @@ fn put_edge(
 
 /// Puts the line of the vertex on an edge behind the others, if the edge is crossing.
 #[inline(always)]
-fn put_if_crossing(
-    field: &Field,
+fn put_if_crossing<H: Heights>(
+    field: &H,
     style: Style,
     point: Point,
     axis: u8,
@@ -125,14 +126,14 @@ fn put_if_crossing(
     block: &mut Block,
 )
     requires axis { axis < 3 }
-    requires point { IsPoint field.now.grid point }
-    requires known { crossing ≡ is_crossing field.now.grid (heights field.now) (3 * index_of field.now.grid point + axis) }
-    requires low { low ≡ heights field.now (index_of field.now.grid point) }
-    requires high { crossing ≡ true → high ≡ heights field.now (index_of field.now.grid (next_along axis point)) }
+    requires point { IsPoint (H.leveled field.now).grid point }
+    requires known { crossing ≡ is_crossing (H.leveled field.now).grid (heights (H.leveled field.now)) (3 * index_of (H.leveled field.now).grid point + axis) }
+    requires low { low ≡ heights (H.leveled field.now) (index_of (H.leveled field.now).grid point) }
+    requires high { crossing ≡ true → high ≡ heights (H.leveled field.now) (index_of (H.leveled field.now).grid (next_along axis point)) }
     requires low_bound { unsigned_abs low < 2 ^ 44 }
     requires high_bound { unsigned_abs high < 2 ^ 44 }
     requires room { block.old.page + 64 ≤ 4096 }
-    ensures put { IsBehind block.old block.new (edges_text style.format style.padded field.now (3 * index_of field.now.grid point + axis) 1) }
+    ensures put { IsBehind block.old block.new (edges_text style.format style.padded (H.leveled field.now) (3 * index_of (H.leveled field.now).grid point + axis) 1) }
     ensures few { block.new.page ≤ block.old.page + 64 }
     ensures bytes { block.new.total ≤ block.old.total + 64 }
 {
@@ -142,12 +143,19 @@ fn put_if_crossing(
 }
 
 /// Puts the lines of the vertices on the edges that begin at a point behind the others.
-fn put_point(field: &Field, style: Style, point: Point, flags: u8, ends: Ends, block: &mut Block)
-    requires point { IsPoint field.now.grid point }
-    requires flags { flags ≡ flags_at field.now.grid (heights field.now) (index_of field.now.grid point) }
-    requires ends { AreEnds field.now point.x point.y point.z ends }
+pub fn put_point<H: Heights>(
+    field: &H,
+    style: Style,
+    point: Point,
+    flags: u8,
+    ends: Ends,
+    block: &mut Block,
+)
+    requires point { IsPoint (H.leveled field.now).grid point }
+    requires flags { flags ≡ flags_at (H.leveled field.now).grid (heights (H.leveled field.now)) (index_of (H.leveled field.now).grid point) }
+    requires ends { AreEnds (H.leveled field.now) point.x point.y point.z ends }
     requires room { block.old.page + 192 ≤ 4096 }
-    ensures put { IsBehind block.old block.new (point_edges_text style field.now (index_of field.now.grid point)) }
+    ensures put { IsBehind block.old block.new (point_edges_text style (H.leveled field.now) (index_of (H.leveled field.now).grid point)) }
     ensures bytes { block.new.total ≤ block.old.total + 192 }
 {
     let (low, right, up, far) = (ends.here, ends.right, ends.up, ends.far);

@@ -23,7 +23,7 @@ use crate::walk::{have_no_loops, next_cases};
 use case_table::CaseRow;
 use cell_loops::{loop_count, loop_edges};
 use edge_points::RowRanks;
-use flat_mesh::Cell;
+use flat_mesh::{Cell, Heights};
 use iso_base::{Point, Steps};
 use iso_io::{Failed, Sink};
 use std::sync::ledger::Ledger;
@@ -122,8 +122,8 @@ fn put_loops(style: Style, numbers: &[u32; 12], case: CaseRow, first: u32, block
 
 /// Puts the lines of the triangles of a cell behind the others, where `next` is the number of its first centre, and gives that
 /// of the next cell's.
-fn write_cell<K: Sink>(
-    field: &Field,
+fn write_cell<H: Heights, K: Sink>(
+    field: &H,
     style: Style,
     corners: &Corners,
     total: u32,
@@ -133,13 +133,13 @@ fn write_cell<K: Sink>(
     block: &mut Block,
     sink: &mut K,
 ) -> Result<u32, Failed>
-    requires cell { IsCellAt field.now.grid cell }
-    requires case { IsCaseOf field.now cell.index case }
-    requires corners { AreCorners field.now cell.low.y cell.low.z corners.now }
-    requires total { total ≡ rank field.now.grid (heights field.now) (3 * (field.now.grid.nx * row_count field.now.grid)) }
-    requires next { HasNumber field.now total cell.index next }
-    ensures adds { Adds (K.seen sink.old) (K.seen sink.new) block.old block.new result (faces_text style.format field.now cell.index 1) }
-    ensures next { IfOk result (λ n. HasNumber field.now total (cell.index + 1) n) }
+    requires cell { IsCellAt (H.leveled field.now).grid cell }
+    requires case { IsCaseOf (H.leveled field.now) cell.index case }
+    requires corners { AreCorners (H.leveled field.now) cell.low.y cell.low.z corners.now }
+    requires total { total ≡ rank (H.leveled field.now).grid (heights (H.leveled field.now)) (3 * ((H.leveled field.now).grid.nx * row_count (H.leveled field.now).grid)) }
+    requires next { HasNumber (H.leveled field.now) total cell.index next }
+    ensures adds { Adds (K.seen sink.old) (K.seen sink.new) block.old block.new result (faces_text style.format (H.leveled field.now) cell.index 1) }
+    ensures next { IfOk result (λ n. HasNumber (H.leveled field.now) total (cell.index + 1) n) }
     ensures bytes { IfOk result (λ _. block.new.total ≤ block.old.total + 3072) }
 {
     let _ = field.sizes();
@@ -156,8 +156,8 @@ fn write_cell<K: Sink>(
 /// Puts the lines of the triangles of the cells of a row from a place to before an end behind the others, where `next` is the
 /// number of the first centre there, and gives that of the first one behind.
 #[inline(always)]
-fn write_run<K: Sink>(
-    field: &Field,
+fn write_run<H: Heights, K: Sink>(
+    field: &H,
     style: Style,
     corners: &Corners,
     total: u32,
@@ -171,20 +171,20 @@ fn write_run<K: Sink>(
     block: &mut Block,
     sink: &mut K,
 ) -> Result<u32, Failed>
-    requires row { row < row_count field.now.grid }
-    requires y { y ≡ row % field.now.grid.ny }
-    requires z { z ≡ row / field.now.grid.ny }
-    requires place { y + field.now.grid.ny * z ≡ row }
+    requires row { row < row_count (H.leveled field.now).grid }
+    requires y { y ≡ row % (H.leveled field.now).grid.ny }
+    requires z { z ≡ row / (H.leveled field.now).grid.ny }
+    requires place { y + (H.leveled field.now).grid.ny * z ≡ row }
     requires from { from ≤ end }
-    requires end { end < field.now.grid.nx }
-    requires count { length cases.now ≡ field.now.grid.nx }
-    requires cases { IsCaseRow field.now row cases.now }
-    requires corners { AreCorners field.now (row % field.now.grid.ny) (row / field.now.grid.ny) corners.now }
-    requires total { total ≡ rank field.now.grid (heights field.now) (3 * (field.now.grid.nx * row_count field.now.grid)) }
-    requires next { HasNumber field.now total (field.now.grid.nx * row + from) next }
+    requires end { end < (H.leveled field.now).grid.nx }
+    requires count { length cases.now ≡ (H.leveled field.now).grid.nx }
+    requires cases { IsCaseRow (H.leveled field.now) row cases.now }
+    requires corners { AreCorners (H.leveled field.now) (row % (H.leveled field.now).grid.ny) (row / (H.leveled field.now).grid.ny) corners.now }
+    requires total { total ≡ rank (H.leveled field.now).grid (heights (H.leveled field.now)) (3 * ((H.leveled field.now).grid.nx * row_count (H.leveled field.now).grid)) }
+    requires next { HasNumber (H.leveled field.now) total ((H.leveled field.now).grid.nx * row + from) next }
     ensures adds { Adds (K.seen sink.old) (K.seen sink.new) block.old block.new result
-        (faces_text style.format field.now (field.now.grid.nx * row + from) (end - from)) }
-    ensures next { IfOk result (λ n. HasNumber field.now total (field.now.grid.nx * row + end) n) }
+        (faces_text style.format (H.leveled field.now) ((H.leveled field.now).grid.nx * row + from) (end - from)) }
+    ensures next { IfOk result (λ n. HasNumber (H.leveled field.now) total ((H.leveled field.now).grid.nx * row + end) n) }
     ensures bytes { IfOk result (λ _. block.new.total ≤ block.old.total + 3072 * (end - from)) }
 {
     if end - from == 8 && have_no_loops(cases, from as usize) {
@@ -214,8 +214,8 @@ fn write_run<K: Sink>(
 }
 
 /// Puts the lines of the triangles of a row of cells behind the others, brick by brick.
-fn write_cells<K: Sink>(
-    field: &Field,
+pub fn write_cells<H: Heights, K: Sink>(
+    field: &H,
     style: Style,
     corners: &Corners,
     total: u32,
@@ -225,15 +225,15 @@ fn write_cells<K: Sink>(
     block: &mut Block,
     sink: &mut K,
 ) -> Result<u32, Failed>
-    requires row { row < row_count field.now.grid }
-    requires count { length cases.now ≡ field.now.grid.nx }
-    requires cases { IsCaseRow field.now row cases.now }
-    requires corners { AreCorners field.now (row % field.now.grid.ny) (row / field.now.grid.ny) corners.now }
-    requires total { total ≡ rank field.now.grid (heights field.now) (3 * (field.now.grid.nx * row_count field.now.grid)) }
-    requires next { HasNumber field.now total (field.now.grid.nx * row) next }
-    ensures adds { Adds (K.seen sink.old) (K.seen sink.new) block.old block.new result (row_faces_text style field.now row) }
-    ensures next { IfOk result (λ n. HasNumber field.now total (field.now.grid.nx * (row + 1)) n) }
-    ensures bytes { IfOk result (λ _. block.new.total ≤ block.old.total + 3072 * field.now.grid.nx) }
+    requires row { row < row_count (H.leveled field.now).grid }
+    requires count { length cases.now ≡ (H.leveled field.now).grid.nx }
+    requires cases { IsCaseRow (H.leveled field.now) row cases.now }
+    requires corners { AreCorners (H.leveled field.now) (row % (H.leveled field.now).grid.ny) (row / (H.leveled field.now).grid.ny) corners.now }
+    requires total { total ≡ rank (H.leveled field.now).grid (heights (H.leveled field.now)) (3 * ((H.leveled field.now).grid.nx * row_count (H.leveled field.now).grid)) }
+    requires next { HasNumber (H.leveled field.now) total ((H.leveled field.now).grid.nx * row) next }
+    ensures adds { Adds (K.seen sink.old) (K.seen sink.new) block.old block.new result (row_faces_text style (H.leveled field.now) row) }
+    ensures next { IfOk result (λ n. HasNumber (H.leveled field.now) total ((H.leveled field.now).grid.nx * (row + 1)) n) }
+    ensures bytes { IfOk result (λ _. block.new.total ≤ block.old.total + 3072 * (H.leveled field.now).grid.nx) }
 {
     let sizes = field.sizes();
     let (y, z) = row_at(&sizes, row);

@@ -9,6 +9,7 @@ ghost use Rattle.stitch.specs.Numbers.{AreQuiet, AreRowRanks, edges_to};
 
 use crossing_edges::count_all_edges;
 use edge_points::RowRanks;
+use flat_mesh::Heights;
 use iso_base::Sizes;
 use stitch_rows::{ActiveRow, Field, ROW, flag_row};
 
@@ -63,10 +64,10 @@ pub fn rank_rows(field: &Field, ranks: &mut RowRanks) -> u32
 }
 
 /// How many crossing edges begin in the rows before one.
-pub fn edges_before(field: &Field, ranks: &RowRanks, total: u32, row: u32) -> u32
-    requires ranks { AreRowRanks field.now ranks.now total }
-    requires row { row ≤ row_count field.now.grid }
-    ensures { result ≡ rank field.now.grid (heights field.now) (3 * (field.now.grid.nx * row)) }
+pub fn edges_before<H: Heights>(field: &H, ranks: &RowRanks, total: u32, row: u32) -> u32
+    requires ranks { AreRowRanks (H.leveled field.now) ranks.now total }
+    requires row { row ≤ row_count (H.leveled field.now).grid }
+    ensures { result ≡ rank (H.leveled field.now).grid (heights (H.leveled field.now)) (3 * ((H.leveled field.now).grid.nx * row)) }
 {
     let sizes = field.sizes();
     if row == sizes.ny() * sizes.nz() {
@@ -78,11 +79,11 @@ pub fn edges_before(field: &Field, ranks: &RowRanks, total: u32, row: u32) -> u3
 
 /// How many crossing edges begin in the rows before the one at these coordinates. Behind the last row of a slice stands the
 /// first one of the next slice.
-fn edges_to_row(field: &Field, ranks: &RowRanks, total: u32, y: u32, z: u32) -> u32
-    requires ranks { AreRowRanks field.now ranks.now total }
-    requires y { y ≤ field.now.grid.ny }
-    requires z { z < field.now.grid.nz }
-    ensures { result ≡ edges_to field.now (row_start field.now.grid y z) }
+fn edges_to_row<H: Heights>(field: &H, ranks: &RowRanks, total: u32, y: u32, z: u32) -> u32
+    requires ranks { AreRowRanks (H.leveled field.now) ranks.now total }
+    requires y { y ≤ (H.leveled field.now).grid.ny }
+    requires z { z < (H.leveled field.now).grid.nz }
+    ensures { result ≡ edges_to (H.leveled field.now) (row_start (H.leveled field.now).grid y z) }
 {
     let sizes = field.sizes();
     let (ny, nz) = (sizes.ny(), sizes.nz());
@@ -96,11 +97,11 @@ fn edges_to_row(field: &Field, ranks: &RowRanks, total: u32, y: u32, z: u32) -> 
 }
 
 /// Whether no crossing edge begins in the four rows of points of a row of cells: its cells have no loops then.
-pub fn is_quiet(field: &Field, ranks: &RowRanks, total: u32, y: u32, z: u32) -> bool
-    requires ranks { AreRowRanks field.now ranks.now total }
-    requires y { y + 1 < field.now.grid.ny }
-    requires z { z + 1 < field.now.grid.nz }
-    ensures { IsTrue result → AreQuiet field.now (row_start field.now.grid y z) field.now.grid.nx }
+pub fn is_quiet<H: Heights>(field: &H, ranks: &RowRanks, total: u32, y: u32, z: u32) -> bool
+    requires ranks { AreRowRanks (H.leveled field.now) ranks.now total }
+    requires y { y + 1 < (H.leveled field.now).grid.ny }
+    requires z { z + 1 < (H.leveled field.now).grid.nz }
+    ensures { IsTrue result → AreQuiet (H.leveled field.now) (row_start (H.leveled field.now).grid y z) (H.leveled field.now).grid.nx }
 {
     let _ = field.sizes();
     edges_to_row(field, ranks, total, y, z) == edges_to_row(field, ranks, total, y + 2, z)

@@ -31,7 +31,7 @@ use std::sync::ledger::Ledger;
 use stitch_rows::{CellRows, Field};
 
 /// Puts what stands before the lines behind the others: a head in PLY, nothing in OBJ.
-fn put_head(format: TwoWayFormat, vertices: u32, faces: u32, block: &mut Block)
+pub fn put_head(format: TwoWayFormat, vertices: u32, faces: u32, block: &mut Block)
     requires page { block.old.page ≡ 0 }
     requires room { length block.old.waiting + 256 ≤ 32768 }
     ensures put { IsBehind block.old block.new (head_of format vertices faces) }

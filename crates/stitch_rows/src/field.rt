@@ -14,7 +14,7 @@ ghost use Rattle.stitch_rows.specs.Rows.{at_level};
 
 use crate::bricks::BrickRow;
 use brick_store::{BrickId, BrickStore};
-use flat_mesh::Cell;
+use flat_mesh::{Cell, Heights};
 use iso_base::{Level, Sizes};
 use span_tree::SpanTree;
 use std::marker::Model;
@@ -135,5 +135,17 @@ impl<'a> Field<'a> {
         ensures { result ≡ self.now.level }
     {
         self.level
+    }
+}
+
+impl<'a> Heights for Field<'a> {
+    ghost leveled = { λ f. f };
+
+    fn sizes(&self) -> Sizes {
+        Field::sizes(self)
+    }
+
+    fn corner_heights(&self, cell: Cell) -> [i64; 8] {
+        Field::corner_heights(self, cell.index)
     }
 }

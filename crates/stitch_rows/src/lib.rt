@@ -14,4 +14,6 @@ pub use bricks::count_along;
 pub use cases::case_row;
 pub use field::Field;
 pub use named::CellRows;
-pub use points::{PointRuns, ROW, RankedRow, Rows, flag_row, point_runs, rank_row, rows_at};
+pub use points::{
+    PointRuns, ROW, RankedRow, Rows, flag_row, point_runs, rank_row, rows_at, set_first,
+};

@@ -11,7 +11,7 @@ ghost use Rattle.stitch_rows.specs.Rows.{AreFirst, AreFlags, AreFlagsTo, AreRuns
 use crate::active::ActiveRow;
 use crate::bricks::{BrickRow, count_along};
 use crate::field::Field;
-use flat_mesh::rank_points;
+use flat_mesh::{Heights, rank_points};
 use iso_base::Sizes;
 
 /// The most points of a row.
@@ -299,33 +299,33 @@ fn set_flags(field: &Field, active: &ActiveRow, y: u32, z: u32, flags: &mut [u8;
 }
 
 /// Writes the numbers of the first crossing edges of the points of a row, and behind them that of the next row.
-fn rank_run(field: &Field, y: u32, z: u32, before: u32, flags: &[u8], first: &mut [u32])
-    requires y { y < field.now.grid.ny }
-    requires z { z < field.now.grid.nz }
-    requires before { before ≡ rank field.now.grid (heights field.now) (3 * row_start field.now.grid y z) }
-    requires count { length flags.now ≡ field.now.grid.nx }
-    requires flags { AreFlags field.now y z flags.now }
-    requires first { length first.old ≡ field.now.grid.nx + 1 }
-    ensures { AreFirst field.now y z first.new }
+fn rank_run<H: Heights>(field: &H, y: u32, z: u32, before: u32, flags: &[u8], first: &mut [u32])
+    requires y { y < (H.leveled field.now).grid.ny }
+    requires z { z < (H.leveled field.now).grid.nz }
+    requires before { before ≡ rank (H.leveled field.now).grid (heights (H.leveled field.now)) (3 * row_start (H.leveled field.now).grid y z) }
+    requires count { length flags.now ≡ (H.leveled field.now).grid.nx }
+    requires flags { AreFlags (H.leveled field.now) y z flags.now }
+    requires first { length first.old ≡ (H.leveled field.now).grid.nx + 1 }
+    ensures { AreFirst (H.leveled field.now) y z first.new }
 {
     let _ = field.sizes();
     rank_points(flags, before, first);
 }
 
 /// Writes the same at the front of a buffer.
-fn set_first(
-    field: &Field,
+pub fn set_first<H: Heights>(
+    field: &H,
     y: u32,
     z: u32,
     before: u32,
     flags: &[u8; ROW],
     first: &mut [u32; NUMBERS],
 )
-    requires y { y < field.now.grid.ny }
-    requires z { z < field.now.grid.nz }
-    requires before { before ≡ rank field.now.grid (heights field.now) (3 * row_start field.now.grid y z) }
-    requires flags { AreFlags field.now y z flags.now }
-    ensures { AreFirst field.now y z first.new }
+    requires y { y < (H.leveled field.now).grid.ny }
+    requires z { z < (H.leveled field.now).grid.nz }
+    requires before { before ≡ rank (H.leveled field.now).grid (heights (H.leveled field.now)) (3 * row_start (H.leveled field.now).grid y z) }
+    requires flags { AreFlags (H.leveled field.now) y z flags.now }
+    ensures { AreFirst (H.leveled field.now) y z first.new }
 {
     let nx = field.sizes().nx() as usize;
     rank_run(field, y, z, before, &flags[..nx], &mut first[..nx + 1]);

@@ -13,14 +13,14 @@ have_no_loops-requires-clause-case g c = (c.requires.cases.each c.args.from (ome
 
 pub returns-then-have_no_loops-clause-adds : goal.returns-then-have_no_loops-clause-adds
 returns-then-have_no_loops-clause-adds g c =
-    let v = c.args.field.now in
+    let v = (g.H.Heights.leveled c.args.field.now) in
     let quiet = quiet_run v c.args.row c.args.y c.args.z c.args.from c.args.end c.args.cases.now c.requires.y c.requires.z c.requires.place (omega (arith, c.if-end-from-eq8.true)) c.requires.end
     c.requires.cases.each (c.have_no_loops.ensures c.if-have_no_loops.true) in
     adds_as _ _ _ _ _ _ _ (sym (quiet_centres c.args.style.format c.args.style.padded v (v.grid.nx * c.args.row + c.args.from) (c.args.end - c.args.from) quiet)) (adds_none _ c.args.block.now tt)
 
 pub loop-x-init : goal.loop-x-init
 loop-x-init g c =
-    let v = c.args.field.now in
+    let v = (g.H.Heights.leveled c.args.field.now) in
     let z : c.args.from - c.args.from ≡ 0 = omega arith in
     record {
       adds = adds_as _ _ _ _ _ _ _ (ap (λ n. centres_text c.args.style.format c.args.style.padded v (v.grid.nx * c.args.row + c.args.from) n) (sym z))
@@ -30,21 +30,21 @@ loop-x-init g c =
 
 pub write_cell-requires-clause-cell : goal.write_cell-requires-clause-cell
 write_cell-requires-clause-cell g c =
-    let v = c.args.field.now in
+    let v = (g.H.Heights.leveled c.args.field.now) in
     let nx : c.nx.result ≡ v.grid.nx = c.nx.ensures.value ∙ ap (λ (g : Grid). g.nx) c.sizes-sizes.ensures.value in
     let low : c.loop-x.x + 1 < v.grid.nx = omega (arith, c.loop-x-test.true, c.requires.end) in
     cell_at v c.args.row c.loop-x.x c.args.y c.args.z (c.nx.result * c.args.row) c.nx.result c.requires.y c.requires.z c.requires.place nx refl low c.requires.cases.y c.requires.cases.z
 
 pub write_cell-requires-clause-case : goal.write_cell-requires-clause-case
 write_cell-requires-clause-case g c =
-    let v = c.args.field.now in
+    let v = (g.H.Heights.leveled c.args.field.now) in
     let nx : c.nx.result ≡ v.grid.nx = c.nx.ensures.value ∙ ap (λ (g : Grid). g.nx) c.sizes-sizes.ensures.value in
     let low : c.loop-x.x + 1 < v.grid.nx = omega (arith, c.loop-x-test.true, c.requires.end) in
     case_at v c.args.row c.loop-x.x c.args.y c.args.z (c.nx.result * c.args.row) c.nx.result c.requires.y c.requires.z c.requires.place nx refl low c.args.cases.now c.requires.cases.each
 
 pub returns-in_err-write_cell-clause-adds : goal.returns-in_err-write_cell-clause-adds
 returns-in_err-write_cell-clause-adds g c =
-    let v = c.args.field.now in
+    let v = (g.H.Heights.leveled c.args.field.now) in
     let p = err_from_is_err_and c.from_residual.result c.from_residual.ensures.1 in
     let nx : c.nx.result ≡ v.grid.nx = c.nx.ensures.value ∙ ap (λ (g : Grid). g.nx) c.sizes-sizes.ensures.value in
     let a : c.nx.result * c.args.row ≡ v.grid.nx * c.args.row = ap (λ n. n * c.args.row) nx in
@@ -53,7 +53,7 @@ returns-in_err-write_cell-clause-adds g c =
 
 pub loop-x-preserved : goal.loop-x-preserved
 loop-x-preserved g c =
-    let v = c.args.field.now in
+    let v = (g.H.Heights.leveled c.args.field.now) in
     let nx : c.nx.result ≡ v.grid.nx = c.nx.ensures.value ∙ ap (λ (g : Grid). g.nx) c.sizes-sizes.ensures.value in
     let a : c.nx.result * c.args.row ≡ v.grid.nx * c.args.row = ap (λ n. n * c.args.row) nx in
     record {
@@ -64,7 +64,7 @@ loop-x-preserved g c =
 
 pub returns-clause-adds : goal.returns-clause-adds
 returns-clause-adds g c =
-    let v = c.args.field.now in
+    let v = (g.H.Heights.leveled c.args.field.now) in
     let end : c.loop-x.x ≡ c.args.end = omega (arith, c.requires.from, c.loop-x-test.false, c.loop-x.auto.x-end) in
     adds_as _ _ _ _ _ _ _ (ap (λ n. centres_text c.args.style.format c.args.style.padded v (v.grid.nx * c.args.row + c.args.from) (n - c.args.from)) end) c.loop-x.invariant.adds
 

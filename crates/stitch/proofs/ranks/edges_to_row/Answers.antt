@@ -7,8 +7,8 @@ use Rattle.stitch.proofs.RankedRows.{row_low}
 use Rattle.stitch.proofs.ranks.edges_to_row.Goals as goal
 
 pub returns-then-y-ny : goal.returns-then-y-ny
-returns-then-y-ny c =
-    let v = c.args.field.now in
+returns-then-y-ny g c =
+    let v = (g.H.Heights.leveled c.args.field.now) in
     let ranks = c.args.ranks.now in
     let ny : c.ny-ny.result ≡ v.grid.ny = c.ny-ny.ensures.value ∙ ap (λ (g : Grid). g.ny) c.sizes-sizes.ensures.value in
     let at : c.args.y + ranks.grid.ny * c.args.z ≡ c.args.y + v.grid.ny * c.args.z = ap (λ (g : Grid). c.args.y + g.ny * c.args.z) c.requires.ranks.grid in
@@ -16,8 +16,8 @@ returns-then-y-ny c =
     ∙ c.requires.ranks.before (c.args.y + v.grid.ny * c.args.z) (row_low v.grid c.args.y c.args.z (omega (arith, c.if-y-ny.true, ny)) c.requires.z))
 
 pub returns-then-z-nz : goal.returns-then-z-nz
-returns-then-z-nz c =
-    let v = c.args.field.now in
+returns-then-z-nz g c =
+    let v = (g.H.Heights.leveled c.args.field.now) in
     let ranks = c.args.ranks.now in
     let ny : c.ny-ny.result ≡ v.grid.ny = c.ny-ny.ensures.value ∙ ap (λ (g : Grid). g.ny) c.sizes-sizes.ensures.value in
     let nz : c.nz-nz.result ≡ v.grid.nz = c.nz-nz.ensures.value ∙ ap (λ (g : Grid). g.nz) c.sizes-sizes.ensures.value in
@@ -29,8 +29,8 @@ returns-then-z-nz c =
     ∙ ap (λ r. rank v.grid (heights v) (3 * (v.grid.nx * r))) here))
 
 pub returns : goal.returns
-returns c =
-    let v = c.args.field.now in
+returns g c =
+    let v = (g.H.Heights.leveled c.args.field.now) in
     let ny : c.ny-ny.result ≡ v.grid.ny = c.ny-ny.ensures.value ∙ ap (λ (g : Grid). g.ny) c.sizes-sizes.ensures.value in
     let nz : c.nz-nz.result ≡ v.grid.nz = c.nz-nz.ensures.value ∙ ap (λ (g : Grid). g.nz) c.sizes-sizes.ensures.value in
     let end : c.args.y ≡ v.grid.ny = omega (arith, c.if-y-ny.false, ny, c.requires.y) in

@@ -1,0 +1,3 @@
+pub mod RowSlices
+pub mod NextPoints
+pub mod RowCases

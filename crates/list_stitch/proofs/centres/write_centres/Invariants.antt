@@ -1,0 +1,10 @@
+use Rattle.std.proofs.Common.{◌+◌, ◌*◌, ◌≤◌, Ok}
+use Rattle.stitch.specs.Blocks.{Adds}
+use Rattle.stitch.specs.Spans.{centres_text}
+use Rattle.list_stitch.proofs.centres.write_centres.Given as goal
+
+abbrev pub invariant-loop-row : goal.invariant-loop-row
+invariant-loop-row g l = record {
+  adds : Adds {T = Unit {0}} (g.K.Sink.seen l.fn.sink) (g.K.Sink.seen l.sink) l.fn.block l.block (Ok tt) (centres_text l.style.format l.style.padded (g.H.Heights.leveled l.field) 0 ((g.H.Heights.leveled l.field).grid.nx * l.row));
+  bytes : l.block.total ≤ l.fn.block.total + 256 * ((g.H.Heights.leveled l.field).grid.nx * l.row);
+}

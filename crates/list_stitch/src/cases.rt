@@ -1,0 +1,157 @@
+//! The cases of all cells.
+ghost use Rattle.std.specs.Prelude.{◌≡◌, ◌+◌, ◌*◌, ◌/◌, ◌%◌, ◌<◌, IfOk, length, map};
+ghost use Rattle.iso_defs.specs.Bricks.{bits_of};
+ghost use Rattle.iso_defs.specs.Rows.{row_count};
+ghost use Rattle.crossing_edges.specs.Signs.{sign_of};
+ghost use Rattle.flat_mesh.specs.Cases.{signs_at};
+ghost use Rattle.flat_mesh.specs.Centres.{IsCellAt};
+ghost use Rattle.flat_mesh.specs.Rows.{AreSignBytes};
+ghost use Rattle.stitch_rows.specs.Rows.{AreCases, AreZerosFrom, IsCaseOf};
+ghost use Rattle.stitch.specs.Numbers.{AreRowRanks};
+ghost use Rattle.list_stitch.specs.Cases.{HaveCases, HaveRowCases};
+
+use crate::rows::{has_loops, sign_row};
+use edge_points::RowRanks;
+use flat_mesh::{Cell, Heights, cell_case, cell_row};
+use iso_base::Point;
+use std::alloc::{AllocError, Global};
+use stitch::row_at;
+
+/// A number of a case that has the loops of a cell, from its sign byte.
+#[inline(always)]
+fn case_number<H: Heights>(field: &H, cell: Cell, signs: u8) -> u16
+    requires cell { IsCellAt (H.leveled field.now).grid cell }
+    requires signs { bits_of 8 signs ≡ signs_at (H.leveled field.now) cell.index }
+    ensures { IsCaseOf (H.leveled field.now) cell.index result }
+{
+    if signs == 0 || signs == 255 {
+        return 0;
+    }
+    cell_case(field, cell, signs).number()
+}
+
+/// Writes the cases of the cells of a row, from their sign bytes.
+fn put_cases<H: Heights>(field: &H, y: u32, z: u32, bytes: &[u8], cases: &mut [u16])
+    requires y { y + 1 < (H.leveled field.now).grid.ny }
+    requires z { z + 1 < (H.leveled field.now).grid.nz }
+    requires bytes { AreSignBytes (H.leveled field.now) y z bytes.now }
+    requires cases { length cases.old ≡ (H.leveled field.now).grid.nx }
+    ensures { AreCases (H.leveled field.now) y z cases.new }
+{
+    let sizes = field.sizes();
+    let nx = sizes.nx();
+    let start = nx * (y + sizes.ny() * z);
+    for x in 0..nx - 1 {
+        let cell = Cell {
+            index: start + x,
+            low: Point { x, y, z },
+        };
+        cases[x as usize] = case_number(field, cell, bytes[x as usize]);
+    }
+}
+
+/// Writes the sign bytes of the cells of a row.
+fn put_bytes<H: Heights>(field: &H, signs: &[u8], y: u32, z: u32, bytes: &mut [u8])
+    requires y { y + 1 < (H.leveled field.now).grid.ny }
+    requires z { z + 1 < (H.leveled field.now).grid.nz }
+    requires signs { signs.now ≡ map (sign_of (H.leveled field.now).level) (H.leveled field.now).samples }
+    requires bytes { length bytes.old ≡ (H.leveled field.now).grid.nx }
+    ensures { AreSignBytes (H.leveled field.now) y z bytes.new }
+{
+    let _ = field.sizes();
+    cell_row(
+        sign_row(field, signs, y, z),
+        sign_row(field, signs, y + 1, z),
+        sign_row(field, signs, y, z + 1),
+        sign_row(field, signs, y + 1, z + 1),
+        bytes,
+    );
+}
+
+/// Writes 0 throughout.
+fn put_zeros(cases: &mut [u16])
+    ensures { AreZerosFrom 0 cases.new }
+{
+    cases.fill(0);
+}
+
+/// Writes a number for each point of a row: where a cell begins, that of a case that has its loops. `bytes` is a buffer.
+fn put_row<H: Heights>(
+    field: &H,
+    signs: &[u8],
+    ranks: &RowRanks,
+    total: u32,
+    row: u32,
+    bytes: &mut [u8],
+    cases: &mut [u16],
+)
+    requires row { row < row_count (H.leveled field.now).grid }
+    requires signs { signs.now ≡ map (sign_of (H.leveled field.now).level) (H.leveled field.now).samples }
+    requires ranks { AreRowRanks (H.leveled field.now) ranks.now total }
+    requires bytes { length bytes.old ≡ (H.leveled field.now).grid.nx }
+    requires cases { length cases.old ≡ (H.leveled field.now).grid.nx }
+    ensures { HaveRowCases (H.leveled field.now) (row % (H.leveled field.now).grid.ny) (row / (H.leveled field.now).grid.ny) cases.new }
+{
+    if !has_loops(field, ranks, total, row) {
+        put_zeros(cases);
+        return;
+    }
+    let sizes = field.sizes();
+    let (y, z) = row_at(&sizes, row);
+    put_bytes(field, signs, y, z, bytes);
+    put_cases(field, y, z, bytes, cases);
+}
+
+/// Puts the cases of all cells behind one another, row by row. `bytes` and `row_cases` are buffers.
+fn add_rows<H: Heights>(
+    field: &H,
+    signs: &[u8],
+    ranks: &RowRanks,
+    total: u32,
+    bytes: &mut [u8],
+    row_cases: &mut [u16],
+    cases: &mut Vec<u16>,
+) -> Result<(), AllocError>
+    requires signs { signs.now ≡ map (sign_of (H.leveled field.now).level) (H.leveled field.now).samples }
+    requires ranks { AreRowRanks (H.leveled field.now) ranks.now total }
+    requires bytes { length bytes.old ≡ (H.leveled field.now).grid.nx }
+    requires row_cases { length row_cases.old ≡ (H.leveled field.now).grid.nx }
+    requires none { length cases.old.items ≡ 0 }
+    ensures { IfOk result (λ _. HaveCases (H.leveled field.now) (row_count (H.leveled field.now).grid) cases.new.items) }
+{
+    let sizes = field.sizes();
+    for row in 0..sizes.ny() * sizes.nz() {
+        put_row(field, signs, ranks, total, row, bytes, row_cases);
+        cases.extend_from_slice(row_cases)?;
+    }
+    Ok(())
+}
+
+/// The cases of all cells: for each point a number, where a cell begins that of a case that has its loops.
+pub fn all_cases<H: Heights>(
+    alloc: Global,
+    field: &H,
+    signs: &[u8],
+    ranks: &RowRanks,
+    total: u32,
+) -> Result<Vec<u16>, AllocError>
+    requires signs { signs.now ≡ map (sign_of (H.leveled field.now).level) (H.leveled field.now).samples }
+    requires ranks { AreRowRanks (H.leveled field.now) ranks.now total }
+    ensures { IfOk result (λ v. HaveCases (H.leveled field.now) (row_count (H.leveled field.now).grid) v.items) }
+{
+    let sizes = field.sizes();
+    let nx = sizes.nx() as usize;
+    let mut bytes = vec![in alloc; 0u8; nx]?;
+    let mut row_cases = vec![in alloc; 0u16; nx]?;
+    let mut cases = Vec::with_capacity(alloc, sizes.count() as usize)?;
+    add_rows(
+        field,
+        signs,
+        ranks,
+        total,
+        &mut bytes,
+        &mut row_cases,
+        &mut cases,
+    )?;
+    Ok(cases)
+}
