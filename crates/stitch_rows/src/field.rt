@@ -68,30 +68,6 @@ impl<'a> Field<'a> {
         self.store.sizes()
     }
 
-    /// The shifted values of the corners of a cell: all in the brick that has the cell.
-    pub fn corner_heights(&self, cell: Cell) -> [i64; 8]
-        requires { IsCellAt self.now.grid cell }
-        ensures value { result ≡ values_at self.now cell.index }
-        ensures bound { All (λ v. unsigned_abs v < 2 ^ 44) result }
-    {
-        let sizes = self.store.sizes();
-        let low = cell.low;
-        let row = BrickRow::of(&sizes, low.y, low.z);
-        let copies = self.store.brick(BrickId(row.first + low.x / 8));
-        let place = (low.x % 8) as usize + 9 * (row.y as usize + 9 * row.z as usize);
-        let level = self.level;
-        [
-            copied_height(level, copies, place),
-            copied_height(level, copies, place + 1),
-            copied_height(level, copies, place + 9),
-            copied_height(level, copies, place + 10),
-            copied_height(level, copies, place + 81),
-            copied_height(level, copies, place + 82),
-            copied_height(level, copies, place + 90),
-            copied_height(level, copies, place + 91),
-        ]
-    }
-
     /// The samples of a row of points that a brick holds: those from 8 * x on, at most nine.
     #[inline(always)]
     pub(crate) fn run(&self, row: BrickRow, x: u32, y: u32, z: u32) -> &[i64]
@@ -146,6 +122,21 @@ impl<'a> Heights for Field<'a> {
     }
 
     fn corner_heights(&self, cell: Cell) -> [i64; 8] {
-        Field::corner_heights(self, cell.index)
+        let sizes = self.store.sizes();
+        let low = cell.low;
+        let row = BrickRow::of(&sizes, low.y, low.z);
+        let copies = self.store.brick(BrickId(row.first + low.x / 8));
+        let place = (low.x % 8) as usize + 9 * (row.y as usize + 9 * row.z as usize);
+        let level = self.level;
+        [
+            copied_height(level, copies, place),
+            copied_height(level, copies, place + 1),
+            copied_height(level, copies, place + 9),
+            copied_height(level, copies, place + 10),
+            copied_height(level, copies, place + 81),
+            copied_height(level, copies, place + 82),
+            copied_height(level, copies, place + 90),
+            copied_height(level, copies, place + 91),
+        ]
     }
 }
