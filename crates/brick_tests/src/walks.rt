@@ -7,10 +7,12 @@ use crate::stores::sizes_of;
 use arrayvec::ArrayVec;
 use brick_mesh::extract_row;
 use brick_store::{BrickId, BrickStore};
+use crossing_edges::Numbers;
 use edge_points::RowRanks;
 use flat_mesh::extract_flat;
 use iso_base::{Level, Memory, Point, SampleKind, Sizes, Steps, VoxelData, Written};
 use iso_io::{Failed, MemSink};
+use list_stitch::ListMesh;
 use mesh_text::TwoWayFormat;
 use mesh_write::{STAGE, put_mesh_as};
 use span_tree::SpanTree;
@@ -18,7 +20,7 @@ use std::alloc::Global;
 use std::marker::Brand;
 use std::sync::ledger::{Blank, Ledger};
 use std::test::Fail;
-use stitch::{CellRows, write_obj, write_ply};
+use stitch::{CellRows, Style, write_obj, write_ply};
 use volume_gen::generated;
 use voxel_list::VoxelList;
 
@@ -73,6 +75,23 @@ fn scratch_text(
     Ok(Told { sink, written })
 }
 
+/// The text that is written while the list of samples is walked.
+fn listed_text(
+    alloc: Global,
+    volume: &VoxelList,
+    level: Level,
+    format: TwoWayFormat,
+) -> Result<Told, Memory> {
+    let padded = volume.pad().is_some();
+    let samples = Numbers {
+        numbers: volume.samples(),
+    };
+    let mesh = ListMesh::of(alloc, volume.sizes(), &samples, level)?;
+    let mut sink = MemSink::new(alloc, ROOM, Vec::new(alloc))?;
+    let written = mesh.write(Style { format, padded }, &mut sink);
+    Ok(Told { sink, written })
+}
+
 /// The text of a walk, with one share of the counter's book.
 fn counted_text<L: Ledger>(
     alloc: Global,
@@ -120,13 +139,19 @@ fn are_same(a: &Told, b: &Told) -> bool {
     first == second && a.sink.bytes() == b.sink.bytes()
 }
 
-/// How many vertices both ways write, where their texts are the same in both formats.
+/// How many vertices all three ways write, where their texts are the same in both formats: from a mesh, while the list of
+/// samples is walked, and from brick to brick.
 fn vertices_of(alloc: Global, volume: VoxelList, level: Level) -> Result<Option<u32>, Memory> {
     let ply = scratch_text(alloc, &volume, level, TwoWayFormat::Ply)?;
     let obj = scratch_text(alloc, &volume, level, TwoWayFormat::Obj)?;
+    let listed_ply = listed_text(alloc, &volume, level, TwoWayFormat::Ply)?;
+    let listed_obj = listed_text(alloc, &volume, level, TwoWayFormat::Obj)?;
     let store = BrickStore::of(alloc, volume)?;
     let walked_ply = walked_text(alloc, &store, level, TwoWayFormat::Ply)?;
     let walked_obj = walked_text(alloc, &store, level, TwoWayFormat::Obj)?;
+    if !are_same(&ply, &listed_ply) || !are_same(&obj, &listed_obj) {
+        return Ok(None);
+    }
     if !are_same(&ply, &walked_ply) || !are_same(&obj, &walked_obj) {
         return Ok(None);
     }
