@@ -15,3 +15,4 @@ pub mod Wanting
 pub mod Soaked
 pub mod SoakKinds
 pub mod Soaks
+pub mod Written

@@ -91,6 +91,15 @@ Converts given call (answers.BadVolume fault) =
 Converts given call answers.Memory = NothingWritten call
 Converts given call answer = ⊥
 
+-- what becomes of the output where the input gives a text, or why it gives none, by the answer
+abbrev pub WritesGiven : Result (List ℕ) VolumeFault → Tape → Tape → Answer → Type 0
+WritesGiven given old new answers.Done = (text : List ℕ) × (given ≡ Ok text) × Appends old.taken new.taken text × (new.beside ≡ old.beside)
+WritesGiven given old new answers.OutputFault =
+    (text : List ℕ) × (given ≡ Ok text) × Rose old.faults new.faults × AppendsFront old.taken new.taken text × (new.beside ≡ old.beside)
+WritesGiven given old new (answers.BadVolume fault) = (given ≡ Err fault) × (new ≡ old)
+WritesGiven given old new answers.Memory = new ≡ old
+WritesGiven given old new answer = ⊥
+
 -- what is no command line is refused, and nothing is read, written or left
 pub record Rejects (call : Call) (answer : Answer) : Type 0 where
   pub answer_is : answer ≡ answers.BadWords

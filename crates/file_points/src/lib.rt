@@ -7,3 +7,4 @@ mod edges;
 mod samples;
 
 pub use edges::{FileEdges, edges_of_file};
+pub use samples::FileSamples;

@@ -1,31 +1,16 @@
-use Rattle.std.proofs.Common.{◌≡◌, ◌∙◌, ap₂}
-use Rattle.commands.specs.Meaning.{mesh_text}
-use Rattle.commands.proofs.Texts.{gives_mesh}
+use Rattle.commands.specs.Outcome.{streams_between}
+use Rattle.commands.proofs.Written.{not_held, not_held_done}
+use Rattle.std.proofs.Common.{refl}
 use Rattle.commands.proofs.meshes.extract.Goals as goal
 
-pub returns-in-Ok-put_text-clause-converts : goal.returns-in-Ok-put_text-clause-converts
-returns-in-Ok-put_text-clause-converts g c =
-    let v = c.in-Ok.volume in
-    let same : c.in-Ok-of.mesh ≡ record { grid = v.grid; samples = v.samples; level = c.args.level }
-    = c.in-Ok-of.ensures ∙ ap₂ (λ grid samples. record { grid = grid; samples = samples; level = c.args.level }) c.sizes.ensures.value c.samples.ensures.value in
-    let put = c.in-Ok-put_text.ensures v c.args.level c.is_padded-padded.ensures same in (
-      mesh_text c.args.format c.args.level v,
-      record { ended = c.in-Ok.ensures.volume.ended; within = c.in-Ok.ensures.volume.within },
-      gives_mesh c.args.level c.args.pad c.args.format _ v c.in-Ok.ensures.volume.whole,
-      record { gained = put.gained; beside = put.beside },
-    )
+pub returns-in-Err-clause-converts : goal.returns-in-Err-clause-converts
+returns-in-Err-clause-converts g c =
+    not_held c.args.level c.args.pad c.args.format
+    (streams_between g.S.Source.seen g.K.Sink.seen c.args.input.now c.bytes_of_input.new.input c.args.output.now c.args.output.now) c.in-Err.answer refl
+    (c.in-Err.ensures.fault c.args.pad c.args.level)
 
-pub returns : goal.returns
-returns g c =
-    let v = c.in-Ok.volume in
-    let same : c.in-Ok-of.mesh ≡ record { grid = v.grid; samples = v.samples; level = c.args.level }
-    = c.in-Ok-of.ensures ∙ ap₂ (λ grid samples. record { grid = grid; samples = samples; level = c.args.level }) c.sizes.ensures.value c.samples.ensures.value in
-    let put = c.in-Err-put_text.ensures v c.args.level c.is_padded-padded.ensures same in record {
-      converts = (
-        mesh_text c.args.format c.args.level v,
-        record { ended = c.in-Ok.ensures.volume.ended; within = c.in-Ok.ensures.volume.within },
-        gives_mesh c.args.level c.args.pad c.args.format _ v c.in-Ok.ensures.volume.whole,
-        record { cause = put.cause.failed; gained = put.gained; beside = put.beside },
-      );
-      shows = λ e. absurd cc;
-    }
+pub returns-in-Err-clause-shows : goal.returns-in-Err-clause-shows
+returns-in-Err-clause-shows g c done =
+    absurd (not_held_done c.args.level c.args.pad
+    (streams_between g.S.Source.seen g.K.Sink.seen c.args.input.now c.bytes_of_input.new.input c.args.output.now c.args.output.now) c.in-Err.answer
+    (c.in-Err.ensures.fault c.args.pad c.args.level) done)
