@@ -28,6 +28,10 @@ ply_face_line corners = line (51 ∷ 32 ∷ numbers_text 0 (triangle_of corners)
 abbrev pub obj_face_line : List ℕ → List ℕ
 obj_face_line corners = line (102 ∷ 32 ∷ numbers_text 1 (triangle_of corners))
 
+-- the line of a letter and of the texts of three numbers
+abbrev pub letter_line : ℕ → List ℕ → List ℕ → List ℕ → List ℕ
+letter_line letter a b c = line (letter ∷ 32 ∷ (a ++ 32 ∷ (b ++ 32 ∷ c)))
+
 -- the head of a PLY text of vertices alone
 unfoldable pub points_head : ℕ → List ℕ
 points_head vertices = vertex_head vertices ++ line (codes "end_header")

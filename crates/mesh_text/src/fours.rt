@@ -5,7 +5,7 @@ ghost use Rattle.iso_defs.specs.Texts.{three_digits};
 ghost use Rattle.mesh_text.specs.Fours.{AreFours, four_digits};
 
 use crate::counted::count_short;
-use crate::digits::{Digits, put_byte};
+use crate::digits::{Digits, put_array, put_byte};
 use std::marker::Model;
 
 /// The bytes of a table of four digits a number. Behind the last number's stand four bytes more, so that four are there
@@ -44,7 +44,7 @@ fn put_four_bytes(bytes: &[u8], from: usize, room: &mut [u8], at: usize)
     requires space { at + 4 ≤ length room.old }
     ensures { take (at + 4) room.new ≡ take at room.old ++ take 4 (drop from bytes.now) }
 {
-    room[at..at + 4].copy_from_slice(&bytes[from..from + 4]);
+    put_array(bytes[from..].first_chunk::<4>().unwrap(), room, at);
 }
 
 /// Writes the four digits of a number, out of the table.

@@ -9,6 +9,7 @@ mod fours;
 mod head;
 mod line;
 mod lines;
+mod number;
 mod obj;
 mod ply;
 
@@ -19,5 +20,6 @@ pub use fours::Fours;
 pub use head::{ply_head_text, points_head_text, put_ply_head, put_points_head};
 pub use line::Line;
 pub use lines::Lines;
+pub use number::Number;
 pub use obj::{obj_face_text, obj_vertex_text, put_obj_face, put_obj_vertex};
 pub use ply::{ply_face_text, ply_vertex_text, put_ply_face, put_ply_vertex};

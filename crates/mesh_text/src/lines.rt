@@ -1,7 +1,9 @@
-ghost use Rattle.std.specs.Prelude.{◌≡◌, ◌+◌, ◌<◌, ◌≤◌, ◌^◌, ◌++◌, [], IsTrue, length, unsigned_abs};
-ghost use Rattle.mesh_text.specs.Lines.{along, obj_face_line, obj_vertex_line, ply_face_line, ply_vertex_line};
+ghost use Rattle.std.specs.Prelude.{◌≡◌, ◌+◌, ◌<◌, ◌≤◌, ◌^◌, ◌++◌, [], IsTrue, length, decimal, unsigned_abs};
+ghost use Rattle.mesh_text.specs.Lines.{along, letter_line, obj_face_line, obj_vertex_line, ply_face_line, ply_vertex_line};
 
+use crate::digits::put_letter;
 use crate::fours::Fours;
+use crate::number::{Number, put_line};
 use crate::obj::{write_obj_face, write_obj_vertex};
 use crate::ply::{write_ply_face, write_ply_vertex};
 use iso_base::Thousandth;
@@ -118,5 +120,25 @@ impl Lines {
         ensures few { length self.new ≤ length self.old + 64 }
     {
         self.end = write_obj_face(&self.digits, corners, &mut self.bytes, self.end);
+    }
+
+    /// The text of a number, out of the table.
+    #[inline(always)]
+    pub fn number(&self, n: u64) -> Number
+        requires { n < 10 ^ 11 }
+        ensures { result ≡ decimal n }
+    {
+        Number::of(&self.digits, n)
+    }
+
+    /// Puts the line of a letter and three numbers behind the others.
+    #[inline(always)]
+    pub fn push_numbers(&mut self, letter: u8, a: &Number, b: &Number, c: &Number)
+        requires room { length self.old + 64 ≤ 4096 }
+        ensures line { self.new ≡ self.old ++ letter_line letter a.now b.now c.now }
+        ensures few { length self.new ≤ length self.old + 64 }
+    {
+        let at = put_letter(letter, &mut self.bytes, self.end);
+        self.end = put_line(a, b, c, &mut self.bytes, at);
     }
 }

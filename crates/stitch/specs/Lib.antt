@@ -1,4 +1,5 @@
 pub mod Blocks
+pub mod FaceTexts
 pub mod Spans
 pub mod Numbers
 pub mod FourRows

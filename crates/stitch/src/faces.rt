@@ -39,17 +39,6 @@ fn corner(numbers: &[u32; 12], edges: &[u8], i: usize) -> u32
     numbers[edges[i] as usize]
 }
 
-/// Puts the line of a triangle behind the others.
-#[inline(always)]
-fn put_face(style: Style, a: u32, b: u32, c: u32, block: &mut Block)
-    requires room { block.old.page + 64 ≤ 4096 }
-    ensures put { IsBehind block.old block.new (face_lines style.format ((a ∷ b ∷ c ∷ []) ∷ [])) }
-    ensures few { block.new.page ≤ block.old.page + 64 }
-    ensures bytes { block.new.total ≤ block.old.total + 64 }
-{
-    block.push_face(style, &[a, b, c]);
-}
-
 /// Puts the lines of the triangles of a loop with a centre behind the others.
 fn put_fan(style: Style, numbers: &[u32; 12], edges: &[u8], centre: u32, block: &mut Block)
     requires edges { All (λ e. e < 12) edges.now }
@@ -60,14 +49,15 @@ fn put_fan(style: Style, numbers: &[u32; 12], edges: &[u8], centre: u32, block: 
     ensures few { block.new.page ≤ block.old.page + 768 }
     ensures bytes { block.new.total ≤ block.old.total + 768 }
 {
-    let first = corner(numbers, edges, 0);
-    let mut last = first;
+    let centre_text = block.corner_text(style, centre);
+    let first = block.corner_text(style, corner(numbers, edges, 0));
+    let mut last = first.copied();
     for i in 1..edges.len() {
-        let next = corner(numbers, edges, i);
-        put_face(style, last, next, centre, block);
+        let next = block.corner_text(style, corner(numbers, edges, i));
+        block.push_texts(style, &last, &next, &centre_text);
         last = next;
     }
-    put_face(style, last, first, centre, block);
+    block.push_texts(style, &last, &first, &centre_text);
 }
 
 /// Puts the lines of the triangles of a loop behind the others, from the numbers of the edges of its cell and that of its
@@ -83,13 +73,10 @@ fn put_loop(style: Style, numbers: &[u32; 12], edges: &[u8], centre: u32, block:
         put_fan(style, numbers, edges, centre, block);
         return;
     }
-    put_face(
-        style,
-        corner(numbers, edges, 0),
-        corner(numbers, edges, 1),
-        corner(numbers, edges, 2),
-        block,
-    );
+    let a = block.corner_text(style, corner(numbers, edges, 0));
+    let b = block.corner_text(style, corner(numbers, edges, 1));
+    let c = block.corner_text(style, corner(numbers, edges, 2));
+    block.push_texts(style, &a, &b, &c);
 }
 
 /// The number of the next centre behind a loop.

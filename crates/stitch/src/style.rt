@@ -2,10 +2,12 @@
 ghost use Rattle.std.specs.Prelude.{◌≡◌, ◌+◌, ◌<◌, ◌≤◌, ◌^◌, ◌++◌, length, unsigned_abs};
 ghost use Rattle.iso_defs.specs.Texts.{printed};
 ghost use Rattle.iso_base.specs.Triangles.{triangle_of};
-ghost use Rattle.mesh_write.specs.Mesh.{face_line, vertex_line};
+ghost use Rattle.mesh_text.specs.Lines.{letter_line};
+ghost use Rattle.mesh_write.specs.Mesh.{vertex_line};
+ghost use Rattle.stitch.specs.FaceTexts.{corner_text, first_of, letter_of};
 
 use iso_base::Thousandth;
-use mesh_text::{Lines, TwoWayFormat};
+use mesh_text::{Lines, Number, TwoWayFormat};
 
 /// A pad's layer along an axis, in thousandths.
 const LAYER: i64 = 1000;
@@ -47,17 +49,44 @@ impl Style {
         }
     }
 
-    /// Puts the line of a triangle behind others.
+    /// The letter that begins the line of a triangle.
     #[inline(always)]
-    #[tactic(auto, unfolding(mesh_write::specs::Mesh::face_line))]
-    pub fn gather_face(self, corners: &[u32; 3], lines: &mut Lines)
-        requires { length lines.old + 64 ≤ 4096 }
-        ensures line { lines.new ≡ lines.old ++ face_line self.format (triangle_of corners.now) }
-        ensures few { length lines.new ≤ length lines.old + 64 }
+    fn letter(self) -> u8
+        ensures { result ≡ letter_of self.format }
     {
         match self.format {
-            TwoWayFormat::Ply => lines.push_ply_face(corners),
-            TwoWayFormat::Obj => lines.push_obj_face(corners),
+            TwoWayFormat::Ply => b'3',
+            TwoWayFormat::Obj => b'f',
         }
+    }
+
+    /// The number of the first vertex.
+    #[inline(always)]
+    fn first(self) -> u64
+        ensures value { result ≡ first_of self.format }
+        ensures bound { result ≤ 1 }
+    {
+        match self.format {
+            TwoWayFormat::Ply => 0,
+            TwoWayFormat::Obj => 1,
+        }
+    }
+
+    /// The text of a corner of triangles.
+    #[inline(always)]
+    pub fn corner_text(self, corner: u32, lines: &Lines) -> Number
+        ensures { result ≡ corner_text self.format corner }
+    {
+        lines.number(self.first() + u64::from(corner))
+    }
+
+    /// Puts the line of a triangle, whose corners' texts are at hand, behind others.
+    #[inline(always)]
+    pub fn gather_texts(self, a: &Number, b: &Number, c: &Number, lines: &mut Lines)
+        requires { length lines.old + 64 ≤ 4096 }
+        ensures line { lines.new ≡ lines.old ++ letter_line (letter_of self.format) a.now b.now c.now }
+        ensures few { length lines.new ≤ length lines.old + 64 }
+    {
+        lines.push_numbers(self.letter(), a, b, c);
     }
 }
