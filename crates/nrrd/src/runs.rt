@@ -7,6 +7,20 @@ ghost use Rattle.nrrd_text.specs.Samples.{sample_of};
 use crate::samples::sample_at;
 use iso_base::SampleKind;
 
+/// Reads nine samples of a kind and an order from an index on: as many as a row of a brick has, and as their number is
+/// known, without a loop.
+#[inline(always)]
+fn read_nine(kind: SampleKind, big: bool, bytes: &[u8], start: usize, into: &mut [i64])
+    requires nine { length into.old ≡ 9 }
+    requires room { width_of kind * (start + 9) ≤ length bytes.now }
+    requires few { start + 9 < 2 ^ 32 }
+    ensures { into.new ≡ map (λ k. sample_of kind big bytes.now (start + k)) (range_with_len 0 9) }
+{
+    for k in 0..9 {
+        into[k] = sample_at(kind, big, bytes, start + k);
+    }
+}
+
 /// Reads the samples of a kind and an order from an index on. A caller names the kind and the order as constants, so that
 /// the loop asks for neither.
 #[inline(always)]
@@ -15,6 +29,9 @@ fn read_as(kind: SampleKind, big: bool, bytes: &[u8], start: usize, into: &mut [
     requires few { start + length into.old < 2 ^ 32 }
     ensures { into.new ≡ map (λ k. sample_of kind big bytes.now (start + k)) (range_with_len 0 (length into.old)) }
 {
+    if into.len() == 9 {
+        return read_nine(kind, big, bytes, start, into);
+    }
     for k in 0..into.len() {
         into[k] = sample_at(kind, big, bytes, start + k);
     }

@@ -1,13 +1,14 @@
 -- A table of the numbers that a byte can be.
-use Rattle.std.specs.Prelude.{◌≡◌, ℕ, ◌*◌, ◌<◌, ◌≤◌, List, length, take, drop, get_or, pos}
+use Rattle.std.specs.Prelude.{◌≡◌, ℕ, ◌<◌, ◌≤◌, List, [], length, take, get_or, pos}
 use Rattle.nrrd_text.specs.Writing.{next_number}
 
--- the number behind a space, and in the last of eight bytes how many of them these are
+-- the number behind a space, and behind the room of four bytes how many of them these are
 pub record IsEntry (entry : List ℕ) (b : ℕ) : Type 0 where
-  pub few : get_or entry 7 0 ≤ 4
-  pub text : take (get_or entry 7 0) entry ≡ next_number (pos b)
+  pub size : length entry ≡ 8
+  pub few : get_or entry 4 0 ≤ 4
+  pub text : take (get_or entry 4 0) entry ≡ next_number (pos b)
 
--- the entries of all bytes, eight bytes each, and some bytes more
-pub record AreByteNumbers (table : List ℕ) : Type 0 where
-  pub all : length table ≡ 2064
-  pub each : (b : ℕ) → b < 256 → IsEntry (take 8 (drop (8 * b) table)) b
+-- the entries of all bytes
+pub record AreByteNumbers (table : List (List ℕ)) : Type 0 where
+  pub all : length table ≡ 256
+  pub each : (b : ℕ) → b < 256 → IsEntry (get_or table b []) b

@@ -9,9 +9,6 @@ ghost use Rattle.nrrd_text.specs.Writing.{byte_digits, hex_digit, sample_digits,
 use iso_base::SampleKind;
 use std::marker::Model;
 
-/// The bytes of a table of two digits a byte.
-const PAIRS: usize = 512;
-
 /// A small hex digit.
 #[inline(always)]
 fn hex_digit(n: u8) -> u8
@@ -21,52 +18,46 @@ fn hex_digit(n: u8) -> u8
     if n < 10 { b'0' + n } else { b'a' + (n - 10) }
 }
 
-/// Makes the two digits of a byte.
-#[inline(always)]
-fn put_made(b: u8, room: &mut [u8], at: usize) -> usize
-    requires { at + 2 ≤ length room.old }
-    ensures end { result ≡ at + 2 }
-    ensures written { take result room.new ≡ take at room.old ++ byte_digits b }
+/// The two digits of a byte.
+fn pair_of(b: u8) -> [u8; 2]
+    ensures { result ≡ byte_digits b }
 {
-    room[at] = hex_digit(b / 16);
-    room[at + 1] = hex_digit(b % 16);
-    at + 2
+    [hex_digit(b / 16), hex_digit(b % 16)]
 }
 
 /// Writes the table.
-fn write_pairs(room: &mut [u8])
-    requires { length room.old ≡ 512 }
+fn write_pairs(room: &mut [[u8; 2]])
+    requires { length room.old ≡ 256 }
     ensures { ArePairs room.new }
 {
-    let mut at = 0;
     for b in 0..256u16 {
-        at = put_made(b as u8, room, at);
+        room[usize::from(b)] = pair_of(b as u8);
     }
 }
 
-/// The two small hex digits of each byte, one byte's behind another's: digits are written two at a time.
+/// The two small hex digits of each byte: digits are written two at a time.
 #[derive(Drop)]
 pub(crate) struct Pairs {
-    bytes: [u8; PAIRS],
+    pairs: [[u8; 2]; 256],
 }
 
 impl Model for Pairs {
     ghost use Rattle.std.specs.Prelude.{ℕ, List};
     ghost use Rattle.nrrd_text.specs.Pairs.{ArePairs};
 
-    ghost Value = { List ℕ };
+    ghost Value = { List (List ℕ) };
 
-    ghost view = { λ p. p.bytes };
+    ghost view = { λ p. p.pairs };
 
-    ghost invariant = { λ p. ArePairs p.bytes };
+    ghost invariant = { λ p. ArePairs p.pairs };
 }
 
 impl Pairs {
     /// The table.
     pub(crate) fn new() -> Pairs {
-        let mut bytes = [0; PAIRS];
-        write_pairs(&mut bytes);
-        Pairs { bytes }
+        let mut pairs = [[0; 2]; 256];
+        write_pairs(&mut pairs);
+        Pairs { pairs }
     }
 
     /// Writes the digits of samples. What a kind asks for is asked once, and not for each of them.
@@ -84,20 +75,22 @@ impl Pairs {
         ensures behind { at ≤ result }
         ensures written { take result room.new ≡ take at room.old ++ samples_digits kind values.now }
     {
-        put_samples(&self.bytes, kind, values, room, at)
+        put_samples(&self.pairs, kind, values, room, at)
     }
 }
 
-/// Writes the two digits of a byte, out of the table.
+/// Writes the two digits of a byte, out of the table. They are put one by one, which is done in one move: a copy of the
+/// pair would first be asked whether it lies in the room.
 #[inline(always)]
-fn put_byte(pairs: &[u8], b: u8, room: &mut [u8], at: usize) -> usize
+fn put_byte(pairs: &[[u8; 2]], b: u8, room: &mut [u8], at: usize) -> usize
     requires table { ArePairs pairs.now }
     requires space { at + 2 ≤ length room.old }
     ensures end { result ≡ at + 2 }
     ensures written { take result room.new ≡ take at room.old ++ byte_digits b }
 {
-    let from = 2 * usize::from(b);
-    room[at..at + 2].copy_from_slice(&pairs[from..from + 2]);
+    let [high, low] = pairs[usize::from(b)];
+    room[at] = high;
+    room[at + 1] = low;
     at + 2
 }
 
@@ -118,7 +111,7 @@ fn bits_of(kind: SampleKind, value: i64) -> u32
 /// Writes the digits of a sample's bytes, the lowest byte first.
 #[inline(always)]
 #[tactic(auto, unfolding(crate::specs::Writing::sample_digits))]
-fn put_sample(pairs: &[u8], kind: SampleKind, value: i64, room: &mut [u8], at: usize) -> usize
+fn put_sample(pairs: &[[u8; 2]], kind: SampleKind, value: i64, room: &mut [u8], at: usize) -> usize
     requires table { ArePairs pairs.now }
     requires kind { IsOfKind kind value }
     requires space { at + 8 ≤ length room.old }
@@ -141,7 +134,13 @@ fn put_sample(pairs: &[u8], kind: SampleKind, value: i64, room: &mut [u8], at: u
 
 /// Writes the digits of samples.
 #[inline(always)]
-fn put_each(pairs: &[u8], kind: SampleKind, values: &[i64], room: &mut [u8], at: usize) -> usize
+fn put_each(
+    pairs: &[[u8; 2]],
+    kind: SampleKind,
+    values: &[i64],
+    room: &mut [u8],
+    at: usize,
+) -> usize
     requires table { ArePairs pairs.now }
     requires kind { All (IsOfKind kind) values.now }
     requires space { at + 24 * length values.now ≤ length room.old }
@@ -157,7 +156,13 @@ fn put_each(pairs: &[u8], kind: SampleKind, values: &[i64], room: &mut [u8], at:
 }
 
 /// Writes the digits of samples. What a kind asks for is asked once, and not for each of them.
-fn put_samples(pairs: &[u8], kind: SampleKind, values: &[i64], room: &mut [u8], at: usize) -> usize
+fn put_samples(
+    pairs: &[[u8; 2]],
+    kind: SampleKind,
+    values: &[i64],
+    room: &mut [u8],
+    at: usize,
+) -> usize
     requires table { ArePairs pairs.now }
     requires kind { All (IsOfKind kind) values.now }
     requires space { at + 24 * length values.now ≤ length room.old }
