@@ -54,7 +54,3 @@ module _ (least : ℤ) (b : ℕ) where
       ∙ (ap (λ k. flag_of b k (bit_from least (sample up i)) (bit_from least (sample far i))) r
       ∙ (ap (λ k. flag_of b b k (bit_from least (sample far i))) (side_at up nu u i low)
       ∙ (ap (λ k. flag_of b b b k) (side_at far nf f i low) ∙ none)))
-
-pub flags_alike : (above : Bool) → flag_of (cond above 1 0) (cond above 1 0) (cond above 1 0) (cond above 1 0) ≡ 0
-flags_alike true = refl
-flags_alike false = refl
