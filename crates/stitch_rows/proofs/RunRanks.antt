@@ -1,5 +1,5 @@
 -- The numbers of the first crossing edges of points, one run of points after the other.
-use Rattle.std.proofs.Common.{◌≡◌, ℕ, ◌+◌, ◌-◌, ◌*◌, ◌<◌, ◌≤◌, List, All, length, take, drop, get_or, rules, refl, sym, subst, inl, inr, ◌∙◌, ap, arith}
+use Rattle.std.proofs.Common.{◌≡◌, ℕ, ◌+◌, ◌-◌, ◌*◌, ◌<◌, ◌≤◌, List, All, length, take, drop, get_or, rules, sym, subst, inl, inr, ◌∙◌, ap, arith}
 use Rattle.std.specs.List.{sum_by}
 use borrow.Rule.Slice.PartMut.{put_mid}
 use Rattle.std.proofs.lemmas.Bool.{cases_lt}

@@ -39,74 +39,6 @@ fn flags_of(here: bool, right: bool, up: bool, far: bool) -> u8
     u8::from(here != right) + 2 * u8::from(here != up) + 4 * u8::from(here != far)
 }
 
-/// Whether all samples are at least `least`.
-#[inline(always)]
-fn are_above(run: &[i64], least: i64) -> bool
-    ensures { IsTrue result → All (λ s. bit_from least s ≡ 1) run.now }
-{
-    run.iter().all(|s| *s >= least)
-}
-
-/// Whether all samples are below.
-#[inline(always)]
-fn are_below(run: &[i64], least: i64) -> bool
-    ensures { IsTrue result → All (λ s. bit_from least s ≡ 0) run.now }
-{
-    run.iter().all(|s| *s < least)
-}
-
-/// Whether all samples of three runs of nine are at least `least`: no edge is crossing then that begins at a point of the first.
-#[inline(always)]
-fn are_all_above(here: &[i64], up: &[i64], far: &[i64], least: i64) -> bool
-    requires here { length here.now ≡ 9 }
-    requires up { length up.now ≡ 9 }
-    requires far { length far.now ≡ 9 }
-    ensures { IsTrue result → (i : ℕ) → i < 9 → run_flags least here.now up.now far.now i ≡ 0 }
-{
-    if !are_above(&here[..9], least) {
-        return false;
-    }
-    if !are_above(&up[..9], least) {
-        return false;
-    }
-    are_above(&far[..9], least)
-}
-
-/// Whether all samples of three runs of nine are below: no edge is crossing then either.
-#[inline(always)]
-fn are_all_below(here: &[i64], up: &[i64], far: &[i64], least: i64) -> bool
-    requires here { length here.now ≡ 9 }
-    requires up { length up.now ≡ 9 }
-    requires far { length far.now ≡ 9 }
-    ensures { IsTrue result → (i : ℕ) → i < 9 → run_flags least here.now up.now far.now i ≡ 0 }
-{
-    if !are_below(&here[..9], least) {
-        return false;
-    }
-    if !are_below(&up[..9], least) {
-        return false;
-    }
-    are_below(&far[..9], least)
-}
-
-/// Whether the samples of three runs are on one side. It says so of runs of nine alone.
-#[inline(always)]
-fn are_quiet(here: &[i64], up: &[i64], far: &[i64], least: i64) -> bool
-    requires some { 0 < length here.now }
-    requires up { length up.now ≡ length here.now }
-    requires far { length far.now ≡ length here.now }
-    ensures { IsTrue result → (i : ℕ) → i < length here.now → run_flags least here.now up.now far.now i ≡ 0 }
-{
-    if here.len() != 9 {
-        return false;
-    }
-    if here[0] >= least {
-        are_all_above(here, up, far, least)
-    } else {
-        are_all_below(here, up, far, least)
-    }
-}
-
 /// Writes the flags of so many points of a run, behind which another one stands.
 #[inline(always)]
 fn flag_front(here: &[i64], up: &[i64], far: &[i64], least: i64, count: usize, out: &mut [u8])
@@ -116,6 +48,7 @@ fn flag_front(here: &[i64], up: &[i64], far: &[i64], least: i64, count: usize, o
     requires out { count ≤ length out.old }
     ensures { (i : ℕ) → i < count → slice_index out.new i ≡ run_flags least here.now up.now far.now i }
 {
+    // The samples are compared without a branch, since those of the next run are fetched meanwhile.
     let mut above = here[0] >= least;
     for i in 0..count {
         let next = here[i + 1] >= least;
@@ -187,23 +120,19 @@ pub fn point_runs<'f>(field: &'f Field<'_>, rows: Rows, x: u32, y: u32, z: u32) 
     }
 }
 
-/// Writes the flags of a run of points from a place on, where zeros stand: of all but the last where the row goes on behind it,
-/// since the next brick has that one too.
+/// Writes the flags of a run of points from a place on: of all but the last where the row goes on behind it, since the next brick has
+/// that one too.
 #[inline(always)]
 fn put_flags(here: &[i64], up: &[i64], far: &[i64], least: i64, start: usize, flags: &mut [u8])
     requires room { start < length flags.old }
     requires here { length here.now ≡ min 9 (length flags.old - start) }
     requires up { length up.now ≡ length here.now }
     requires far { length far.now ≡ length here.now }
-    requires zeros { AreZerosFrom start flags.old }
     ensures inside { (i : ℕ) → i < length here.now → (start + 9 < length flags.old → i < 8)
         → slice_index flags.new (start + i) ≡ run_flags least here.now up.now far.now i }
     ensures before { (k : ℕ) → k < start → slice_index flags.new k ≡ slice_index flags.old k }
     ensures behind { start + 9 < length flags.old → (k : ℕ) → start + 8 ≤ k → slice_index flags.new k ≡ slice_index flags.old k }
 {
-    if are_quiet(here, up, far, least) {
-        return;
-    }
     if flags.len() - start > 9 {
         flag_front(here, up, far, least, 8, &mut flags[start..start + 8]);
     } else {

@@ -1,4 +1,4 @@
-use Rattle.std.proofs.Common.{◌≡◌, ◌+◌, ◌∙◌, rules, ℤ, pos, w64, to_z, of_z, cond, get_or, ap, subst, arith}
+use Rattle.std.proofs.Common.{◌≡◌, ◌+◌, rules, ℤ, pos, w64, to_z, of_z, cond, get_or, ap, subst, arith}
 use Rattle.std.specs.Prelude.{int_le}
 use Rattle.std.proofs.lemmas.Int.{to_z-of_z}
 use Rattle.corner_signs.specs.Rows.{bit_from}

@@ -1,4 +1,4 @@
-use Rattle.std.proofs.Common.{◌≡◌, ℕ, ◌-◌, ◌∙◌, rules, ℤ, pos, w64, to_z, of_z, get_or, length, ap₂, subst, arith}
+use Rattle.std.proofs.Common.{◌≡◌, ℕ, ◌-◌, rules, ℤ, pos, w64, to_z, of_z, get_or, length, ap₂, subst, arith}
 use Rattle.std.proofs.lemmas.Int.{to_z-of_z}
 use Rattle.corner_signs.specs.Rows.{bit_from}
 use Rattle.stitch_rows.specs.Rows.{run_flags}

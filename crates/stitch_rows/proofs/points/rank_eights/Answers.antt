@@ -1,4 +1,4 @@
-use Rattle.std.proofs.Common.{◌≡◌, ℕ, ◌+◌, ◌*◌, arith}
+use Rattle.std.proofs.Common.{arith}
 use Rattle.stitch_rows.proofs.points.rank_eights.Goals as goal
 
 pub loop-k-preserved : goal.loop-k-preserved

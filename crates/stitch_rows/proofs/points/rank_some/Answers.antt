@@ -1,4 +1,4 @@
-use Rattle.std.proofs.Common.{◌+◌, ◌∙◌, ap, sym, refl, arith}
+use Rattle.std.proofs.Common.{arith}
 use Rattle.stitch_rows.proofs.RunRanks.{sum_none}
 use Rattle.stitch_rows.proofs.points.rank_some.Goals as goal
 
