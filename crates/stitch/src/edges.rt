@@ -25,7 +25,7 @@ use flat_mesh::Heights;
 use iso_base::Point;
 use iso_io::{Failed, Sink};
 use stitch_rows::{
-    ActiveRow, Field, PointRuns, ROW, Rows, count_along, flag_row, point_runs, rows_at,
+    ActiveRow, Field, PointRuns, ROW, Rows, are_zeros, count_along, flag_row, point_runs, rows_at,
 };
 
 /// Where the vertex on an edge is in thousandths, by its lower point, its axis and its place on the edge.
@@ -191,13 +191,6 @@ fn write_point<K: Sink>(
     let ends = ends_at(field, runs, point.x - k as u32, point.y, point.z, k);
     put_point(field, style, point, flags, ends, block);
     Ok(())
-}
-
-/// Whether no flag is set.
-fn are_zeros(flags: &[u8]) -> bool
-    ensures { IsTrue result → All (λ f. f ≡ 0) flags.now }
-{
-    flags.iter().all(|f| *f == 0)
 }
 
 /// Puts the lines of the vertices on the edges that begin at the points of a row from 8 * x to before an end behind the

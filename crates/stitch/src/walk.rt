@@ -13,6 +13,7 @@ use case_table::CaseRow;
 use cell_loops::loop_count;
 use edge_points::RowRanks;
 use iso_base::Steps;
+use std::simd::prelude::*;
 use std::sync::ledger::Ledger;
 use stitch_rows::{ActiveRow, CellRows, Field, case_row};
 
@@ -22,14 +23,8 @@ fn are_same(cases: &[u16], from: usize) -> bool
     requires { from + 8 ≤ length cases.now }
     ensures { IsTrue result → (k : ℕ) → k < 8 → slice_index cases.now (from + k) ≡ slice_index cases.now from }
 {
-    let case = cases[from];
-    cases[from + 1] == case
-        && cases[from + 2] == case
-        && cases[from + 3] == case
-        && cases[from + 4] == case
-        && cases[from + 5] == case
-        && cases[from + 6] == case
-        && cases[from + 7] == case
+    let eight = u16x8::from_slice(&cases[from..]);
+    eight.simd_eq(u16x8::splat(cases[from])).all()
 }
 
 /// Whether the eight cases from a place on are one case that has no loops.

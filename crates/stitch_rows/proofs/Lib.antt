@@ -10,3 +10,4 @@ pub mod RunFlags
 pub mod StillFlags
 pub mod LoopCases
 pub mod Corners
+pub mod RunRanks

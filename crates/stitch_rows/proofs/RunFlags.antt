@@ -1,7 +1,6 @@
 -- The flags of the points of a run, one after the other.
-use Rattle.std.proofs.Common.{◌≡◌, ℕ, ◌+◌, ◌<◌, Bool, true, false, List, All, length, take, get_or, set, cond, refl, sym, subst, inl, inr, pos, ◌∙◌, ap, arith, below_more, get_or-set_same, get_or-set_other, ℤ}
-use Rattle.std.proofs.lemmas.Bool.{cases_lt, lt-ltb, le-ltb}
-use Rattle.std.proofs.lemmas.List.{take_all}
+use Rattle.std.proofs.Common.{◌≡◌, ℕ, ◌+◌, ◌<◌, List, length, get_or, set, cond, sym, ◌∙◌, ap, arith, below_more, get_or-set_same, get_or-set_other, ℤ}
+use Rattle.std.proofs.lemmas.Bool.{lt-ltb, le-ltb}
 use Rattle.iso_base.specs.Volume.{sample}
 use Rattle.corner_signs.specs.Rows.{bit_from}
 use Rattle.crossing_edges.specs.Signs.{flag_of}
@@ -31,30 +30,3 @@ module _ (least : ℤ) (here up far : List ℤ) (i n a b c d : ℕ) (e : n ≡ f
   pub last_flags : i + 1 ≡ length here → b ≡ bit_from least (sample here i) → n ≡ run_flags least here up far i
   last_flags last eb =
       by_right (eb ∙ sym (ap (λ t. cond t (bit_from least (sample here (i + 1))) (bit_from least (sample here i))) (le-ltb (i + 1) (length here) (omega arith))))
-
--- samples that are all on one side
-module _ (least : ℤ) (b : ℕ) where
-  side_at : (run : List ℤ) → length run ≡ 9 → All (λ s. bit_from least s ≡ b) (take 9 run) → (k : ℕ) → k < 9 → bit_from least (sample run k) ≡ b
-  side_at run nine all k low =
-      let whole : take 9 run ≡ run = take_all 9 run (omega arith) in
-      subst (λ l. All (λ s. bit_from least s ≡ b) l) whole all k (pos 0) (omega arith)
-
-  side_right : (run : List ℤ) → length run ≡ 9 → ((k : ℕ) → k < 9 → bit_from least (sample run k) ≡ b) → (i : ℕ) → i < 9 → bit_right least run i ≡ b
-  side_right run nine side i low = elim (cases_lt (i + 1) (length run)) [
-    | inl more ↦ ap (λ t. cond t (bit_from least (sample run (i + 1))) (bit_from least (sample run i))) (lt-ltb (i + 1) (length run) more) ∙ side (i + 1) (omega arith)
-    | inr last ↦ ap (λ t. cond t (bit_from least (sample run (i + 1))) (bit_from least (sample run i))) (le-ltb (i + 1) (length run) last) ∙ side i low
-  ]
-
-  pub no_flags : (here up far : List ℤ) → flag_of b b b b ≡ 0 → length here ≡ 9 → length up ≡ 9 → length far ≡ 9 → All (λ s. bit_from least s ≡ b) (take 9 here)
-      → All (λ s. bit_from least s ≡ b) (take 9 up) → All (λ s. bit_from least s ≡ b) (take 9 far) → (i : ℕ) → i < 9 → run_flags least here up far i ≡ 0
-  unfolding run_flags
-  no_flags here up far none nh nu nf h u f i low =
-      let r = side_right here nh (side_at here nh h) i low in
-      ap (λ k. flag_of k (bit_right least here i) (bit_from least (sample up i)) (bit_from least (sample far i))) (side_at here nh h i low)
-      ∙ (ap (λ k. flag_of b k (bit_from least (sample up i)) (bit_from least (sample far i))) r
-      ∙ (ap (λ k. flag_of b b k (bit_from least (sample far i))) (side_at up nu u i low)
-      ∙ (ap (λ k. flag_of b b b k) (side_at far nf f i low) ∙ none)))
-
-pub flags_alike : (above : Bool) → flag_of (cond above 1 0) (cond above 1 0) (cond above 1 0) (cond above 1 0) ≡ 0
-flags_alike true = refl
-flags_alike false = refl

@@ -1,10 +1,12 @@
 //! The points of a row: their flags, and the numbers of their crossing edges.
-ghost use Rattle.std.specs.Prelude.{◌≡◌, ℕ, ◌+◌, ◌-◌, ◌*◌, ◌<◌, ◌≤◌, All, IsTrue, cond, length, min, slice_index};
-ghost use Rattle.crossing_edges.specs.Flags.{flags_from, rank};
+ghost use Rattle.std.specs.Prelude.{◌≡◌, ℕ, ℤ, ◌+◌, ◌-◌, ◌*◌, ◌<◌, ◌≤◌, ◌^◌, All, IsTrue, cond, int_le, length, min, slice_index, take};
+ghost use Rattle.std.specs.List.{sum_by};
+ghost use Rattle.iso_base.specs.Shifted.{is_above_level};
+ghost use Rattle.crossing_edges.specs.Flags.{edges_in, flags_from, rank};
 ghost use Rattle.flat_mesh.specs.Lattice.{heights};
 ghost use Rattle.flat_mesh.specs.Rows.{row_start};
 ghost use Rattle.corner_signs.specs.Rows.{bit_from};
-ghost use Rattle.crossing_edges.specs.Signs.{apart, flag_of};
+ghost use Rattle.crossing_edges.specs.Signs.{flag_of};
 ghost use Rattle.stitch_rows.specs.Bricks.{AreMarked, HoldRows, first_brick, next_at};
 ghost use Rattle.stitch_rows.specs.Rows.{AreFirst, AreFlags, AreFlagsTo, AreRuns, AreZerosFrom, HasMoreFlags, run_flags};
 
@@ -29,80 +31,12 @@ pub struct Rows {
     far: BrickRow,
 }
 
-/// 1 for a sample that is at least `least`, else 0.
+/// The flags of a point, from which of its sample and those of the next points are above the level.
 #[inline(always)]
-fn sign(sample: i64, least: i64) -> u8
-    ensures { result ≡ bit_from least sample }
+fn flags_of(here: bool, right: bool, up: bool, far: bool) -> u8
+    ensures { result ≡ flag_of (cond here 1 0) (cond right 1 0) (cond up 1 0) (cond far 1 0) }
 {
-    if sample >= least { 1 } else { 0 }
-}
-
-/// 1 where two signs differ, else 0.
-#[inline(always)]
-fn differ(a: u8, b: u8) -> u8
-    ensures value { result ≡ apart a b }
-    ensures bound { result ≤ 1 }
-{
-    if a == b { 0 } else { 1 }
-}
-
-/// The flags of a point, from its sign and those of the next points.
-#[inline(always)]
-fn flags_of(here: u8, right: u8, up: u8, far: u8) -> u8
-    ensures { result ≡ flag_of here right up far }
-{
-    differ(here, right) + 2 * differ(here, up) + 4 * differ(here, far)
-}
-
-/// Whether a sample is at least `least`, or whether it is below, as is asked.
-#[inline(always)]
-fn is_on_side(sample: i64, least: i64, above: bool) -> bool
-    ensures { IsTrue result → bit_from least sample ≡ cond above 1 0 }
-{
-    (sample >= least) == above
-}
-
-/// Whether all samples are on that side.
-#[inline(always)]
-fn are_on_side(run: &[i64], least: i64, above: bool) -> bool
-    ensures { IsTrue result → All (λ s. bit_from least s ≡ cond above 1 0) run.now }
-{
-    run.iter().all(|s| is_on_side(*s, least, above))
-}
-
-/// Whether all samples of three runs of nine are on that side: no edge is crossing then that begins at a point of the first.
-#[inline(always)]
-fn are_alike(here: &[i64], up: &[i64], far: &[i64], least: i64, above: bool) -> bool
-    requires here { length here.now ≡ 9 }
-    requires up { length up.now ≡ 9 }
-    requires far { length far.now ≡ 9 }
-    ensures { IsTrue result → (i : ℕ) → i < 9 → run_flags least here.now up.now far.now i ≡ 0 }
-{
-    if !are_on_side(&here[..9], least, above) {
-        return false;
-    }
-    if !are_on_side(&up[..9], least, above) {
-        return false;
-    }
-    are_on_side(&far[..9], least, above)
-}
-
-/// Whether the samples of three runs are on one side. It says so of runs of nine alone.
-#[inline(always)]
-fn are_quiet(here: &[i64], up: &[i64], far: &[i64], least: i64) -> bool
-    requires some { 0 < length here.now }
-    requires up { length up.now ≡ length here.now }
-    requires far { length far.now ≡ length here.now }
-    ensures { IsTrue result → (i : ℕ) → i < length here.now → run_flags least here.now up.now far.now i ≡ 0 }
-{
-    if here.len() != 9 {
-        return false;
-    }
-    if here[0] >= least {
-        are_alike(here, up, far, least, true)
-    } else {
-        are_alike(here, up, far, least, false)
-    }
+    u8::from(here != right) + 2 * u8::from(here != up) + 4 * u8::from(here != far)
 }
 
 /// Writes the flags of so many points of a run, behind which another one stands.
@@ -114,13 +48,12 @@ fn flag_front(here: &[i64], up: &[i64], far: &[i64], least: i64, count: usize, o
     requires out { count ≤ length out.old }
     ensures { (i : ℕ) → i < count → slice_index out.new i ≡ run_flags least here.now up.now far.now i }
 {
+    // The samples are compared without a branch, since those of the next run are fetched meanwhile.
+    let mut above = here[0] >= least;
     for i in 0..count {
-        out[i] = flags_of(
-            sign(here[i], least),
-            sign(here[i + 1], least),
-            sign(up[i], least),
-            sign(far[i], least),
-        );
+        let next = here[i + 1] >= least;
+        out[i] = flags_of(above, next, up[i] >= least, far[i] >= least);
+        above = next;
     }
 }
 
@@ -134,8 +67,8 @@ fn flag_run(here: &[i64], up: &[i64], far: &[i64], least: i64, out: &mut [u8])
 {
     let last = here.len() - 1;
     flag_front(here, up, far, least, last, out);
-    let end = sign(here[last], least);
-    out[last] = flags_of(end, end, sign(up[last], least), sign(far[last], least));
+    let end = here[last] >= least;
+    out[last] = flags_of(end, end, up[last] >= least, far[last] >= least);
 }
 
 /// The next coordinate, or the last one again.
@@ -187,23 +120,19 @@ pub fn point_runs<'f>(field: &'f Field<'_>, rows: Rows, x: u32, y: u32, z: u32) 
     }
 }
 
-/// Writes the flags of a run of points from a place on, where zeros stand: of all but the last where the row goes on behind it,
-/// since the next brick has that one too.
+/// Writes the flags of a run of points from a place on: of all but the last where the row goes on behind it, since the next brick has
+/// that one too.
 #[inline(always)]
 fn put_flags(here: &[i64], up: &[i64], far: &[i64], least: i64, start: usize, flags: &mut [u8])
     requires room { start < length flags.old }
     requires here { length here.now ≡ min 9 (length flags.old - start) }
     requires up { length up.now ≡ length here.now }
     requires far { length far.now ≡ length here.now }
-    requires zeros { AreZerosFrom start flags.old }
     ensures inside { (i : ℕ) → i < length here.now → (start + 9 < length flags.old → i < 8)
         → slice_index flags.new (start + i) ≡ run_flags least here.now up.now far.now i }
     ensures before { (k : ℕ) → k < start → slice_index flags.new k ≡ slice_index flags.old k }
     ensures behind { start + 9 < length flags.old → (k : ℕ) → start + 8 ≤ k → slice_index flags.new k ≡ slice_index flags.old k }
 {
-    if are_quiet(here, up, far, least) {
-        return;
-    }
     if flags.len() - start > 9 {
         flag_front(here, up, far, least, 8, &mut flags[start..start + 8]);
     } else {
@@ -213,11 +142,12 @@ fn put_flags(here: &[i64], up: &[i64], far: &[i64], least: i64, start: usize, fl
 
 /// Writes the flags of the points of a row that an active brick holds: those from 8 * x on, where zeros stand.
 #[inline(always)]
-fn active_flags(field: &Field, rows: Rows, x: u32, y: u32, z: u32, flags: &mut [u8])
+fn active_flags(field: &Field, rows: Rows, least: i64, x: u32, y: u32, z: u32, flags: &mut [u8])
     requires x { 8 * x + 1 < field.now.grid.nx }
     requires y { y < field.now.grid.ny }
     requires z { z < field.now.grid.nz }
     requires rows { HoldRows field.now.grid y z rows }
+    requires least { (s : ℤ) → int_le least s ≡ is_above_level s field.now.level }
     requires flags { length flags.old ≡ field.now.grid.nx }
     requires before { AreFlagsTo field.now y z (8 * x) flags.old }
     requires zeros { AreZerosFrom (8 * x) flags.old }
@@ -226,7 +156,6 @@ fn active_flags(field: &Field, rows: Rows, x: u32, y: u32, z: u32, flags: &mut [
 {
     let _ = field.sizes();
     let runs = point_runs(field, rows, x, y, z);
-    let least = field.level().least_above();
     let start = 8 * x as usize;
     put_flags(runs.here, runs.up, runs.far, least, start, flags);
 }
@@ -245,6 +174,7 @@ fn brick_flags(
     field: &Field,
     active: &ActiveRow,
     rows: Rows,
+    least: i64,
     x: u32,
     y: u32,
     z: u32,
@@ -256,6 +186,7 @@ fn brick_flags(
     requires y { y < field.now.grid.ny }
     requires z { z < field.now.grid.nz }
     requires rows { HoldRows field.now.grid y z rows }
+    requires least { (s : ℤ) → int_le least s ≡ is_above_level s field.now.level }
     requires flags { length flags.old ≡ field.now.grid.nx }
     requires before { AreFlagsTo field.now y z (8 * x) flags.old }
     requires zeros { AreZerosFrom (8 * x) flags.old }
@@ -264,7 +195,7 @@ fn brick_flags(
 {
     let _ = field.sizes();
     if active.is_active(x) {
-        active_flags(field, rows, x, y, z, flags);
+        active_flags(field, rows, least, x, y, z, flags);
     }
 }
 
@@ -280,9 +211,10 @@ pub fn flag_row(field: &Field, active: &ActiveRow, y: u32, z: u32, flags: &mut [
 {
     let sizes = field.sizes();
     let rows = rows_at(&sizes, y, z);
+    let least = field.level().least_above();
     put_zeros(flags);
     for x in 0..count_along(sizes.nx()) {
-        brick_flags(field, active, rows, x, y, z, flags);
+        brick_flags(field, active, rows, least, x, y, z, flags);
     }
 }
 
@@ -298,6 +230,70 @@ fn set_flags(field: &Field, active: &ActiveRow, y: u32, z: u32, flags: &mut [u8;
     flag_row(field, active, y, z, &mut flags[..nx]);
 }
 
+/// Whether no flag is set. Eight flags are looked at as one number.
+#[inline(always)]
+pub fn are_zeros(flags: &[u8]) -> bool
+    ensures { IsTrue result → All (λ f. f ≡ 0) flags.now }
+{
+    if flags.len() != 8 {
+        return flags.iter().all(|f| *f == 0);
+    }
+    u64::from_le_bytes([
+        flags[0], flags[1], flags[2], flags[3], flags[4], flags[5], flags[6], flags[7],
+    ]) == 0
+}
+
+/// Writes a number throughout.
+fn put_same(number: u32, first: &mut [u32])
+    ensures { (i : ℕ) → i < length first.new → slice_index first.new i ≡ number }
+{
+    first.fill(number);
+}
+
+/// Writes the numbers of the first crossing edges of some points, and behind them that of the next point.
+#[inline(always)]
+fn rank_some(flags: &[u8], before: u32, first: &mut [u32])
+    requires flags { All (λ f. f < 8) flags.now }
+    requires lengths { length first.old ≡ length flags.now + 1 }
+    requires room { before + 3 * length flags.now < 2 ^ 32 }
+    ensures { (i : ℕ) → i ≤ length flags.now → slice_index first.new i ≡ before + sum_by edges_in (take i flags.now) }
+{
+    if are_zeros(flags) {
+        put_same(before, first);
+        return;
+    }
+    rank_points(flags, before, first);
+}
+
+/// The same of those from a place to before an end, where the numbers of the earlier ones are written.
+#[inline(always)]
+fn rank_part(flags: &[u8], before: u32, at: usize, end: usize, first: &mut [u32])
+    requires at { at ≤ end }
+    requires end { end ≤ length flags.now }
+    requires flags { All (λ f. f < 8) flags.now }
+    requires lengths { length first.old ≡ length flags.now + 1 }
+    requires room { before + 3 * length flags.now < 2 ^ 32 }
+    requires ranked { (i : ℕ) → i ≤ at → slice_index first.old i ≡ before + sum_by edges_in (take i flags.now) }
+    ensures { (i : ℕ) → i ≤ end → slice_index first.new i ≡ before + sum_by edges_in (take i flags.now) }
+{
+    rank_some(&flags[at..end], first[at], &mut first[at..end + 1]);
+}
+
+/// The same of all points of a row, eight at a time.
+fn rank_eights(flags: &[u8], before: u32, first: &mut [u32])
+    requires flags { All (λ f. f < 8) flags.now }
+    requires lengths { length first.old ≡ length flags.now + 1 }
+    requires room { before + 3 * length flags.now < 2 ^ 32 }
+    ensures { (i : ℕ) → i ≤ length flags.now → slice_index first.new i ≡ before + sum_by edges_in (take i flags.now) }
+{
+    let eights = flags.len() / 8;
+    first[0] = before;
+    for k in 0..eights {
+        rank_part(flags, before, 8 * k, 8 * k + 8, first);
+    }
+    rank_part(flags, before, 8 * eights, flags.len(), first);
+}
+
 /// Writes the numbers of the first crossing edges of the points of a row, and behind them that of the next row.
 fn rank_run<H: Heights>(field: &H, y: u32, z: u32, before: u32, flags: &[u8], first: &mut [u32])
     requires y { y < (H.leveled field.now).grid.ny }
@@ -309,7 +305,7 @@ fn rank_run<H: Heights>(field: &H, y: u32, z: u32, before: u32, flags: &[u8], fi
     ensures { AreFirst (H.leveled field.now) y z first.new }
 {
     let _ = field.sizes();
-    rank_points(flags, before, first);
+    rank_eights(flags, before, first);
 }
 
 /// Writes the same at the front of a buffer.

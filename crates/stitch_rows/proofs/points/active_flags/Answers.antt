@@ -1,7 +1,6 @@
-use Rattle.std.proofs.Common.{◌≡◌, ◌-◌, ◌*◌, ◌∙◌, rules, ℤ, w64, to_z, of_z, ap, min, arith, refl}
+use Rattle.std.proofs.Common.{◌≡◌, ◌-◌, ◌*◌, ◌∙◌, rules, w64, to_z, of_z, ap, min, arith, refl}
 use Rattle.std.specs.Prelude.{int_le}
 use Rattle.std.proofs.lemmas.Int.{to_z-of_z}
-use Rattle.iso_base.specs.Shifted.{is_above_level}
 use Rattle.stitch_rows.proofs.FlagRows.{flags_more}
 use Rattle.stitch_rows.proofs.points.active_flags.Goals as goal
 
@@ -18,12 +17,11 @@ pub returns-clause-flags : goal.returns-clause-flags
 returns-clause-flags c =
     let v = c.args.field.now in
     let runs = c.point_runs-runs.result in
-    let least : ℤ = c.least_above-least.result in
-    let e : to_z w64 (of_z w64 least) ≡ least = search (rules, to_z-of_z) in
+    let e : to_z w64 (of_z w64 c.args.least) ≡ c.args.least = search (rules, to_z-of_z) in
     flags_more v c.sizes.ensures.leveled c.args.y c.args.z c.requires.y c.requires.z c.args.x (min 9 (v.grid.nx - 8 * c.args.x))
-    (to_z w64 (of_z w64 least)) runs.here.now runs.up.now runs.far.now c.args.flags.now c.put_flags.new.flags c.requires.x refl
+    (to_z w64 (of_z w64 c.args.least)) runs.here.now runs.up.now runs.far.now c.args.flags.now c.put_flags.new.flags c.requires.x refl
     c.point_runs-runs.ensures.here c.point_runs-runs.ensures.up c.point_runs-runs.ensures.far
-    (λ s. ap (λ l. int_le l s) e ∙ (c.least_above-least.ensures s ∙ ap (is_above_level s) c.level.ensures))
+    (λ s. ap (λ l. int_le l s) e ∙ c.requires.least s)
     (λ i low near. c.put_flags.ensures.inside i low (λ wider. near (omega (arith, wider, c.requires.flags)))) c.put_flags.ensures.before c.requires.before
 
 pub returns-clause-zeros : goal.returns-clause-zeros

@@ -1,4 +1,6 @@
-use Rattle.std.proofs.Common.{◌∙◌, sym, arith}
+use Rattle.std.proofs.Common.{◌≡◌, ◌∙◌, rules, w64, to_z, of_z, ap, sym, arith}
+use Rattle.std.specs.Prelude.{int_le}
+use Rattle.std.proofs.lemmas.Int.{to_z-of_z}
 use Rattle.stitch_rows.proofs.NextBricks.{marked_still}
 use Rattle.stitch_rows.proofs.Places.{number_in}
 use Rattle.stitch_rows.proofs.StillFlags.{zeros_more}
@@ -14,3 +16,8 @@ returns-else-is_active-clause-flags c =
 
 pub returns-else-is_active-clause-zeros : goal.returns-else-is_active-clause-zeros
 returns-else-is_active-clause-zeros c = λ wider k from low. c.requires.zeros k (omega (arith, from)) low
+
+pub active_flags-requires-clause-least : goal.active_flags-requires-clause-least
+active_flags-requires-clause-least c = λ s.
+    let e : to_z w64 (of_z w64 c.args.least) ≡ c.args.least = search (rules, to_z-of_z) in
+    ap (λ l. int_le l s) e ∙ c.requires.least s

@@ -1,4 +1,5 @@
-use Rattle.std.proofs.Common.{◌≡◌, ◌+◌, ◌∙◌, rules, ℤ, pos, w64, to_z, of_z, get_or, ap, subst, arith}
+use Rattle.std.proofs.Common.{◌≡◌, ◌+◌, rules, ℤ, pos, w64, to_z, of_z, cond, get_or, ap, subst, arith}
+use Rattle.std.specs.Prelude.{int_le}
 use Rattle.std.proofs.lemmas.Int.{to_z-of_z}
 use Rattle.corner_signs.specs.Rows.{bit_from}
 use Rattle.stitch_rows.specs.Rows.{run_flags}
@@ -12,17 +13,21 @@ loop-i-preserved c =
     let up = c.args.up.now in
     let far = c.args.far.now in
     let least : ℤ = to_z w64 (of_z w64 c.args.least) in
-    let ea : to_z w64 (of_z w64 (get_or here i (pos 0))) ≡ get_or here i (pos 0) = search (rules, to_z-of_z) in
-    let eb : to_z w64 (of_z w64 (get_or here (i + 1) (pos 0))) ≡ get_or here (i + 1) (pos 0) = search (rules, to_z-of_z) in
-    let ec : to_z w64 (of_z w64 (get_or up i (pos 0))) ≡ get_or up i (pos 0) = search (rules, to_z-of_z) in
-    let ed : to_z w64 (of_z w64 (get_or far i (pos 0))) ≡ get_or far i (pos 0) = search (rules, to_z-of_z) in
-    written_more (run_flags least here up far) c.loop-i.out i c.flags_of.result (omega arith)
-    (inner_flags least here up far i c.flags_of.result c.sign.result c.sign-in-loop-i.result c.sign-in-loop-i-2.result c.sign-in-loop-i-3.result c.flags_of.ensures
-    (c.sign.ensures ∙ ap (bit_from least) ea) (c.sign-in-loop-i-2.ensures ∙ ap (bit_from least) ec) (c.sign-in-loop-i-3.ensures ∙ ap (bit_from least) ed)
-    (omega arith) (c.sign-in-loop-i.ensures ∙ ap (bit_from least) eb))
-    c.loop-i.invariant
+    let right : ℤ = to_z w64 (of_z w64 (get_or here (i + 1) (pos 0))) in
+    let above : ℤ = to_z w64 (of_z w64 (get_or up i (pos 0))) in
+    let behind : ℤ = to_z w64 (of_z w64 (get_or far i (pos 0))) in
+    let eb : right ≡ get_or here (i + 1) (pos 0) = search (rules, to_z-of_z) in
+    let ec : above ≡ get_or up i (pos 0) = search (rules, to_z-of_z) in
+    let ed : behind ≡ get_or far i (pos 0) = search (rules, to_z-of_z) in
+    record {
+      written = written_more (run_flags least here up far) c.loop-i.out i c.flags_of.result (omega arith)
+          (inner_flags least here up far i c.flags_of.result (cond c.loop-i.above 1 0) (bit_from least right) (bit_from least above) (bit_from least behind) c.flags_of.ensures
+          (ap (λ b. cond b 1 0) c.loop-i.invariant.above) (ap (bit_from least) ec) (ap (bit_from least) ed) (omega arith) (ap (bit_from least) eb))
+          c.loop-i.invariant.written;
+      above = ap (int_le least) eb;
+    }
 
 pub returns : goal.returns
 returns c = λ i low.
     let e : to_z w64 (of_z w64 c.args.least) ≡ c.args.least = search (rules, to_z-of_z) in
-    subst (λ (s : ℤ). get_or c.loop-i.out i 0 ≡ run_flags s c.args.here.now c.args.up.now c.args.far.now i) e (c.loop-i.invariant i (omega arith))
+    subst (λ (s : ℤ). get_or c.loop-i.out i 0 ≡ run_flags s c.args.here.now c.args.up.now c.args.far.now i) e (c.loop-i.invariant.written i (omega arith))

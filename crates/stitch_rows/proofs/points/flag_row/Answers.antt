@@ -1,4 +1,7 @@
-use Rattle.std.proofs.Common.{◌≡◌, ◌+◌, ◌*◌, ◌≤◌, ap, subst, arith}
+use Rattle.std.proofs.Common.{◌≡◌, ◌+◌, ◌*◌, ◌≤◌, ◌∙◌, rules, ℤ, w64, to_z, of_z, ap, subst, arith}
+use Rattle.std.specs.Prelude.{int_le}
+use Rattle.std.proofs.lemmas.Int.{to_z-of_z}
+use Rattle.iso_base.specs.Shifted.{is_above_level}
 use Rattle.iso_defs.specs.Grid.{Grid}
 use Rattle.stitch_rows.specs.Rows.{HasMoreFlags}
 use Rattle.stitch_rows.proofs.FlagRows.{flags_list}
@@ -30,3 +33,9 @@ returns-clause-each c =
 
 pub returns-clause-list : goal.returns-clause-list
 returns-clause-list c = flags_list c.args.field.now c.args.y c.args.z c.loop-x.flags (omega (arith, c.loop-x.auto.flags, c.requires.flags)) (returns-clause-each c)
+
+pub brick_flags-requires-clause-least : goal.brick_flags-requires-clause-least
+brick_flags-requires-clause-least c = λ s.
+    let least : ℤ = c.least_above-least.result in
+    let e : to_z w64 (of_z w64 least) ≡ least = search (rules, to_z-of_z) in
+    ap (λ l. int_le l s) e ∙ (c.least_above-least.ensures s ∙ ap (is_above_level s) c.level.ensures)
