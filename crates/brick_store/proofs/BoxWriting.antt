@@ -65,109 +65,6 @@ zones_at g a values first second whole old mid new joined one two =
     (λ b x y z o. elim (joined.split b o.0) [ inl s ↦ inl (s, o.1) | inr f ↦ inr ((f.0, o.1), λ s. f.1 s.0) ])
     (λ b x y z o. (joined.left b o.0, o.1)) (λ b x y z o. (joined.right b o.0, o.1)) one two
 
--- one row of a part more
-pub row_more : (g : Grid) (a : Area) (values : Values) (brick : ℕ) (p : Part) (z0 k : ℕ) (old mid new : List ℤ) → p.y ≤ k
-    → ArePartWritten g a values brick (record (one_layer p z0) { y_end = k }) old mid → ArePartWritten g a values brick (one_row p k z0) mid new
-    → ArePartWritten g a values brick (record (one_layer p z0) { y_end = k + 1 }) old new
-row_more g a values brick p z0 k old mid new le one two =
-    both_at g (IsOfPart brick (record (one_layer p z0) { y_end = k })) (IsOfPart brick (one_row p k z0)) (IsOfPart brick (record (one_layer p z0) { y_end = k + 1 }))
-    (value_in g a values) old mid new
-    (λ b x y z o. elim (cases_lt y k) [
-      | inl l ↦ inr (
-        (o.0, record { x_from = o.1.x_from; x_end = o.1.x_end; y_from = o.1.y_from; y_end = l; z_from = o.1.z_from; z_end = o.1.z_end }),
-        λ s. absurd (omega (arith, s.1.y_from, l)),
-      )
-      | inr h ↦ inl (o.0, record { x_from = o.1.x_from; x_end = o.1.x_end; y_from = h; y_end = o.1.y_end; z_from = o.1.z_from; z_end = o.1.z_end })
-    ])
-    (λ b x y z o. (o.0, record { x_from = o.1.x_from; x_end = o.1.x_end; y_from = o.1.y_from; y_end = omega (arith, o.1.y_end); z_from = o.1.z_from; z_end = o.1.z_end }))
-    (λ b x y z o. (o.0, record { x_from = o.1.x_from; x_end = o.1.x_end; y_from = omega (arith, o.1.y_from, le); y_end = o.1.y_end; z_from = o.1.z_from; z_end = o.1.z_end }))
-    one two
-
--- one layer of a part more
-pub layer_more : (g : Grid) (a : Area) (values : Values) (brick : ℕ) (p : Part) (k : ℕ) (old mid new : List ℤ) → p.z ≤ k
-    → ArePartWritten g a values brick (record p { z_end = k }) old mid → ArePartWritten g a values brick (one_layer p k) mid new
-    → ArePartWritten g a values brick (record p { z_end = k + 1 }) old new
-layer_more g a values brick p k old mid new le one two =
-    both_at g (IsOfPart brick (record p { z_end = k })) (IsOfPart brick (one_layer p k)) (IsOfPart brick (record p { z_end = k + 1 }))
-    (value_in g a values) old mid new
-    (λ b x y z o. elim (cases_lt z k) [
-      | inl l ↦ inr (
-        (o.0, record { x_from = o.1.x_from; x_end = o.1.x_end; y_from = o.1.y_from; y_end = o.1.y_end; z_from = o.1.z_from; z_end = l }),
-        λ s. absurd (omega (arith, s.1.z_from, l)),
-      )
-      | inr h ↦ inl (o.0, record { x_from = o.1.x_from; x_end = o.1.x_end; y_from = o.1.y_from; y_end = o.1.y_end; z_from = h; z_end = o.1.z_end })
-    ])
-    (λ b x y z o. (o.0, record { x_from = o.1.x_from; x_end = o.1.x_end; y_from = o.1.y_from; y_end = o.1.y_end; z_from = o.1.z_from; z_end = omega (arith, o.1.z_end) }))
-    (λ b x y z o. (o.0, record { x_from = o.1.x_from; x_end = o.1.x_end; y_from = o.1.y_from; y_end = o.1.y_end; z_from = omega (arith, o.1.z_from, le); z_end = o.1.z_end }))
-    one two
-
--- no row and no layer of a part
-pub no_row : (g : Grid) (a : Area) (values : Values) (brick : ℕ) (p : Part) (z0 : ℕ) (old : List ℤ)
-    → ArePartWritten g a values brick (record (one_layer p z0) { y_end = p.y }) old old
-no_row g a values brick p z0 old =
-    none_at g (IsOfPart brick (record (one_layer p z0) { y_end = p.y })) (value_in g a values) old (λ b x y z o. absurd (omega (arith, o.1.y_from, o.1.y_end)))
-
-pub no_layer : (g : Grid) (a : Area) (values : Values) (brick : ℕ) (p : Part) (old : List ℤ) → ArePartWritten g a values brick (record p { z_end = p.z }) old old
-no_layer g a values brick p old =
-    none_at g (IsOfPart brick (record p { z_end = p.z })) (value_in g a values) old (λ b x y z o. absurd (omega (arith, o.1.z_from, o.1.z_end)))
-
--- ---- a row of a part
-
-pub row_at : (g : Grid) (value : ℕ → ℤ) (brick : ℕ) (p : Part) (y0 z0 start : ℕ) (row old new : List ℤ)
-    → p.x ≤ p.x_end → p.x_end ≤ 9 → y0 < 9 → z0 < 9 → start ≡ copy_place brick p.x y0 z0 → length row ≡ p.x_end - p.x → start + length row ≤ length old
-    → new ≡ row_set start row old
-    → ((x : ℕ) → p.x ≤ x → x < p.x_end → sample row (x - p.x) ≡ value (brick_point g brick x y0 z0))
-    → AreWrittenAt g (IsOfPart brick (one_row p y0 z0)) value old new
-row_at g value brick p y0 z0 start row old new order most hy hz at count fits put each = record {
-  count = ap length put ∙ length-row_set start row old fits;
-  written = λ b x y z o of.
-      let w : IsWithin (one_row p y0 z0) x y z = of.1 in
-      let ey : y ≡ y0 = omega (arith, w.y_from, w.y_end) in
-      let ez : z ≡ z0 = omega (arith, w.z_from, w.z_end) in
-      let place : copy_place b x y z ≡ start + (x - p.x) = spread b x y z of.0 ey ez w.x_from in
-      ap (λ l. copy_at l b x y z) put
-      ∙ (ap (sample (row_set start row old)) place
-      ∙ (row_set_within start row old fits (start + (x - p.x)) (omega arith) (omega (arith, count, w.x_from, w.x_end))
-      ∙ (ap (sample row) (omega arith)
-      ∙ (each x w.x_from w.x_end ∙ ap value (sym (moved b x y z of.0 ey ez))))));
-  others = λ b x y z o not.
-      ap (λ l. copy_at l b x y z) put
-      ∙ elim (cases_lt (copy_place b x y z) start) [
-        | inl l ↦ row_set_before start row old fits (copy_place b x y z) l
-        | inr m ↦ elim (cases_lt (copy_place b x y z) (start + length row)) [
-          | inl l ↦ absurd (not (inside b x y z o m l))
-          | inr h ↦ row_set_behind start row old fits (copy_place b x y z) h
-        ]
-      ];
-}
-  where
-    spread : (b x y z : ℕ) → b ≡ brick → y ≡ y0 → z ≡ z0 → p.x ≤ x → copy_place b x y z ≡ start + (x - p.x)
-    spread b x y z e ey ez le = omega (arith, e, ey, ez, at, le)
-
-    moved : (b x y z : ℕ) → b ≡ brick → y ≡ y0 → z ≡ z0 → brick_point g b x y z ≡ brick_point g brick x y0 z0
-    moved b x y z e ey ez = rw (e, ey, ez) refl
-
-    inside : (b x y z : ℕ) → AreOffsets g b x y z → start ≤ copy_place b x y z → copy_place b x y z < start + length row → IsOfPart brick (one_row p y0 z0) b x y z
-    inside b x y z o m l =
-        let dx : ℕ = copy_place b x y z - start + p.x in
-        let u : dx < p.x_end = omega (arith, count, l, m) in
-        let v : dx < 9 = omega (arith, u, most) in
-        let same : copy_place b x y z ≡ copy_place brick dx y0 z0 = omega (arith, at, m) in
-        let eb : b ≡ brick = sym (place_brick b x y z o.x_low o.y_low o.z_low) ∙ (ap (λ n. n / 729) same ∙ place_brick brick dx y0 z0 v hy hz) in
-        let ex : x ≡ dx = sym (place_x b x y z o.x_low o.y_low o.z_low) ∙ (ap (λ n. n % 9) same ∙ place_x brick dx y0 z0 v hy hz) in
-        let ey : y ≡ y0 = sym (place_y b x y z o.x_low o.y_low o.z_low) ∙ (ap (λ n. n / 9 % 9) same ∙ place_y brick dx y0 z0 v hy hz) in
-        let ez : z ≡ z0 = sym (place_z b x y z o.x_low o.y_low o.z_low) ∙ (ap (λ n. n / 81 % 9) same ∙ place_z brick dx y0 z0 v hy hz) in (
-          eb,
-          record {
-            x_from = omega (arith, ex);
-            x_end = omega (arith, ex, u);
-            y_from = omega (arith, ey);
-            y_end = omega (arith, ey);
-            z_from = omega (arith, ez);
-            z_end = omega (arith, ez);
-          },
-        )
-
 -- ---- the part of a box in a brick
 
 along : (s l h f e c : ℕ) → f ≡ l - s → e ≡ min (h + 1 - s) 9 → f ≤ c → c < e → (l ≤ s + c) × (s + c ≤ h)
@@ -342,36 +239,8 @@ module _ (g : Grid) (a : Area) (b : ℕ) (p : Part) (y z : ℕ) (is : IsBox g a)
       → n ≡ area_place g a (index g (u + p.x) (v + y) (w + z)) → n ≡ area_place g a (brick_point g b p.x y z)
   first_place u v w n eu ev ew e = e ∙ rw (eu, ev, ew) refl
 
-  -- those that follow
-  pub next_place : (d : ℕ) → d < p.x_end - p.x → area_place g a (brick_point g b (p.x + d) y z) ≡ area_place g a (brick_point g b p.x y z) + d
-  next_place d low =
-      let first : IsIn g b p.x y z = in_grid p.x (omega arith) part.x_order in
-      let there : IsIn g b (p.x + d) y z = in_grid (p.x + d) (omega arith) (omega (arith, low)) in
-      let of : IsOfBox g a b p.x y z = one_in p.x (omega arith) part.x_order in
-      place_is g a a.low a.high (brick_start g b 0 + (p.x + d)) (brick_start g b 1 + y) (brick_start g b 2 + z) refl refl there.x_in there.y_in there.z_in
-      ∙ (further (brick_start g b 0) p.x a.low.x _ of.x_from
-      ∙ ap (λ n. n + d) (sym (place_is g a a.low a.high (brick_start g b 0 + p.x) (brick_start g b 1 + y) (brick_start g b 2 + z) refl refl first.x_in first.y_in first.z_in)))
-    where
-      further : (s x l r : ℕ) → l ≤ s + x → s + (x + d) - l + r ≡ s + x - l + r + d
-      further s x l r le = omega arith
-
   pub place_low : (x : ℕ) → p.x ≤ x → x < p.x_end → area_place g a (brick_point g b x y z) < area_count a
   place_low x from end =
       let i : IsIn g b x y z = in_grid x from end in
       area_place_in g a is (brick_point g b x y z) (index_in g (brick_start g b 0 + x) (brick_start g b 1 + y) (brick_start g b 2 + z) i.x_in i.y_in i.z_in)
       (in_box g a b x y z i (one_in x from end))
-
-  -- all of them are in the box
-  pub row_room : area_place g a (brick_point g b p.x y z) + (p.x_end - p.x) ≤ area_count a
-  row_room =
-      let last : p.x_end - p.x - 1 < p.x_end - p.x = omega (arith, part.x_order) in
-      omega (
-        arith,
-        next_place (p.x_end - p.x - 1) last,
-        place_low (p.x + (p.x_end - p.x - 1)) (omega arith) (omega (arith, part.x_order)),
-        part.x_order,
-      )
-
--- the room of a row among the copies
-pub room_in : (b n p k y z len start : ℕ) → b < n → p + k ≤ 9 → y < 9 → z < 9 → len ≡ 729 * n → start ≡ copy_place b p y z → start + k ≤ len
-room_in b n p k y z len start low row hy hz e at = omega (arith, at)

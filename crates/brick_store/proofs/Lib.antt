@@ -11,5 +11,6 @@ pub mod RowVolumes
 pub mod BoxPoints
 pub mod Replacing
 pub mod BoxWriting
+pub mod PartWriting
 pub mod BoxVolumes
 pub mod Taking

@@ -4,3 +4,4 @@ pub mod Gathered
 pub mod Next
 pub mod Rows
 pub mod Boxes
+pub mod Parts

@@ -1,11 +1,12 @@
 //! Samples of a box, written brick by brick: each brick that holds a point of it is written once.
-ghost use Rattle.std.specs.Prelude.{◌≡◌, ◌+◌, ◌-◌, ◌*◌, ◌<◌, ◌≤◌, min, drop, length, replicate, take};
+ghost use Rattle.std.specs.Prelude.{◌≡◌, ◌+◌, ◌-◌, ◌*◌, ◌^◌, ◌<◌, ◌≤◌, min, drop, length, replicate, take};
 ghost use Rattle.iso_defs.specs.Bricks.{brick_count, brick_start, bricks_along};
 ghost use Rattle.iso_base.specs.Points.{IsPoint, index_of};
-ghost use Rattle.voxel_list.specs.Areas.{IsArea};
+ghost use Rattle.voxel_list.specs.Areas.{IsArea, area_count};
 ghost use Rattle.brick_store.specs.Copies.{AreCopies, home, samples_of};
 ghost use Rattle.brick_store.specs.Rows.{brick_zone, row_set};
 ghost use Rattle.brick_store.specs.Boxes.{ArePartWritten, AreBoxWritten, AreAsMany, IsPartOf, area_place, boxed, box_layer, box_line, one_layer, one_row};
+ghost use Rattle.brick_store.specs.Parts.{AreRowsPut, HasRows, IsPart};
 
 use crate::copies::copy_place;
 use crate::numbering::{BrickId, brick_at, first_point, home, row_end};
@@ -109,92 +110,124 @@ pub(crate) fn put(copies: &mut [i64], start: usize, values: &[i64], from: usize,
     }
 }
 
-/// Writes the copies of the points of a box in a row of a brick.
-#[tactic(auto, using(crate::proofs::Standing::few_bricks))]
-fn write_row(
-    sizes: &Sizes,
-    copies: &mut [i64],
-    area: &FillBox,
-    values: Values,
-    brick: BrickId,
-    part: &Part,
-    y: u32,
-    z: u32,
-)
-    requires count { length copies.old ≡ 729 * brick_count sizes.now }
-    requires brick { brick.0 < brick_count sizes.now }
-    requires high { IsPoint sizes.now area.now.high }
-    requires values { AreAsMany area.now values }
-    requires part { IsPartOf sizes.now area.now brick.0 part.now }
+/// Rows of values for the points of a part: from which place on the first one stands, and how many places further the row of the
+/// next y and that of the next z begin.
+#[derive(Clone, Copy)]
+struct Source<'a> {
+    values: &'a [i64],
+    from: usize,
+    row: usize,
+    layer: usize,
+}
+
+/// Writes a row of a part of a brick.
+#[inline(always)]
+fn write_row(copies: &mut [i64], brick: BrickId, part: &Part, source: Source, y: u32, z: u32)
+    requires few { brick.0 < 2 ^ 22 }
+    requires room { 729 * brick.0 + 729 ≤ length copies.old }
+    requires part { IsPart part.now }
+    requires rows { HasRows part.now source }
     requires y_from { part.now.y ≤ y }
     requires y_to { y < part.now.y_end }
     requires z_from { part.now.z ≤ z }
     requires z_to { z < part.now.z_end }
-    ensures { ArePartWritten sizes.now area.now values.entry brick.0 (one_row part.now y z) copies.old copies.new }
+    ensures { AreRowsPut brick.0 part.now source.entry (one_row part.now y z) copies.old copies.new }
 {
-    let first = first_point(sizes, brick);
     let start = copy_place(brick, part.x, y, z);
     let count = (part.x_end - part.x) as usize;
-    match values {
-        Values::One(value) => {
-            let row = nine(&value);
-            put(copies, start, &row, 0, count);
-        }
-        Values::Each(values) => {
-            let p = Point {
-                x: first.x + part.x,
-                y: first.y + y,
-                z: first.z + z,
-            };
-            let from = place_in(sizes, area, p);
-            put(copies, start, values, from, count);
-        }
-    }
+    let before = (z - part.z) as usize * source.layer;
+    let from = source.from + (y - part.y) as usize * source.row + before;
+    put(copies, start, source.values, from, count);
 }
 
-/// Writes the copies of the points of a box in a layer of a brick across z.
-fn write_rows(
-    sizes: &Sizes,
-    copies: &mut [i64],
-    area: &FillBox,
-    values: Values,
-    brick: BrickId,
-    part: &Part,
-    z: u32,
-)
-    requires count { length copies.old ≡ 729 * brick_count sizes.now }
-    requires brick { brick.0 < brick_count sizes.now }
-    requires high { IsPoint sizes.now area.now.high }
-    requires values { AreAsMany area.now values }
-    requires part { IsPartOf sizes.now area.now brick.0 part.now }
+/// Writes the rows of a layer of a part across z.
+fn write_rows(copies: &mut [i64], brick: BrickId, part: &Part, source: Source, z: u32)
+    requires few { brick.0 < 2 ^ 22 }
+    requires room { 729 * brick.0 + 729 ≤ length copies.old }
+    requires part { IsPart part.now }
+    requires rows { HasRows part.now source }
     requires z_from { part.now.z ≤ z }
     requires z_to { z < part.now.z_end }
-    ensures { ArePartWritten sizes.now area.now values.entry brick.0 (one_layer part.now z) copies.old copies.new }
+    ensures { AreRowsPut brick.0 part.now source.entry (one_layer part.now z) copies.old copies.new }
 {
     for y in part.y..part.y_end {
-        write_row(sizes, copies, area, values, brick, part, y, z);
+        write_row(copies, brick, part, source, y, z);
     }
 }
 
-/// Writes the copies of the points of a box in a brick.
-fn write_part(
+/// Writes the rows of a part of a brick.
+fn write_part(copies: &mut [i64], brick: BrickId, part: &Part, source: Source)
+    requires few { brick.0 < 2 ^ 22 }
+    requires room { 729 * brick.0 + 729 ≤ length copies.old }
+    requires part { IsPart part.now }
+    requires rows { HasRows part.now source }
+    ensures { AreRowsPut brick.0 part.now source.entry part.now copies.old copies.new }
+{
+    for z in part.z..part.z_end {
+        write_rows(copies, brick, part, source, z);
+    }
+}
+
+/// Writes one value as the copies of the points of a box in a brick.
+#[tactic(auto, using(crate::proofs::Standing::few_bricks))]
+fn write_one(
     sizes: &Sizes,
     copies: &mut [i64],
     area: &FillBox,
-    values: Values,
+    value: i64,
+    brick: BrickId,
+    part: &Part,
+)
+    requires count { length copies.old ≡ 729 * brick_count sizes.now }
+    requires brick { brick.0 < brick_count sizes.now }
+    requires part { IsPartOf sizes.now area.now brick.0 part.now }
+    ensures { ArePartWritten sizes.now area.now (Values.One value) brick.0 part.now copies.old copies.new }
+{
+    let _ = sizes.nx();
+    let row = nine(&value);
+    let source = Source {
+        values: &row,
+        from: 0,
+        row: 0,
+        layer: 0,
+    };
+    write_part(copies, brick, part, source);
+}
+
+/// Writes the values of a box, in the order of their indices, as the copies of its points in a brick.
+#[tactic(auto, using(crate::proofs::Standing::few_bricks))]
+fn write_each(
+    sizes: &Sizes,
+    copies: &mut [i64],
+    area: &FillBox,
+    values: &[i64],
     brick: BrickId,
     part: &Part,
 )
     requires count { length copies.old ≡ 729 * brick_count sizes.now }
     requires brick { brick.0 < brick_count sizes.now }
     requires high { IsPoint sizes.now area.now.high }
-    requires values { AreAsMany area.now values }
+    requires values { length values.now ≡ area_count area.now }
     requires part { IsPartOf sizes.now area.now brick.0 part.now }
-    ensures { ArePartWritten sizes.now area.now values.entry brick.0 part.now copies.old copies.new }
+    ensures { ArePartWritten sizes.now area.now (Values.Each values.entry) brick.0 part.now copies.old copies.new }
 {
-    for z in part.z..part.z_end {
-        write_rows(sizes, copies, area, values, brick, part, z);
-    }
+    let (low, high) = (area.low(), area.high());
+    let first = first_point(sizes, brick);
+    let p = Point {
+        x: first.x + part.x,
+        y: first.y + part.y,
+        z: first.z + part.z,
+    };
+    let from = place_in(sizes, area, p);
+    let row = (high.x - low.x + 1) as usize;
+    let layer = row * (high.y - low.y + 1) as usize;
+    let source = Source {
+        values,
+        from,
+        row,
+        layer,
+    };
+    write_part(copies, brick, part, source);
 }
 
 /// Writes the copies of the points of a box in the brick that stands so many bricks along x, y and z.
@@ -223,7 +256,10 @@ fn write_brick(
 {
     let brick = brick_at(sizes, x, y, z);
     let part = part_in(sizes, area, brick);
-    write_part(sizes, copies, area, values, brick, &part);
+    match values {
+        Values::One(value) => write_one(sizes, copies, area, value, brick, &part),
+        Values::Each(values) => write_each(sizes, copies, area, values, brick, &part),
+    }
 }
 
 /// Writes the copies of the points of a box in the bricks of a line along x.

@@ -4,7 +4,7 @@ ghost use Rattle.iso_defs.specs.Lists.{below};
 ghost use Rattle.iso_defs.specs.Grid.{is_cell, point_count};
 ghost use Rattle.iso_defs.specs.Outside.{is_outer};
 ghost use Rattle.iso_defs.specs.Cell.{cell_values};
-ghost use Rattle.iso_defs.specs.Bricks.{brick_count, brick_point, in_brick};
+ghost use Rattle.iso_defs.specs.Bricks.{brick_count, brick_point, brick_start, in_brick};
 ghost use Rattle.iso_base.specs.Points.{IsPoint, index_of};
 ghost use Rattle.iso_base.specs.Samples.{IsOfKind, IsSample};
 ghost use Rattle.iso_base.specs.Volume.{IsInner, IsVolume, Volume, sample};
@@ -178,6 +178,16 @@ impl BrickStore {
         ensures { map (λ b. b.0) result.items ≡ filter (holds_point self.now.grid p) (below (brick_count self.now.grid)) }
     {
         numbering::bricks_holding(&self.sizes, p)
+    }
+
+    /// The first point of a brick: the least one along each axis.
+    pub fn first_point(&self, brick: BrickId) -> Point
+        requires { brick.0 < brick_count self.now.grid }
+        ensures x { result.x ≡ brick_start self.now.grid brick.0 0 }
+        ensures y { result.y ≡ brick_start self.now.grid brick.0 1 }
+        ensures z { result.z ≡ brick_start self.now.grid brick.0 2 }
+    {
+        numbering::first_point(&self.sizes, brick)
     }
 
     /// How many points a brick has along x, y and z, at most nine along each.

@@ -4,7 +4,7 @@ ghost use Rattle.std.specs.Prelude.{◌≡◌, ◌<◌, slice_set};
 ghost use Rattle.iso_defs.specs.Grid.{point_count};
 ghost use Rattle.iso_base.specs.Samples.{IsOfKind};
 ghost use Rattle.iso_base.specs.Volume.{IsInner};
-ghost use Rattle.edit_log.specs.Changes.{Suits, after, area_of, before, moment};
+ghost use Rattle.edit_log.specs.Changes.{Suits, after, area_of, before, moment, value_of};
 
 use crate::boxes::{fill_area, put_sample};
 use crate::runs::Runs;
@@ -38,6 +38,16 @@ impl Change {
             }
             Change::Area { area, .. } => Some(*area),
             Change::LevelWas { .. } => None,
+        }
+    }
+
+    /// The value that all samples of a box become when the change is made; none where it is not one of a box.
+    pub fn value(&self) -> Option<i64>
+        ensures { result ≡ value_of self.now }
+    {
+        match self {
+            Change::Area { new, .. } => Some(*new),
+            Change::One { .. } | Change::LevelWas { .. } => None,
         }
     }
 

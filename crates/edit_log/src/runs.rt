@@ -7,12 +7,12 @@ ghost use Rattle.iso_base.specs.Samples.{IsOfKind};
 ghost use Rattle.iso_base.specs.Volume.{sample};
 ghost use Rattle.voxel_list.specs.Areas.{area_count};
 ghost use Rattle.brick_store.specs.Boxes.{AreOne};
-ghost use Rattle.edit_log.specs.Boxes.{IsInnerArea, area_samples, restored};
+ghost use Rattle.edit_log.specs.Boxes.{IsInnerArea, area_samples, restored, row_samples};
 ghost use Rattle.edit_log.specs.Runs.{gathered, values_left, values_of};
 
 use crate::boxes::{PIECE, area_count, area_point, fill_area, piece_of_row};
 use brick_store::{BrickStore, Values};
-use iso_base::Memory;
+use iso_base::{Memory, Point};
 use std::alloc::{AllocError, Global};
 use std::marker::Model;
 use voxel_list::FillBox;
@@ -151,6 +151,23 @@ fn equal_samples(
     Ok(Some(runs))
 }
 
+/// Puts the samples of a row behind the others, where they are copied to at once.
+fn add_row(
+    store: &BrickStore,
+    p: Point,
+    count: u32,
+    values: &mut Vec<i64>,
+) -> Result<(), AllocError>
+    requires point { IsPoint store.now.grid p }
+    requires fits { p.x + count ≤ store.now.grid.nx }
+    ensures { OnOk result (values.new.items ≡ values.old.items ++ row_samples store.now p count) }
+{
+    let before = values.len();
+    values.resize(before + count as usize, 0)?;
+    store.copy_row(p, &mut values[before..]);
+    Ok(())
+}
+
 /// The samples of a box, each by itself.
 fn each_sample(alloc: Global, store: &BrickStore, area: &FillBox) -> Result<Vec<i64>, AllocError>
     requires { IsPoint store.now.grid area.now.high }
@@ -158,14 +175,11 @@ fn each_sample(alloc: Global, store: &BrickStore, area: &FillBox) -> Result<Vec<
 {
     let sizes = store.sizes();
     let count = area_count(&sizes, area);
-    let mut row = [0; PIECE as usize];
     let mut values = Vec::with_capacity(alloc, count as usize)?;
     let mut k = 0;
     while k < count {
         let piece = piece_of_row(area, k, count);
-        let taken = &mut row[..piece as usize];
-        store.copy_row(area_point(&sizes, area, k), taken);
-        values.extend_from_slice(taken)?;
+        add_row(store, area_point(&sizes, area, k), piece, &mut values)?;
         k += piece;
     }
     Ok(values)

@@ -48,7 +48,7 @@ greatest_first : (v : ℤ) → IsSample v → int_max (negsuc 2147483647) v ≡ 
 greatest_first v is = (let low = is.low in grind arith)
 
 -- the span of some samples that are all one value
-span_of_same : (v : ℤ) (one : ℤ) (xs : List ℤ) → IsSample v → In one xs → ((w : ℤ) → In w xs → w ≡ v) → list_span xs ≡ one_span v
+pub span_of_same : (v : ℤ) (one : ℤ) (xs : List ℤ) → IsSample v → In one xs → ((w : ℤ) → In w xs → w ≡ v) → list_span xs ≡ one_span v
 span_of_same v one [] is there each = absurd there
 span_of_same v one (x ∷ xs) is there each =
     let first : x ≡ v = each x (inl refl) in

@@ -1,13 +1,14 @@
 -- The least and the greatest sample of each brick of a volume.
-use Rattle.std.specs.Prelude.{◌≡◌, ℕ, ℤ, pos, negsuc, Bool, not, ◌&&◌, List, map, slice_index_or}
+use Rattle.std.specs.Prelude.{◌≡◌, ℕ, ◌+◌, ◌≤◌, ℤ, pos, negsuc, Bool, not, ◌&&◌, List, map, slice_index_or}
 use Rattle.std.specs.List.{flat_map, fold}
 use Rattle.std.specs.Int.{int_max, int_min}
 use Rattle.iso_defs.specs.Lists.{below}
 use Rattle.iso_defs.specs.Grid.{Grid}
-use Rattle.iso_defs.specs.Bricks.{brick_count, brick_point}
+use Rattle.iso_defs.specs.Bricks.{brick_count, brick_point, brick_start}
 use Rattle.iso_base.specs.Samples.{IsSample}
 use Rattle.iso_base.specs.Shifted.{is_above_level}
 use Rattle.iso_base.specs.Volume.{Volume, sample}
+use Rattle.voxel_list.specs.Areas.{Area}
 use Rattle.brick_store.specs.Holding.{points_along}
 
 -- the least and the greatest of some samples
@@ -57,6 +58,15 @@ brick_samples v brick = flat_map (layer_of v brick) (below (points_along v.grid 
 -- the least and the greatest sample of a brick
 unfoldable pub span_of : Volume → ℕ → Span
 span_of v brick = list_span (brick_samples v brick)
+
+-- all points of a brick lie in a box
+pub record LiesIn (g : Grid) (a : Area) (brick : ℕ) : Type 0 where
+  pub x_from : a.low.x ≤ brick_start g brick 0
+  pub x_to : brick_start g brick 0 + points_along g brick 0 ≤ a.high.x + 1
+  pub y_from : a.low.y ≤ brick_start g brick 1
+  pub y_to : brick_start g brick 1 + points_along g brick 1 ≤ a.high.y + 1
+  pub z_from : a.low.z ≤ brick_start g brick 2
+  pub z_to : brick_start g brick 2 + points_along g brick 2 ≤ a.high.z + 1
 
 -- a tree: a grid, and a span for each brick
 pub record Tree : Type 0 where

@@ -122,4 +122,23 @@ impl SpanTree {
         let leaf = places_below(self.height) + brick.0 as usize;
         put(&mut self.nodes, leaf, bricks::span_of(store, brick));
     }
+
+    /// The same after the samples of a box were replaced, all by one value where one is told. Of a brick that lies in the box all
+    /// samples are then that value, and none is looked at.
+    pub fn touch_in(
+        &mut self,
+        store: &BrickStore,
+        brick: BrickId,
+        area: &FillBox,
+        value: Option<i64>,
+    )
+        requires grid { self.old.grid ≡ store.now.grid }
+        requires brick { brick.0 < brick_count store.now.grid }
+        requires filled { IfSome value (λ value. AreOne store.now.grid area.now value store.now.samples) }
+        ensures { self.new ≡ record self.old { spans = slice_set self.old.spans brick.0 (span_of store.now brick.0) } }
+    {
+        let leaf = places_below(self.height) + brick.0 as usize;
+        let span = bricks::span_in(store, brick, area, value);
+        put(&mut self.nodes, leaf, span);
+    }
 }

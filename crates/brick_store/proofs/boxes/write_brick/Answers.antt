@@ -1,5 +1,8 @@
-use Rattle.std.proofs.Common.{◌≡◌, ◌*◌, arith}
+use Rattle.std.proofs.Common.{◌≡◌, ℕ, ◌*◌, ◌∙◌, ap, sym, subst, rules, arith, to_z, of_z, w64}
+use Rattle.std.proofs.lemmas.Int.{to_z-of_z}
+use Rattle.brick_store.specs.declared.boxes.Values.TheVariants.{One}
 use Rattle.iso_defs.specs.Bricks.{brick_start}
+use Rattle.brick_store.specs.Boxes.{ArePartWritten}
 use Rattle.brick_store.proofs.BoxWriting.{begins, brick_at_zone}
 use Rattle.brick_store.proofs.boxes.write_brick.Goals as goal
 use Rattle.brick_store.proofs.boxes.write_brick.Goals.{After-brick_at-brick}
@@ -27,7 +30,21 @@ part_in-part-requires-clause-z_from c = omega (arith, (at c).1.1, c.requires.z_f
 pub part_in-part-requires-clause-z_to : goal.part_in-part-requires-clause-z_to
 part_in-part-requires-clause-z_to c = omega (arith, (at c).1.1, c.requires.z_to)
 
-pub returns : goal.returns
-returns c =
-    brick_at_zone c.args.sizes.now c.args.area.now c.args.values c.args.x c.args.y c.args.z c.brick_at-brick.result.0 c.part_in-part.result c.args.copies.now _
-    c.brick_at-brick.ensures.grid c.requires.x c.requires.y c.requires.z c.brick_at-brick.ensures.value c.part_in-part.ensures c.write_part.ensures
+pub returns-in-One : goal.returns-in-One
+returns-in-One c =
+    let same : to_z w64 (of_z w64 c.in-One.value) ≡ c.in-One.value = search (rules, to_z-of_z) in
+    let g = c.args.sizes.now in
+    let a = c.args.area.now in
+    let b : ℕ = c.brick_at-brick.result.0 in
+    brick_at_zone g a c.args.values c.args.x c.args.y c.args.z b c.part_in-part.result c.args.copies.now _
+    c.brick_at-brick.ensures.grid c.requires.x c.requires.y c.requires.z c.brick_at-brick.ensures.value c.part_in-part.ensures
+    (subst (λ v. ArePartWritten g a v b c.part_in-part.result c.args.copies.now c.write_one.new.copies) (ap One same ∙ sym c.in-One.is) c.write_one.ensures)
+
+pub returns-in-Each : goal.returns-in-Each
+returns-in-Each c =
+    let g = c.args.sizes.now in
+    let a = c.args.area.now in
+    let b : ℕ = c.brick_at-brick.result.0 in
+    brick_at_zone g a c.args.values c.args.x c.args.y c.args.z b c.part_in-part.result c.args.copies.now _
+    c.brick_at-brick.ensures.grid c.requires.x c.requires.y c.requires.z c.brick_at-brick.ensures.value c.part_in-part.ensures
+    (subst (λ v. ArePartWritten g a v b c.part_in-part.result c.args.copies.now c.write_each.new.copies) (sym c.in-Each.is) c.write_each.ensures)

@@ -1,10 +1,10 @@
-use Rattle.brick_store.proofs.BoxWriting.{layer_more, no_layer}
+use Rattle.brick_store.proofs.PartWriting.{layer_more, no_layer}
 use Rattle.brick_store.proofs.boxes.write_part.Goals as goal
 
 pub loop-z-init : goal.loop-z-init
-loop-z-init c = no_layer c.args.sizes.now c.args.area.now c.args.values c.args.brick.0 c.args.part.now c.args.copies.now
+loop-z-init c = no_layer c.args.brick.0 c.args.part.now c.args.source c.args.copies.now
 
 pub loop-z-preserved : goal.loop-z-preserved
 loop-z-preserved c =
-    layer_more c.args.sizes.now c.args.area.now c.args.values c.args.brick.0 c.args.part.now c.loop-z.z c.args.copies.now c.loop-z.copies _
-    c.loop-z.auto.z c.loop-z.invariant c.write_rows.ensures
+    layer_more c.args.brick.0 c.args.part.now c.args.source c.loop-z.z c.args.copies.now c.loop-z.copies _ c.requires.part
+    c.loop-z.auto.z c.loop-z-test.true c.loop-z.invariant c.write_rows.ensures

@@ -1,10 +1,10 @@
-use Rattle.brick_store.proofs.BoxWriting.{no_row, row_more}
+use Rattle.brick_store.proofs.PartWriting.{no_row, row_more}
 use Rattle.brick_store.proofs.boxes.write_rows.Goals as goal
 
 pub loop-y-init : goal.loop-y-init
-loop-y-init c = no_row c.args.sizes.now c.args.area.now c.args.values c.args.brick.0 c.args.part.now c.args.z c.args.copies.now
+loop-y-init c = no_row c.args.brick.0 c.args.part.now c.args.source c.args.z c.args.copies.now
 
 pub loop-y-preserved : goal.loop-y-preserved
 loop-y-preserved c =
-    row_more c.args.sizes.now c.args.area.now c.args.values c.args.brick.0 c.args.part.now c.args.z c.loop-y.y c.args.copies.now c.loop-y.copies _
-    c.loop-y.auto.y c.loop-y.invariant c.write_row.ensures
+    row_more c.args.brick.0 c.args.part.now c.args.source c.args.z c.loop-y.y c.args.copies.now c.loop-y.copies _ c.requires.part c.requires.z_to
+    c.loop-y.auto.y c.loop-y-test.true c.loop-y.invariant c.write_row.ensures

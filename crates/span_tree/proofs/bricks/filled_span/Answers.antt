@@ -1,0 +1,18 @@
+use Rattle.std.proofs.Common.{◌≡◌, ◌∙◌, ap, subst, sym, rules, to_z, of_z, w64}
+use Rattle.std.proofs.lemmas.Int.{to_z-of_z}
+use Rattle.iso_base.specs.Samples.{IsSample}
+use Rattle.span_tree.specs.Spans.{one_span}
+use Rattle.span_tree.proofs.FilledBricks.{filled_span_is, value_is_sample}
+use Rattle.span_tree.proofs.bricks.filled_span.Goals as goal
+
+pub one-requires : goal.one-requires
+one-requires c =
+    let same : to_z w64 (of_z w64 c.args.value) ≡ c.args.value = search (rules, to_z-of_z) in
+    subst IsSample (sym same) (value_is_sample c.args.store.now c.args.area.now c.args.brick.0 c.args.value c.sizes.ensures.volume c.requires.brick c.requires.inside c.requires.filled)
+
+pub returns : goal.returns
+returns c =
+    let same : to_z w64 (of_z w64 c.args.value) ≡ c.args.value = search (rules, to_z-of_z) in
+    c.one.ensures
+    ∙ (ap one_span same
+    ∙ filled_span_is c.args.store.now c.args.area.now c.args.brick.0 c.args.value c.sizes.ensures.volume c.requires.brick c.requires.inside c.requires.filled)
