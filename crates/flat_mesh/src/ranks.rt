@@ -1,10 +1,63 @@
 //! The numbers of crossing edges.
-ghost use Rattle.std.specs.Prelude.{◌≡◌, ℕ, ◌+◌, ◌*◌, ◌<◌, ◌≤◌, ◌^◌, length, slice_index, take, All};
+ghost use Rattle.std.specs.Prelude.{◌≡◌, ℕ, ◌+◌, ◌-◌, ◌*◌, ◌<◌, ◌≤◌, ◌^◌, length, slice_index, take, All};
 ghost use Rattle.std.specs.List.{sum_by};
 ghost use Rattle.crossing_edges.specs.Flags.{before_axis, edges_in};
 ghost use Rattle.flat_mesh.specs.Numbers.{edge_numbers};
 
-use crossing_edges::count_edges;
+use crossing_edges::{begin_none, count_edges};
+
+/// Writes the number of the first crossing edge of each point from a place to before an end, where `start` is that of the first,
+/// and gives that of the next point.
+#[inline(always)]
+fn rank_run(flags: &[u8], from: usize, end: usize, start: u32, out: &mut [u32]) -> u32
+    requires flags { All (λ f. f < 8) flags.now }
+    requires from { from ≤ end }
+    requires end { end ≤ length flags.now }
+    requires lengths { length out.old ≡ length flags.now + 1 }
+    requires room { start + 3 * (end - from) < 2 ^ 32 }
+    ensures next { result + sum_by edges_in (take from flags.now) ≡ start + sum_by edges_in (take end flags.now) }
+    ensures bound { result ≤ start + 3 * (end - from) }
+    ensures inside { (i : ℕ) → from ≤ i → i < end
+        → slice_index out.new i + sum_by edges_in (take from flags.now) ≡ start + sum_by edges_in (take i flags.now) }
+    ensures before { (i : ℕ) → i < from → slice_index out.new i ≡ slice_index out.old i }
+{
+    let mut number = start;
+    for i in from..end {
+        out[i] = number;
+        number += count_edges(flags[i]);
+    }
+    number
+}
+
+/// Writes a number in eight places.
+#[inline(always)]
+fn fill_eight(from: usize, number: u32, out: &mut [u32])
+    requires { from + 8 ≤ length out.old }
+    ensures inside { (i : ℕ) → from ≤ i → i < from + 8 → slice_index out.new i ≡ number }
+    ensures before { (i : ℕ) → i < from → slice_index out.new i ≡ slice_index out.old i }
+{
+    out[from..from + 8].fill(number);
+}
+
+/// The same of the eight points from a place on: where no crossing edge begins, they all have one number.
+#[inline(always)]
+fn rank_eight(flags: &[u8], from: usize, start: u32, out: &mut [u32]) -> u32
+    requires flags { All (λ f. f < 8) flags.now }
+    requires eight { from + 8 ≤ length flags.now }
+    requires lengths { length out.old ≡ length flags.now + 1 }
+    requires room { start + 24 < 2 ^ 32 }
+    ensures next { result + sum_by edges_in (take from flags.now) ≡ start + sum_by edges_in (take (from + 8) flags.now) }
+    ensures bound { result ≤ start + 24 }
+    ensures inside { (i : ℕ) → from ≤ i → i < from + 8
+        → slice_index out.new i + sum_by edges_in (take from flags.now) ≡ start + sum_by edges_in (take i flags.now) }
+    ensures before { (i : ℕ) → i < from → slice_index out.new i ≡ slice_index out.old i }
+{
+    if begin_none(flags, from) {
+        fill_eight(from, start, out);
+        return start;
+    }
+    rank_run(flags, from, from + 8, start, out)
+}
 
 /// Writes the number of the first crossing edge of each point of a run, and behind them that of the next point.
 pub fn rank_points(flags: &[u8], start: u32, out: &mut [u32])
@@ -13,12 +66,13 @@ pub fn rank_points(flags: &[u8], start: u32, out: &mut [u32])
     requires room { start + 3 * length flags.now < 2 ^ 32 }
     ensures { (i : ℕ) → i ≤ length flags.now → slice_index out.new i ≡ start + sum_by edges_in (take i flags.now) }
 {
+    let eights = flags.len() / 8;
     let mut number = start;
-    for i in 0..flags.len() {
-        out[i] = number;
-        number += count_edges(flags[i]);
+    for eight in 0..eights {
+        number = rank_eight(flags, 8 * eight, number, out);
     }
-    out[flags.len()] = number;
+    let last = rank_run(flags, 8 * eights, flags.len(), number, out);
+    out[flags.len()] = last;
 }
 
 /// The number of the edge of a point along an axis, from that of its first edge.

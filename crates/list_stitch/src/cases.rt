@@ -1,12 +1,14 @@
 //! The cases of all cells.
-ghost use Rattle.std.specs.Prelude.{◌≡◌, ◌+◌, ◌*◌, ◌/◌, ◌%◌, ◌<◌, IfOk, length, map};
+ghost use Rattle.std.specs.Prelude.{◌≡◌, ℕ, ◌+◌, ◌-◌, ◌*◌, ◌/◌, ◌%◌, ◌<◌, ◌≤◌, ◌^◌, [], IfOk, IsTrue, length, map, slice_index};
 ghost use Rattle.iso_defs.specs.Bricks.{bits_of};
+ghost use Rattle.iso_defs.specs.Grid.{index};
 ghost use Rattle.iso_defs.specs.Rows.{row_count};
 ghost use Rattle.crossing_edges.specs.Signs.{sign_of};
 ghost use Rattle.flat_mesh.specs.Cases.{signs_at};
 ghost use Rattle.flat_mesh.specs.Centres.{IsCellAt};
+ghost use Rattle.flat_mesh.specs.Faces.{loops_at};
 ghost use Rattle.flat_mesh.specs.Rows.{AreSignBytes};
-ghost use Rattle.stitch_rows.specs.Rows.{AreCases, AreZerosFrom, IsCaseOf};
+ghost use Rattle.stitch_rows.specs.Rows.{AreCases, AreCasesTo, AreZerosFrom, IsCaseOf};
 ghost use Rattle.stitch.specs.Numbers.{AreRowRanks};
 ghost use Rattle.list_stitch.specs.Cases.{HaveCases, HaveRowCases};
 
@@ -30,7 +32,99 @@ fn case_number<H: Heights>(field: &H, cell: Cell, signs: u8) -> u16
     cell_case(field, cell, signs).number()
 }
 
-/// Writes the cases of the cells of a row, from their sign bytes.
+/// The eight bytes from a place on, as one number.
+#[inline(always)]
+fn eight_at(bytes: &[u8], from: usize) -> u64
+    requires { from + 8 ≤ length bytes.now }
+    ensures none { result ≡ 0 → (k : ℕ) → k < 8 → slice_index bytes.now (from + k) ≡ 0 }
+    ensures full { result ≡ 2 ^ 64 - 1 → (k : ℕ) → k < 8 → slice_index bytes.now (from + k) ≡ 255 }
+{
+    let eight = &bytes[from..from + 8];
+    u64::from_le_bytes([
+        eight[0], eight[1], eight[2], eight[3], eight[4], eight[5], eight[6], eight[7],
+    ])
+}
+
+/// Whether all corners of the eight cells from a place on are above, or none is: the cells have no loops then.
+#[inline(always)]
+fn have_no_loops<H: Heights>(field: &H, y: u32, z: u32, bytes: &[u8], from: usize) -> bool
+    requires eight { from + 8 < (H.leveled field.now).grid.nx }
+    requires bytes { AreSignBytes (H.leveled field.now) y z bytes.now }
+    ensures { IsTrue result → (k : ℕ) → k < 8 → loops_at (H.leveled field.now) (index (H.leveled field.now).grid (from + k) y z) ≡ [] }
+{
+    let _ = field.sizes();
+    let _ = (y, z);
+    let eight = eight_at(bytes, from);
+    if eight == 0 {
+        return true;
+    }
+    if eight == u64::MAX {
+        return true;
+    }
+    false
+}
+
+/// Writes 0 in eight places.
+#[inline(always)]
+fn put_eight_zeros(from: usize, cases: &mut [u16])
+    requires { from + 8 ≤ length cases.old }
+    ensures inside { (k : ℕ) → from ≤ k → k < from + 8 → slice_index cases.new k ≡ 0 }
+    ensures before { (k : ℕ) → k < from → slice_index cases.new k ≡ slice_index cases.old k }
+{
+    cases[from..from + 8].fill(0);
+}
+
+/// Writes the cases of the cells of a row from a place to before an end, from their sign bytes.
+#[inline(always)]
+fn put_run<H: Heights>(
+    field: &H,
+    y: u32,
+    z: u32,
+    from: u32,
+    end: u32,
+    bytes: &[u8],
+    cases: &mut [u16],
+)
+    requires y { y + 1 < (H.leveled field.now).grid.ny }
+    requires z { z + 1 < (H.leveled field.now).grid.nz }
+    requires from { from ≤ end }
+    requires end { end < (H.leveled field.now).grid.nx }
+    requires bytes { AreSignBytes (H.leveled field.now) y z bytes.now }
+    requires count { length cases.old ≡ (H.leveled field.now).grid.nx }
+    requires before { AreCasesTo (H.leveled field.now) y z from cases.old }
+    ensures { AreCasesTo (H.leveled field.now) y z end cases.new }
+{
+    let sizes = field.sizes();
+    let start = sizes.nx() * (y + sizes.ny() * z);
+    for x in from..end {
+        let cell = Cell {
+            index: start + x,
+            low: Point { x, y, z },
+        };
+        cases[x as usize] = case_number(field, cell, bytes[x as usize]);
+    }
+}
+
+/// The same of eight cells.
+#[inline(always)]
+fn put_eight<H: Heights>(field: &H, y: u32, z: u32, from: u32, bytes: &[u8], cases: &mut [u16])
+    requires y { y + 1 < (H.leveled field.now).grid.ny }
+    requires z { z + 1 < (H.leveled field.now).grid.nz }
+    requires eight { from + 8 < (H.leveled field.now).grid.nx }
+    requires bytes { AreSignBytes (H.leveled field.now) y z bytes.now }
+    requires count { length cases.old ≡ (H.leveled field.now).grid.nx }
+    requires before { AreCasesTo (H.leveled field.now) y z from cases.old }
+    ensures { AreCasesTo (H.leveled field.now) y z (from + 8) cases.new }
+{
+    let _ = field.sizes();
+    if have_no_loops(field, y, z, bytes, from as usize) {
+        put_eight_zeros(from as usize, cases);
+        return;
+    }
+    put_run(field, y, z, from, from + 8, bytes, cases);
+}
+
+/// Writes the cases of the cells of a row, from their sign bytes, eight at a time.
 fn put_cases<H: Heights>(field: &H, y: u32, z: u32, bytes: &[u8], cases: &mut [u16])
     requires y { y + 1 < (H.leveled field.now).grid.ny }
     requires z { z + 1 < (H.leveled field.now).grid.nz }
@@ -38,16 +132,11 @@ fn put_cases<H: Heights>(field: &H, y: u32, z: u32, bytes: &[u8], cases: &mut [u
     requires cases { length cases.old ≡ (H.leveled field.now).grid.nx }
     ensures { AreCases (H.leveled field.now) y z cases.new }
 {
-    let sizes = field.sizes();
-    let nx = sizes.nx();
-    let start = nx * (y + sizes.ny() * z);
-    for x in 0..nx - 1 {
-        let cell = Cell {
-            index: start + x,
-            low: Point { x, y, z },
-        };
-        cases[x as usize] = case_number(field, cell, bytes[x as usize]);
+    let last = field.sizes().nx() - 1;
+    for eight in 0..last / 8 {
+        put_eight(field, y, z, 8 * eight, bytes, cases);
     }
+    put_run(field, y, z, 8 * (last / 8), last, bytes, cases);
 }
 
 /// Writes the sign bytes of the cells of a row.

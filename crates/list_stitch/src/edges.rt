@@ -1,18 +1,19 @@
 //! The lines of the vertices on crossing edges, row by row.
-ghost use Rattle.std.specs.Prelude.{◌≡◌, ◌+◌, ◌*◌, ◌<◌, ◌≤◌, IfOk, length};
+ghost use Rattle.std.specs.Prelude.{◌≡◌, ◌+◌, ◌-◌, ◌*◌, ◌<◌, ◌≤◌, IfOk, length};
 ghost use Rattle.iso_defs.specs.Rows.{row_count};
 ghost use Rattle.iso_base.specs.Points.{IsPoint, index_of};
 ghost use Rattle.crossing_edges.specs.Flags.{flags_at};
 ghost use Rattle.flat_mesh.specs.Lattice.{heights};
+ghost use Rattle.flat_mesh.specs.Rows.{row_start};
 ghost use Rattle.stitch_rows.specs.Rows.{AreFlags};
 ghost use Rattle.stitch.specs.Blocks.{Adds};
 ghost use Rattle.stitch.specs.Numbers.{AreRowRanks};
-ghost use Rattle.stitch.specs.Spans.{all_edges_text, point_edges_text, row_edges_text};
+ghost use Rattle.stitch.specs.Spans.{all_edges_text, edges_text, point_edges_text, row_edges_text};
 ghost use Rattle.list_stitch.specs.Kept.{AreAllFlags};
 
 use crate::field::ListField;
 use crate::rows::flag_row;
-use crossing_edges::SampleList;
+use crossing_edges::{SampleList, begin_none};
 use edge_points::RowRanks;
 use iso_base::Point;
 use iso_io::{Failed, Sink};
@@ -42,7 +43,68 @@ fn write_point<S: SampleList, K: Sink>(
     Ok(())
 }
 
-/// Puts the lines of the vertices on the edges that begin in a row of points behind the others.
+/// Puts the lines of the vertices on the edges that begin at the points of a row from a place to before an end behind the
+/// others.
+#[inline(always)]
+fn write_run<S: SampleList, K: Sink>(
+    field: &ListField<'_, S>,
+    style: Style,
+    y: u32,
+    z: u32,
+    from: u32,
+    end: u32,
+    flags: &[u8],
+    block: &mut Block,
+    sink: &mut K,
+) -> Result<(), Failed>
+    requires y { y < field.now.grid.ny }
+    requires z { z < field.now.grid.nz }
+    requires from { from ≤ end }
+    requires end { end ≤ field.now.grid.nx }
+    requires count { length flags.now ≡ field.now.grid.nx }
+    requires flags { AreFlags field.now y z flags.now }
+    ensures adds { Adds (K.seen sink.old) (K.seen sink.new) block.old block.new result
+        (edges_text style.format style.padded field.now (3 * (row_start field.now.grid y z + from)) (3 * (end - from))) }
+    ensures bytes { IfOk result (λ _. block.new.total ≤ block.old.total + 192 * (end - from)) }
+{
+    let _ = field.sizes();
+    for x in from..end {
+        let point = Point { x, y, z };
+        write_point(field, style, point, flags[x as usize], block, sink)?;
+    }
+    Ok(())
+}
+
+/// The same of eight points: where no crossing edge begins, they are left at once.
+#[inline(always)]
+fn write_eight<S: SampleList, K: Sink>(
+    field: &ListField<'_, S>,
+    style: Style,
+    y: u32,
+    z: u32,
+    from: u32,
+    flags: &[u8],
+    block: &mut Block,
+    sink: &mut K,
+) -> Result<(), Failed>
+    requires y { y < field.now.grid.ny }
+    requires z { z < field.now.grid.nz }
+    requires eight { from + 8 ≤ field.now.grid.nx }
+    requires count { length flags.now ≡ field.now.grid.nx }
+    requires flags { AreFlags field.now y z flags.now }
+    ensures adds { Adds (K.seen sink.old) (K.seen sink.new) block.old block.new result
+        (edges_text style.format style.padded field.now (3 * (row_start field.now.grid y z + from)) (3 * 8)) }
+    ensures bytes { IfOk result (λ _. block.new.total ≤ block.old.total + 192 * 8) }
+{
+    let _ = field.sizes();
+    if begin_none(flags, from as usize) {
+        return Ok(());
+    }
+    write_run(field, style, y, z, from, from + 8, flags, block, sink)?;
+    Ok(())
+}
+
+/// Puts the lines of the vertices on the edges that begin in a row of points behind the others, eight points at a time.
 fn write_points<S: SampleList, K: Sink>(
     field: &ListField<'_, S>,
     style: Style,
@@ -60,10 +122,10 @@ fn write_points<S: SampleList, K: Sink>(
     ensures bytes { IfOk result (λ _. block.new.total ≤ block.old.total + 192 * field.now.grid.nx) }
 {
     let nx = field.sizes().nx();
-    for x in 0..nx {
-        let point = Point { x, y, z };
-        write_point(field, style, point, flags[x as usize], block, sink)?;
+    for eight in 0..nx / 8 {
+        write_eight(field, style, y, z, 8 * eight, flags, block, sink)?;
     }
+    write_run(field, style, y, z, 8 * (nx / 8), nx, flags, block, sink)?;
     Ok(())
 }
 

@@ -1,54 +1,33 @@
-use Rattle.std.proofs.Common.{◌≡◌, ◌+◌, ◌*◌, ◌<◌, ◌∙◌, length, ap, ap₂, sym, subst, arith}
-use Rattle.std.proofs.lemmas.List.{length-set}
-use Rattle.iso_defs.specs.Grid.{Grid, index}
-use Rattle.flat_mesh.specs.Cases.{signs_at}
-use Rattle.stitch_rows.specs.Rows.{IsCaseOf}
-use Rattle.list_stitch.proofs.RowCases.{all_set, set_case}
+use Rattle.std.proofs.Common.{◌≡◌, ◌-◌, ◌*◌, ◌/◌, ◌∙◌, ap, subst, arith}
+use Rattle.iso_defs.specs.Grid.{Grid}
+use Rattle.stitch_rows.specs.Rows.{AreCasesTo}
+use Rattle.list_stitch.proofs.RowCases.{all_set}
 use Rattle.list_stitch.proofs.cases.put_cases.Goals as goal
 
-pub loop-x-init : goal.loop-x-init
-loop-x-init g c = record { count = c.requires.cases; cases = λ k in_row low. absurd (omega arith) }
+pub loop-eight-init : goal.loop-eight-init
+loop-eight-init g c = record { count = c.requires.cases; cases = λ k in_row low. absurd (omega arith) }
 
-pub case_number-requires-clause-cell : goal.case_number-requires-clause-cell
-case_number-requires-clause-cell g c =
+pub put_eight-requires-clause-eight : goal.put_eight-requires-clause-eight
+put_eight-requires-clause-eight g c =
     let v = (g.H.Heights.leveled c.args.field.now) in
-    let nx : c.nx-nx.result ≡ v.grid.nx = c.nx-nx.ensures.value ∙ ap (λ (g : Grid). g.nx) c.sizes-sizes.ensures.value in
-    let ny : c.ny.result ≡ v.grid.ny = c.ny.ensures.value ∙ ap (λ (g : Grid). g.ny) c.sizes-sizes.ensures.value in
-    let x = c.loop-x.x in
-    let start : c.nx-nx.result * (c.args.y + c.ny.result * c.args.z) ≡ v.grid.nx * (c.args.y + v.grid.ny * c.args.z) = ap₂ (λ a b. a * (c.args.y + b * c.args.z)) nx ny in
-    let low : x + 1 < v.grid.nx = omega (arith, nx, c.loop-x-test.true) in
-    let at : c.nx-nx.result * (c.args.y + c.ny.result * c.args.z) + x ≡ index v.grid x c.args.y c.args.z = omega (arith, start) in
-    record { index = at; x = low; y = c.requires.y; z = c.requires.z }
+    let nx : c.nx-last.result ≡ v.grid.nx = c.nx-last.ensures.value ∙ ap (λ (g : Grid). g.nx) c.sizes.ensures.value in
+    omega (arith, nx, c.loop-eight-test.true)
 
-pub case_number-requires-clause-signs : goal.case_number-requires-clause-signs
-case_number-requires-clause-signs g c =
+pub put_run-requires-clause-end : goal.put_run-requires-clause-end
+put_run-requires-clause-end g c =
     let v = (g.H.Heights.leveled c.args.field.now) in
-    let nx : c.nx-nx.result ≡ v.grid.nx = c.nx-nx.ensures.value ∙ ap (λ (g : Grid). g.nx) c.sizes-sizes.ensures.value in
-    let ny : c.ny.result ≡ v.grid.ny = c.ny.ensures.value ∙ ap (λ (g : Grid). g.ny) c.sizes-sizes.ensures.value in
-    let x = c.loop-x.x in
-    let start : c.nx-nx.result * (c.args.y + c.ny.result * c.args.z) ≡ v.grid.nx * (c.args.y + v.grid.ny * c.args.z) = ap₂ (λ a b. a * (c.args.y + b * c.args.z)) nx ny in
-    let low : x + 1 < v.grid.nx = omega (arith, nx, c.loop-x-test.true) in
-    let at : c.nx-nx.result * (c.args.y + c.ny.result * c.args.z) + x ≡ index v.grid x c.args.y c.args.z = omega (arith, start) in
-    c.requires.bytes.each x low ∙ ap (signs_at v) (sym at)
+    let nx : c.nx-last.result ≡ v.grid.nx = c.nx-last.ensures.value ∙ ap (λ (g : Grid). g.nx) c.sizes.ensures.value in
+    omega (arith, nx, c.sizes.ensures.leveled.grid.x.least)
 
-pub loop-x-preserved : goal.loop-x-preserved
-loop-x-preserved g c =
+pub put_run-requires-clause-before : goal.put_run-requires-clause-before
+put_run-requires-clause-before g c =
     let v = (g.H.Heights.leveled c.args.field.now) in
-    let nx : c.nx-nx.result ≡ v.grid.nx = c.nx-nx.ensures.value ∙ ap (λ (g : Grid). g.nx) c.sizes-sizes.ensures.value in
-    let ny : c.ny.result ≡ v.grid.ny = c.ny.ensures.value ∙ ap (λ (g : Grid). g.ny) c.sizes-sizes.ensures.value in
-    let x = c.loop-x.x in
-    let start : c.nx-nx.result * (c.args.y + c.ny.result * c.args.z) ≡ v.grid.nx * (c.args.y + v.grid.ny * c.args.z) = ap₂ (λ a b. a * (c.args.y + b * c.args.z)) nx ny in
-    let low : x + 1 < v.grid.nx = omega (arith, nx, c.loop-x-test.true) in
-    let at : c.nx-nx.result * (c.args.y + c.ny.result * c.args.z) + x ≡ index v.grid x c.args.y c.args.z = omega (arith, start) in
-    let here : IsCaseOf v (index v.grid x c.args.y c.args.z) c.case_number.result = subst (λ q. IsCaseOf v q c.case_number.result) at c.case_number.ensures in
-    let within : x < length c.loop-x.cases = omega (arith, c.loop-x.invariant.count) in
-    record {
-      count = length-set c.loop-x.cases x c.case_number.result ∙ c.loop-x.invariant.count;
-      cases = set_case v c.args.y c.args.z x c.case_number.result c.loop-x.cases within here c.loop-x.invariant.cases;
-    }
+    let last = c.nx-last.result - 1 in
+    let end : 8 * c.loop-eight.eight ≡ 8 * (last / 8) = omega (arith, c.loop-eight-test.false, c.loop-eight.auto.eight-end) in
+    subst (λ n. AreCasesTo v c.args.y c.args.z n c.loop-eight.cases) end c.loop-eight.invariant.cases
 
 pub returns : goal.returns
 returns g c =
     let v = (g.H.Heights.leveled c.args.field.now) in
-    let nx : c.nx-nx.result ≡ v.grid.nx = c.nx-nx.ensures.value ∙ ap (λ (g : Grid). g.nx) c.sizes-sizes.ensures.value in
-    all_set v c.args.y c.args.z c.loop-x.x c.loop-x.cases (omega (arith, nx, c.loop-x-test.false)) c.loop-x.invariant.cases
+    let nx : c.nx-last.result ≡ v.grid.nx = c.nx-last.ensures.value ∙ ap (λ (g : Grid). g.nx) c.sizes.ensures.value in
+    all_set v c.args.y c.args.z (c.nx-last.result - 1) c.put_run.new.cases (omega (arith, nx)) c.put_run.ensures

@@ -18,6 +18,7 @@ loop-row-init g c =
       adds = adds_as _ _ _ _ _ _ _ (ap (λ n. faces_text c.args.style.format v 0 n) z) (run_none (triangle_lines c.args.style.format v) (is_cell v.grid) 0 _ _ tt);
       next = subst (λ q. HasNumber v c.args.total q c.args.total) z (first_number v c.args.total);
       bytes = omega arith;
+      ready = c.new-corners.ensures v c.sizes-sizes.ensures.leveled.grid;
     }
 
 pub returns-in_err-next-clause-adds : goal.returns-in_err-next-clause-adds
@@ -40,6 +41,7 @@ loop-row-preserved g c =
           (v.grid.nx * c.loop-row.row) v.grid.nx (v.grid.nx * (c.loop-row.row + 1)) _ (omega arith) (omega arith) c.loop-row.invariant.adds c.in_ok-next.ensures.adds);
       next = c.in_ok-next.ensures.next;
       bytes = omega (arith, c.loop-row.invariant.bytes, c.in_ok-next.ensures.bytes);
+      ready = c.in_ok-next.ensures.ready;
     }
 
 pub returns-clause-adds : goal.returns-clause-adds
