@@ -1,7 +1,7 @@
 -- Numbers out of a table of four digits each.
-use Rattle.std.proofs.Common.{◌≡◌, ℕ, ◌+◌, ◌-◌, ◌*◌, ◌/◌, ◌%◌, ◌<◌, ◌≤◌, ◌^◌, List, [], ◌∷◌, ◌++◌, length, take, drop, decimal, refl, sym, ap, subst, ◌∙◌, append_assoc, arith, inl, inr, eq-zero-or-pos, length-append}
+use Rattle.std.proofs.Common.{◌≡◌, ℕ, ◌+◌, ◌-◌, ◌*◌, ◌/◌, ◌%◌, ◌<◌, ◌≤◌, ◌^◌, List, [], ◌∷◌, ◌++◌, length, take, drop, decimal, refl, sym, ap, subst, ◌∙◌, append_assoc, arith, inl, inr, eq-zero-or-pos, length-append, slice_index, slice_set}
 use Rattle.std.proofs.lemmas.Fmt.{decimal_digit, decimal_step}
-use Rattle.std.proofs.lemmas.List.{take-take, take-append-le, take-append-drop, take_at, drop_at, drop-take, length-take-le, drop-drop}
+use Rattle.std.proofs.lemmas.List.{take-take, take-append-le, take-append-drop, take_at, drop_at, drop-take, length-take-le, drop-drop, get_or-set_same, get_or-set_other}
 use Rattle.iso_defs.specs.Texts.{three_digits}
 use Rattle.mesh_text.specs.Fours.{AreFours, four_digits}
 use Rattle.mesh_text.proofs.Counts.{one_digit, two_digits, three_digits_of, four_digits_of}
@@ -121,3 +121,17 @@ pub long_written : (front middle whole : List ℕ) (n : ℕ) → 10000 ≤ n →
     → whole ≡ front ++ decimal n
 long_written front middle whole n lo hi e w =
     w ∙ (ap (λ (l : List ℕ). l ++ four_digits (n % 10000)) e ∙ (append_assoc front (decimal (n / 10000)) (four_digits (n % 10000)) ∙ ap (λ (l : List ℕ). front ++ l) (sym (four_last n lo hi))))
+
+-- the count of one more number
+pub counts_more : (old : List ℕ) (n c : ℕ) → n < length old → ((j : ℕ) → j < n → (slice_index old j ≡ length (decimal j)) × (slice_index old j ≤ 4)) → c ≡ length (decimal n) → c ≤ 4
+    → (j : ℕ) → j < n + 1 → (slice_index (slice_set old n c) j ≡ length (decimal j)) × (slice_index (slice_set old n c) j ≤ 4)
+counts_more old n c le each count few j low =
+    elim (eq-zero-or-pos (n - j)) [
+      | inl z ↦ let e : j ≡ n = omega (arith, low) in
+          let is : slice_index (slice_set old n c) j ≡ c = ap (slice_index (slice_set old n c)) e ∙ get_or-set_same old n c 0 le in
+          (is ∙ (count ∙ ap (λ (k : ℕ). length (decimal k)) (sym e)), omega (arith, is, few))
+      | inr g ↦
+          let is : slice_index (slice_set old n c) j ≡ slice_index old j = get_or-set_other old n j c 0 (λ e. omega (arith, e, g)) in
+          let before = each j (omega arith) in
+          (is ∙ before.0, omega (arith, is, before.1))
+    ]

@@ -1,5 +1,5 @@
 -- A table of the digits of numbers, four to a number.
-use Rattle.std.specs.Prelude.{◌≡◌, ℕ, ◌+◌, ◌*◌, ◌/◌, ◌%◌, ◌<◌, List, [], ◌∷◌, length, take, drop}
+use Rattle.std.specs.Prelude.{◌≡◌, ℕ, ◌+◌, ◌*◌, ◌/◌, ◌%◌, ◌<◌, ◌≤◌, List, [], ◌∷◌, length, take, drop, decimal, slice_index}
 
 -- a number below 10,000 in four digits
 abbrev pub four_digits : ℕ → List ℕ
@@ -9,3 +9,9 @@ four_digits n = (48 + n / 1000) ∷ (48 + n / 100 % 10) ∷ (48 + n / 10 % 10) �
 pub record AreFours (table : List ℕ) : Type 0 where
   pub all : length table ≡ 40004
   pub each : (n : ℕ) → n < 10000 → take 4 (drop (4 * n) table) ≡ four_digits n
+
+-- how many digits each number below 10,000 has
+pub record AreCounts (counts : List ℕ) : Type 0 where
+  pub all : length counts ≡ 10000
+  pub each : (n : ℕ) → n < 10000 → slice_index counts n ≡ length (decimal n)
+  pub few : (n : ℕ) → n < 10000 → slice_index counts n ≤ 4

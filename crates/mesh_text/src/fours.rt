@@ -2,7 +2,7 @@
 
 ghost use Rattle.std.specs.Prelude.{◌≡◌, ◌+◌, ◌*◌, ◌≤◌, ◌<◌, ◌^◌, ◌++◌, take, drop, length, decimal};
 ghost use Rattle.iso_defs.specs.Texts.{three_digits};
-ghost use Rattle.mesh_text.specs.Fours.{AreFours, four_digits};
+ghost use Rattle.mesh_text.specs.Fours.{AreCounts, AreFours, four_digits};
 
 use crate::counted::count_short;
 use crate::digits::{Digits, put_array, put_byte};
@@ -11,6 +11,9 @@ use std::marker::Model;
 /// The bytes of a table of four digits a number. Behind the last number's stand four bytes more, so that four are there
 /// from each place of a number on.
 const FOURS: usize = 40_004;
+
+/// How many numbers the tables have.
+const NUMBERS: usize = 10_000;
 
 /// Writes the four digits of a number.
 #[inline(always)]
@@ -37,6 +40,16 @@ fn write_fours(room: &mut [u8])
     }
 }
 
+/// Writes how many digits each number below 10,000 has.
+fn write_counts(counts: &mut [u8])
+    requires { length counts.old ≡ 10000 }
+    ensures { AreCounts counts.new }
+{
+    for n in 0..10_000 {
+        counts[n as usize] = count_short(n) as u8;
+    }
+}
+
 /// Writes four bytes.
 #[inline(always)]
 fn put_four_bytes(bytes: &[u8], from: usize, room: &mut [u8], at: usize)
@@ -49,36 +62,44 @@ fn put_four_bytes(bytes: &[u8], from: usize, room: &mut [u8], at: usize)
 
 /// Writes the four digits of a number, out of the table.
 #[inline(always)]
-fn put_four(fours: &[u8], n: u64, room: &mut [u8], at: usize) -> usize
-    requires table { AreFours fours.now }
+fn put_four(fours: &Fours, n: u64, room: &mut [u8], at: usize) -> usize
     requires bound { n < 10000 }
     requires space { at + 4 ≤ length room.old }
     ensures end { result ≡ at + 4 }
     ensures written { take result room.new ≡ take at room.old ++ four_digits n }
 {
-    put_four_bytes(fours, 4 * n as usize, room, at);
+    put_four_bytes(&fours.bytes, 4 * n as usize, room, at);
     at + 4
+}
+
+/// How many digits a number below 10,000 has, out of their table.
+#[inline(always)]
+fn count_out_of(counts: &[u8], n: u64) -> usize
+    requires table { AreCounts counts.now }
+    requires bound { n < 10000 }
+    ensures value { result ≡ length (decimal n) }
+    ensures bound { result ≤ 4 }
+{
+    counts[n as usize] as usize
 }
 
 /// Writes a number below 10,000, out of the table.
 #[inline(always)]
-fn put_short(fours: &[u8], n: u64, room: &mut [u8], at: usize) -> usize
-    requires table { AreFours fours.now }
+fn put_short(fours: &Fours, n: u64, room: &mut [u8], at: usize) -> usize
     requires bound { n < 10000 }
     requires space { at + 4 ≤ length room.old }
     ensures end { result ≤ at + 4 }
     ensures behind { at ≤ result }
     ensures written { take result room.new ≡ take at room.old ++ decimal n }
 {
-    let count = count_short(n);
-    put_four_bytes(fours, 4 * n as usize + (4 - count), room, at);
+    let count = count_out_of(&fours.counts, n);
+    put_four_bytes(&fours.bytes, 4 * n as usize + (4 - count), room, at);
     at + count
 }
 
 /// Writes a number of more than four digits.
 #[inline(always)]
-fn put_long(fours: &[u8], n: u64, room: &mut [u8], at: usize) -> usize
-    requires table { AreFours fours.now }
+fn put_long(fours: &Fours, n: u64, room: &mut [u8], at: usize) -> usize
     requires least { 10000 ≤ n }
     requires bound { n < 100000000 }
     requires space { at + 8 ≤ length room.old }
@@ -92,8 +113,7 @@ fn put_long(fours: &[u8], n: u64, room: &mut [u8], at: usize) -> usize
 
 /// Writes a number, out of the table.
 #[inline(always)]
-fn put_any(fours: &[u8], n: u64, room: &mut [u8], at: usize) -> usize
-    requires table { AreFours fours.now }
+fn put_any(fours: &Fours, n: u64, room: &mut [u8], at: usize) -> usize
     requires bound { n < 10 ^ 11 }
     requires space { at + 12 ≤ length room.old }
     ensures end { result ≤ at + 12 }
@@ -110,8 +130,7 @@ fn put_any(fours: &[u8], n: u64, room: &mut [u8], at: usize) -> usize
 }
 
 /// Writes a number of more than eight digits.
-fn put_longest(fours: &[u8], n: u64, room: &mut [u8], at: usize) -> usize
-    requires table { AreFours fours.now }
+fn put_longest(fours: &Fours, n: u64, room: &mut [u8], at: usize) -> usize
     requires least { 100000000 ≤ n }
     requires bound { n < 10 ^ 11 }
     requires space { at + 12 ≤ length room.old }
@@ -125,32 +144,33 @@ fn put_longest(fours: &[u8], n: u64, room: &mut [u8], at: usize) -> usize
 
 /// Writes a number below 1,000 in three digits, out of the table.
 #[inline(always)]
-fn put_last_three(fours: &[u8], n: u64, room: &mut [u8], at: usize) -> usize
-    requires table { AreFours fours.now }
+fn put_last_three(fours: &Fours, n: u64, room: &mut [u8], at: usize) -> usize
     requires bound { n < 1000 }
     requires space { at + 4 ≤ length room.old }
     ensures end { result ≡ at + 3 }
     ensures written { take result room.new ≡ take at room.old ++ three_digits n }
 {
-    put_four_bytes(fours, 4 * n as usize + 1, room, at);
+    put_four_bytes(&fours.bytes, 4 * n as usize + 1, room, at);
     at + 3
 }
 
-/// The digits of each number below 10,000, four to a number: numbers are written four digits at a time.
+/// The digits of each number below 10,000, four to a number, and how many it has: numbers are written four digits at a
+/// time.
 #[derive(Drop)]
 pub struct Fours {
     bytes: [u8; FOURS],
+    counts: [u8; NUMBERS],
 }
 
 impl Model for Fours {
     ghost use Rattle.std.specs.Prelude.{ℕ, List};
-    ghost use Rattle.mesh_text.specs.Fours.{AreFours};
+    ghost use Rattle.mesh_text.specs.Fours.{AreCounts, AreFours};
 
     ghost Value = { List ℕ };
 
     ghost view = { λ f. f.bytes };
 
-    ghost invariant = { λ f. AreFours f.bytes };
+    ghost invariant = { λ f. AreFours f.bytes × AreCounts f.counts };
 }
 
 impl Fours {
@@ -158,18 +178,20 @@ impl Fours {
     pub fn new() -> Fours {
         let mut bytes = [0; FOURS];
         write_fours(&mut bytes);
-        Fours { bytes }
+        let mut counts = [0; NUMBERS];
+        write_counts(&mut counts);
+        Fours { bytes, counts }
     }
 }
 
 impl Digits for Fours {
     #[inline(always)]
     fn put_number(&self, n: u64, room: &mut [u8], at: usize) -> usize {
-        put_any(&self.bytes, n, room, at)
+        put_any(self, n, room, at)
     }
 
     #[inline(always)]
     fn put_three_digits(&self, n: u64, room: &mut [u8], at: usize) -> usize {
-        put_last_three(&self.bytes, n, room, at)
+        put_last_three(self, n, room, at)
     }
 }
