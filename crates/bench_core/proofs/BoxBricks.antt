@@ -5,7 +5,7 @@ use Rattle.std.proofs.Math.Nat.{mul-le-mul_left}
 use Rattle.std.proofs.lemmas.Bool.{le-leb, lt-leb}
 use Rattle.std.proofs.lemmas.List.{append-nil}
 use Rattle.std.proofs.lemmas.List.Elements.{filter-append}
-use Rattle.iso_defs.specs.Grid.{Grid, size}
+use Rattle.iso_defs.specs.Grid.{Grid}
 use Rattle.iso_defs.specs.Bricks.{bricks_along, brick_count}
 use Rattle.iso_defs.proofs.Ranges.{range_append}
 use Rattle.voxel_list.specs.Areas.{Area}

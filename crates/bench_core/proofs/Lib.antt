@@ -7,5 +7,6 @@ pub mod PlaneFields
 pub mod Touching
 pub mod BoxBricks
 pub mod Staying
+pub mod Filling
 pub mod Surfaces
 pub mod WindowFiles

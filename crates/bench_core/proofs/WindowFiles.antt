@@ -1,5 +1,5 @@
 -- Windows of a volume, and what a call that writes one does.
-use Rattle.std.proofs.Common.{◌≡◌, ◌⊎◌, ℕ, ◌+◌, ◌≤◌, List, Result, Ok, Err, inl, inr, refl, sym, ap, ◌∙◌, subst, arith, ℤ}
+use Rattle.std.proofs.Common.{◌≡◌, ◌⊎◌, ℕ, List, Result, Ok, Err, inl, inr, refl, sym, ap, ◌∙◌, subst, arith, ℤ}
 use Rattle.std.specs.Prelude.{Option, Some, None, IsSomeAnd, OnOk}
 use Rattle.iso_base.specs.Points.{IsPoint}
 use Rattle.iso_base.specs.Volume.{Volume, IsVolume}

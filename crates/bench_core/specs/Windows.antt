@@ -1,5 +1,5 @@
 -- Windows: boxes of points of a volume, each meshed as a volume of its own.
-use Rattle.std.specs.Prelude.{◌≡◌, ◌⊎◌, ℕ, ◌+◌, ◌-◌, ◌≤◌, List, [], length, Option, Some, None, Result, Ok, Err, IfOk, IfErr, OnOk, ℤ}
+use Rattle.std.specs.Prelude.{◌≡◌, ◌⊎◌, ℕ, ◌-◌, ◌≤◌, List, [], length, Option, Some, None, Result, Ok, Err, IfOk, IfErr, OnOk, ℤ}
 use Rattle.iso_defs.specs.Grid.{Grid, size}
 use Rattle.iso_base.specs.Shifted.{field}
 use Rattle.iso_base.specs.Volume.{Volume, layer}

@@ -242,9 +242,10 @@ impl Bench {
         ensures kept { self.new.cache ≡ without_points self.old.state.volume.grid (area_of self.old.state.volume.grid change) self.old.cache }
     {
         let area = change.area(&self.store);
+        let value = change.value();
         change.make(&mut self.store, &mut self.level);
         let _ = self.store.sizes();
-        follow(&mut self.tree, &mut self.cache, &self.store, area);
+        follow(&mut self.tree, &mut self.cache, &self.store, area, value);
         self.log.push(change);
     }
 
@@ -261,7 +262,7 @@ impl Bench {
         let area = change.area(&self.store);
         let _ = self.store.sizes();
         change.take_back(&mut self.store, &mut self.level);
-        follow(&mut self.tree, &mut self.cache, &self.store, area);
+        follow(&mut self.tree, &mut self.cache, &self.store, area, None);
         Ok(())
     }
 
@@ -276,9 +277,10 @@ impl Bench {
             return Err(BenchFault::NothingToRedo);
         };
         let area = change.area(&self.store);
+        let value = change.value();
         let _ = self.store.sizes();
         change.make(&mut self.store, &mut self.level);
-        follow(&mut self.tree, &mut self.cache, &self.store, area);
+        follow(&mut self.tree, &mut self.cache, &self.store, area, value);
         Ok(())
     }
 

@@ -1,4 +1,4 @@
-use Rattle.std.proofs.Common.{◌≡◌, ℕ, ◌+◌, ◌-◌, List, [], ◌∷◌, ◌++◌, refl, sym, ap, ◌∙◌, arith}
+use Rattle.std.proofs.Common.{◌≡◌, ℕ, ◌+◌, ◌-◌, List, [], ◌∷◌, ◌++◌, sym, ap, ◌∙◌, arith}
 use Rattle.std.specs.List.{range_with_len}
 use Rattle.iso_base.specs.Volume.{Volume}
 use Rattle.span_tree.specs.Spans.{Tree}
@@ -22,7 +22,7 @@ loop-brick-preserved c =
     let xs : List ℕ = range_with_len c.args.from (b - c.args.from) in
     let more : range_with_len c.args.from (b + 1 - c.args.from) ≡ xs ++ b ∷ [] = run_more c.args.from b (omega arith) in
     record {
-      tree = c.touch.ensures
+      tree = c.touch_in.ensures
           ∙ (ap (λ (t : Tree). record t { spans = spans_after w (b ∷ []) t.spans }) c.loop-brick.invariant.tree
           ∙ ap (λ l. record c.args.tree.now { spans = l })
           (sym (spans_after_both w xs (b ∷ []) c.args.tree.now.spans) ∙ ap (λ l. spans_after w l c.args.tree.now.spans) (sym more)));

@@ -3,6 +3,7 @@ use Rattle.edit_log.specs.Changes.{Suits, after, area_of, before, moment}
 use Rattle.bench_core.specs.Keeping.{Workbench, without_points}
 use Rattle.bench_core.specs.Machine.{IsAbovePad, changed}
 use Rattle.bench_core.proofs.Histories.{made}
+use Rattle.bench_core.proofs.Filling.{filled_after}
 use Rattle.bench_core.proofs.Staying.{after_agrees, followed, grid_fits, tree_fits}
 use Rattle.bench_core.proofs.bench.Bench.make.Goals as goal
 
@@ -12,12 +13,18 @@ area-area-requires c = subst (λ (w : Workbench). Suits w.state.volume c.args.ch
 pub make-requires : goal.make-requires
 make-requires c = subst (λ (w : Workbench). Suits w.state.volume c.args.change) (sym c.self.view_is) c.requires.suits
 
-pub follow-requires : goal.follow-requires
-follow-requires c =
+pub follow-requires-clause-grid : goal.follow-requires-clause-grid
+follow-requires-clause-grid c =
     let b = c.self.inside in
     let change = c.args.change in
     tree_fits b.store c.make.new.store c.make.new.level (after change (moment b.store b.level)) (area_of b.store.grid change) b.tree b.cache
     (after_agrees change (moment b.store b.level) c.self.invariant.0.state.volume) c.self.invariant.1.0 c.make.ensures
+
+pub follow-requires-clause-filled : goal.follow-requires-clause-filled
+follow-requires-clause-filled c =
+    let b = c.self.inside in
+    filled_after c.args.change b.store c.make.new.store b.level c.make.new.level c.value-value.result c.area-area.result
+    c.self.invariant.0.state.volume c.make.ensures c.area-area.ensures c.value-value.ensures
 
 pub invariant_of-self : goal.invariant_of-self
 invariant_of-self c =

@@ -4,6 +4,7 @@ use Rattle.bench_core.specs.Machine.{redo_step}
 use Rattle.bench_core.specs.Keeping.{Workbench, first_area, without_points}
 use Rattle.bench_core.specs.History.{IsHistory, state_of}
 use Rattle.bench_core.proofs.Histories.{made_again, nothing_forward, next_points, next_suits}
+use Rattle.bench_core.proofs.Filling.{filled_after}
 use Rattle.bench_core.proofs.Staying.{after_agrees, followed, grid_fits, tree_fits}
 use Rattle.bench_core.proofs.bench.Bench.redo.Goals as goal
 
@@ -31,12 +32,18 @@ area-area-requires c = next_suits c.self.inside.store c.self.inside.level c.self
 pub make-requires : goal.make-requires
 make-requires c = next_suits c.self.inside.store c.self.inside.level c.self.inside.log c.in-Some.change.now c.self.invariant.0 (sym c.in-Some.ensures.change)
 
-pub follow-requires : goal.follow-requires
-follow-requires c =
+pub follow-requires-clause-grid : goal.follow-requires-clause-grid
+follow-requires-clause-grid c =
     let b = c.self.inside in
     let change = c.in-Some.change.now in
     tree_fits b.store c.make.new.store c.make.new.level (after change (moment b.store b.level)) (area_of b.store.grid change) b.tree b.cache
     (after_agrees change (moment b.store b.level) c.self.invariant.0.state.volume) c.self.invariant.1.0 c.make.ensures
+
+pub follow-requires-clause-filled : goal.follow-requires-clause-filled
+follow-requires-clause-filled c =
+    let b = c.self.inside in
+    filled_after c.in-Some.change.now b.store c.make.new.store b.level c.make.new.level c.value-value.result c.area-area.result
+    c.self.invariant.0.state.volume c.make.ensures c.area-area.ensures c.value-value.ensures
 
 pub invariant_of-self-2 : goal.invariant_of-self-2
 invariant_of-self-2 c =

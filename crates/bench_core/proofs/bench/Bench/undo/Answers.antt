@@ -31,8 +31,8 @@ area-area-requires c = newest_suits c.self.inside.store c.self.inside.level c.se
 pub take_back-requires : goal.take_back-requires
 take_back-requires c = newest_suits c.self.inside.store c.self.inside.level c.self.inside.log c.in-Some.change.now c.self.invariant.0 (sym c.in-Some.ensures.change)
 
-pub follow-requires : goal.follow-requires
-follow-requires c =
+pub follow-requires-clause-grid : goal.follow-requires-clause-grid
+follow-requires-clause-grid c =
     let b = c.self.inside in
     let change = c.in-Some.change.now in
     tree_fits b.store c.take_back.new.store c.take_back.new.level (before change (moment b.store b.level)) (area_of b.store.grid change) b.tree b.cache
