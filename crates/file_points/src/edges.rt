@@ -1,12 +1,13 @@
 //! The crossing edges of a volume in its file.
-ghost use Rattle.std.specs.Prelude.{IfOk, IfErr};
+ghost use Rattle.std.specs.Prelude.{◌≡◌, IfOk, IfErr};
+ghost use Rattle.iso_base.specs.declared.kind.SampleKind.TheVariants as kinds;
 ghost use Rattle.nrrd.specs.Files.{file_voxels};
 ghost use Rattle.nrrd.specs.Nrrd.{Fails, nrrd_of};
 ghost use Rattle.file_points.specs.Edges.{AreEdgesOf, AreEdgesOfFile};
 
-use crate::samples::FileSamples;
+use crate::samples::{FileBytes, FileSamples};
 use crossing_edges::{EdgeVertices, Numbers, crossing_points};
-use iso_base::{Level, Memory, Sizes, VoxelData};
+use iso_base::{Level, Memory, SampleKind, Sizes, VoxelData};
 use nrrd::{FileVolume, NrrdFault, RawVolume, read_file_volume};
 use std::alloc::Global;
 
@@ -15,6 +16,23 @@ use std::alloc::Global;
 pub struct FileEdges {
     pub sizes: Sizes,
     pub edges: EdgeVertices,
+}
+
+/// The crossing edges at a level of a volume whose samples are bytes of its file, each with its place.
+fn edges_in_bytes<'a>(
+    alloc: Global,
+    volume: &'a RawVolume<'a>,
+    level: Level,
+) -> Result<FileEdges, Memory>
+    requires { volume.now.kind ≡ kinds.U8 }
+    ensures { IfOk result (λ e. AreEdgesOf volume.now level e.sizes e.edges.names.items e.edges.places.items) }
+{
+    let sizes = volume.sizes();
+    let samples = FileBytes {
+        bytes: volume.bytes(),
+    };
+    let edges = crossing_points(alloc, &sizes, &samples, level)?;
+    Ok(FileEdges { sizes, edges })
 }
 
 /// The crossing edges at a level of a volume whose samples stay in its file, each with its place.
@@ -29,6 +47,20 @@ fn edges_in_place<'a>(
     let samples = FileSamples { volume };
     let edges = crossing_points(alloc, &sizes, &samples, level)?;
     Ok(FileEdges { sizes, edges })
+}
+
+/// The same, by the kind of the samples.
+fn edges_of_raw<'a>(
+    alloc: Global,
+    volume: &'a RawVolume<'a>,
+    level: Level,
+) -> Result<FileEdges, Memory>
+    ensures { IfOk result (λ e. AreEdgesOf volume.now level e.sizes e.edges.names.items e.edges.places.items) }
+{
+    match volume.kind() {
+        SampleKind::U8 => edges_in_bytes(alloc, volume, level),
+        _ => edges_in_place(alloc, volume, level),
+    }
 }
 
 /// The crossing edges at a level of a volume whose samples were read, each with its place.
@@ -48,7 +80,7 @@ fn edges_of(alloc: Global, volume: &FileVolume<'_>, level: Level) -> Result<File
     ensures { IfOk result (λ e. AreEdgesOf (file_voxels volume.now) level e.sizes e.edges.names.items e.edges.places.items) }
 {
     match volume {
-        FileVolume::Raw(raw) => edges_in_place(alloc, raw, level),
+        FileVolume::Raw(raw) => edges_of_raw(alloc, raw, level),
         FileVolume::Read(read) => edges_in_memory(alloc, read, level),
     }
 }

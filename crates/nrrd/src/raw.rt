@@ -1,8 +1,9 @@
 //! Volumes in the bytes of their files.
-ghost use Rattle.std.specs.Prelude.{◌≡◌, ◌+◌, ◌*◌, ◌<◌, ◌≤◌, length, IfOk, take, drop};
+ghost use Rattle.std.specs.Prelude.{◌≡◌, ◌+◌, ◌*◌, ◌<◌, ◌≤◌, length, IfOk, map, take, drop, pos};
 ghost use Rattle.iso_defs.specs.Grid.{point_count};
 ghost use Rattle.iso_base.specs.Samples.{width_of};
 ghost use Rattle.iso_base.specs.Volume.{IsVoxels, sample};
+ghost use Rattle.iso_base.specs.declared.kind.SampleKind.TheVariants as kinds;
 ghost use Rattle.nrrd.specs.Raw.{voxels_in};
 
 use crate::runs::read_run;
@@ -61,6 +62,15 @@ impl<'a> RawVolume<'a> {
         ensures { result ≡ self.now.kind }
     {
         self.kind
+    }
+
+    /// The bytes of whole numbers of 8 bits, which are the samples themselves.
+    pub fn bytes(&self) -> &'a [u8]
+        requires { self.now.kind ≡ kinds.U8 }
+        ensures { map pos result.now ≡ self.now.samples }
+    {
+        let count = self.sizes.count() as usize;
+        &self.bytes[..count]
     }
 
     /// The sample of an index.
