@@ -4,7 +4,7 @@ ghost use Rattle.inner_volume.specs.Places.{IsInside, place_of, plane_of};
 ghost use Rattle.measure.specs.Measures.{HasNoArea};
 ghost use Rattle.mesh_measures.specs.Printed.{HasNoBorder, HasOneVolumeIn};
 ghost use Rattle.bench_core.specs.Surface.{IsCutOfMesh, IsWatertight};
-ghost use Rattle.bench_core.specs.Texts.{WritesFile, contour_of, hex_save, measure_of, mesh_text, mesh_written, obj_text, obj_written, ply_text, ply_written, raw_save, report_of, text_save};
+ghost use Rattle.bench_core.specs.Texts.{WritesFile, contour_of, hex_save, measure_of, text_of_state, mesh_written, obj_text, obj_written, ply_text, ply_written, raw_save, report_of, text_save};
 ghost use Rattle.voxel_list.specs.Areas.{between};
 ghost use Rattle.edit_log.specs.Changes.{Suits, after, area_of, before, moment};
 ghost use Rattle.bench_core.specs.Machine.{IsAbovePad, IsState, IsStep, IsSureStep, area_by, begin_fault, changed, checked_level, contour_step, fill_at, fill_step, level_step, pad_fault, redo_step, set_at, set_step, three_from, undo_step};
@@ -342,7 +342,7 @@ impl Bench {
         steps: &mut Steps<L>,
     ) -> Result<Written, BenchFault>
         ensures refreshed { Refreshes self.old self.new (waiting_bricks self.old) write_steps steps.old steps.new }
-        ensures file { WritesFile (H.seen shelf.old) (H.seen shelf.new) result name.now (mesh_text format self.old.state) (mesh_written format self.old.state) }
+        ensures file { WritesFile (H.seen shelf.old) (H.seen shelf.new) result name.now (text_of_state format self.old.state) (mesh_written format self.old.state) }
         ensures surface { OnOk result (IsWatertight self.old.state.volume self.old.state.level) }
         ensures no_memory { IsErrOf result BenchFault.Memory → ⊥ }
     {
@@ -359,7 +359,7 @@ impl Bench {
         steps: &mut Steps<L>,
     ) -> Result<Written, BenchFault>
         ensures same { self.new ≡ self.old }
-        ensures file { WritesFile (H.seen shelf.old) (H.seen shelf.new) result name.now (mesh_text format self.old.state) (mesh_written format self.old.state) }
+        ensures file { WritesFile (H.seen shelf.old) (H.seen shelf.new) result name.now (text_of_state format self.old.state) (mesh_written format self.old.state) }
         ensures surface { IsWatertight self.old.state.volume self.old.state.level }
         ensures no_memory { IsErrOf result BenchFault.Memory → ⊥ }
         ensures least { steps.old ≤ steps.new }

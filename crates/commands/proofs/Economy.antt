@@ -5,10 +5,10 @@ use Rattle.std.proofs.lemmas.List.{append-nil}
 use Rattle.bench_core.specs.Keeping.{Workbench}
 use Rattle.session.specs.Kept.{Kept}
 use Rattle.session.specs.Sessions.{Course, EndsAfter}
-use Rattle.session.specs.Worlds.{Breaks, World, joined, scene_of}
+use Rattle.session.specs.Worlds.{Breaks, World, replies_text, scene_of}
 use Rattle.session.specs.declared.ending.Ending.{Ending}
 use Rattle.session.specs.declared.ending.Ending.TheVariants as endings
-use Rattle.session.proofs.Running.{joined-append, kept_both}
+use Rattle.session.proofs.Running.{replies_text-append, kept_both}
 use Rattle.command_words.specs.declared.request.Request.{Request}
 use Rattle.command_words.specs.declared.request.Request.TheVariants as requests
 use Rattle.endings.specs.declared.answer.Answer.{Answer}
@@ -27,9 +27,9 @@ pub record Led (w v : World) (ending : Ending) (lines : List (List ℕ)) : Type 
   pub kept : Kept (scene_of w) lines replies (scene_of v)
   pub written : WritesReplies ending w.tape v.tape replies
 
-cut_text : (replies : List (List ℕ)) (reply front back : List ℕ) → reply ≡ front ++ back → joined (replies ++ reply ∷ []) ≡ (joined replies ++ front) ++ back
+cut_text : (replies : List (List ℕ)) (reply front back : List ℕ) → reply ≡ front ++ back → replies_text (replies ++ reply ∷ []) ≡ (replies_text replies ++ front) ++ back
 cut_text replies reply front back e =
-    joined-append replies (reply ∷ []) ∙ ap (λ (l : List ℕ). joined replies ++ l) (append-nil reply ∙ e) ∙ sym (append_assoc (joined replies) front back)
+    replies_text-append replies (reply ∷ []) ∙ ap (λ (l : List ℕ). replies_text replies ++ l) (append-nil reply ∙ e) ∙ sym (append_assoc (replies_text replies) front back)
 
 broken : (w v : World) (lines : List (List ℕ)) → Breaks w v lines → Led w v endings.OutputFault lines
 broken w v lines b = record {
@@ -37,7 +37,7 @@ broken w v lines b = record {
   kept = subst (λ (ls : List (List ℕ)). Kept (scene_of w) ls (b.replies ++ b.reply ∷ []) (scene_of v)) (sym b.parts)
       (kept_both (scene_of w) b.before b.replies b.mid (b.line ∷ []) (b.reply ∷ []) (scene_of v) b.kept
       (b.reply ∷ [], [], scene_of v, sym (append-nil (b.reply ∷ [])), b.turn, (refl, refl)));
-  written = (joined b.replies ++ b.front, b.back, cut_text b.replies b.reply b.front b.back b.cut, b.written);
+  written = (replies_text b.replies ++ b.front, b.back, cut_text b.replies b.reply b.front b.back b.cut, b.written);
 }
 
 pub led : (s : Course) (ending : Ending) (lines : List (List ℕ)) → EndsAfter s ending lines → Led s.world s.world_after ending lines

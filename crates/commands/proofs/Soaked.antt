@@ -15,8 +15,8 @@ use Rattle.session.specs.Following.{LineTurn}
 use Rattle.session.specs.Kept.{Kept, KeptLine, Scene}
 use Rattle.session.specs.Lines.{Saying}
 use Rattle.session.specs.Loop.{TakesTurn}
-use Rattle.session.specs.Worlds.{CountsBy, World, joined, scene_of, shelf_errors}
-use Rattle.session.proofs.Running.{joined-append, kept_both, line_no_error}
+use Rattle.session.specs.Worlds.{CountsBy, World, replies_text, scene_of, shelf_errors}
+use Rattle.session.proofs.Running.{replies_text-append, kept_both, line_no_error}
 use Rattle.commands.specs.Soaking.{HasNoWant, RanQuietly, Shows, SoakBreaks, Soaks, SoaksLine, is_ply, is_want, may_want, shown, shown_by}
 use Rattle.commands.specs.declared.soak.Pace.{Pace}
 use Rattle.commands.specs.declared.soak.Pace.TheVariants.{On, Wanting, Fault}
@@ -84,8 +84,8 @@ pub soaks_both : (w v x : World) (ls ls' : List (List ℕ)) → Soaks w v ls →
 soaks_both w v x ls ls' a b = record {
   replies = a.replies ++ b.replies;
   ran = ran_both w v x ls a.replies ls' b.replies a.ran b.ran;
-  written = rw (shown_both ls a.replies ls' b.replies (scene_of w) (scene_of v) a.ran.kept, joined-append (shown ls a.replies) (shown ls' b.replies))
-      (Appends-trans w.tape.taken v.tape.taken x.tape.taken (joined (shown ls a.replies)) (joined (shown ls' b.replies)) a.written b.written);
+  written = rw (shown_both ls a.replies ls' b.replies (scene_of w) (scene_of v) a.ran.kept, replies_text-append (shown ls a.replies) (shown ls' b.replies))
+      (Appends-trans w.tape.taken v.tape.taken x.tape.taken (replies_text (shown ls a.replies)) (replies_text (shown ls' b.replies)) a.written b.written);
   later = omega (arith, a.later, b.later);
 }
 
@@ -113,8 +113,8 @@ soak_breaks w v x ls ls' a b = record {
   front = b.front;
   back = b.back;
   cut = b.cut;
-  written = rw (shown_both ls a.replies b.before b.replies (scene_of w) (scene_of v) a.ran.kept, joined-append (shown ls a.replies) (shown b.before b.replies), append_assoc (joined (shown ls a.replies)) (joined (shown b.before b.replies)) b.front)
-      (Appends-trans w.tape.taken v.tape.taken x.tape.taken (joined (shown ls a.replies)) (joined (shown b.before b.replies) ++ b.front) a.written b.written);
+  written = rw (shown_both ls a.replies b.before b.replies (scene_of w) (scene_of v) a.ran.kept, replies_text-append (shown ls a.replies) (shown b.before b.replies), append_assoc (replies_text (shown ls a.replies)) (replies_text (shown b.before b.replies)) b.front)
+      (Appends-trans w.tape.taken v.tape.taken x.tape.taken (replies_text (shown ls a.replies)) (replies_text (shown b.before b.replies) ++ b.front) a.written b.written);
   cause = omega (arith, a.later, b.cause);
 }
 
@@ -144,13 +144,13 @@ no_command w text (Err fault) e ne =
 
 -- ---- one command
 
-shown_text : (b : Bool) (text : List ℕ) → joined (if b then text ∷ [] else []) ≡ (if b then text else [])
+shown_text : (b : Bool) (text : List ℕ) → replies_text (if b then text ∷ [] else []) ≡ (if b then text else [])
 shown_text true text = append-nil text
 shown_text false text = refl
 
-shown_one : (c : Command) (line text : List ℕ) (b : Bool) → Ok (Some c) ≡ read_of line → b ≡ is_ply (Ok (Some c)) → joined (shown (line ∷ []) (text ∷ [])) ≡ (if b then text else [])
+shown_one : (c : Command) (line text : List ℕ) (b : Bool) → Ok (Some c) ≡ read_of line → b ≡ is_ply (Ok (Some c)) → replies_text (shown (line ∷ []) (text ∷ [])) ≡ (if b then text else [])
 shown_one c line text b e d =
-    ap (λ (says : Saying). joined (shown_by says (text ∷ []) (shown []))) (sym e) ∙ ap (λ (p : Bool). joined (if p then text ∷ [] else [])) (sym d) ∙ shown_text b text
+    ap (λ (says : Saying). replies_text (shown_by says (text ∷ []) (shown []))) (sym e) ∙ ap (λ (p : Bool). replies_text (if p then text ∷ [] else [])) (sym d) ∙ shown_text b text
 
 ran_one : (w v : World) (c : Command) (line text : List ℕ) → Ok (Some c) ≡ read_of line → TakesTurn w.bench w.steps w.store c text v.bench v.steps v.store → is_want text ≡ false → v.tape.beside ≡ w.tape.beside
     → RanQuietly w v (line ∷ []) (text ∷ [])

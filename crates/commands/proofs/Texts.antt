@@ -19,7 +19,7 @@ use Rattle.mesh_write.specs.Edges.{placed_lines}
 use Rattle.mesh_write.specs.Mesh.{ply_of, obj_of, text_of}
 use Rattle.mesh_write.proofs.Crossings.{points_are}
 use Rattle.bench_core.specs.Texts.{obj_text, ply_text}
-use Rattle.commands.specs.Meaning.{points_of, mesh_text, mesh_given, text_by}
+use Rattle.commands.specs.Meaning.{points_of, text_of_volume, mesh_given, text_by}
 use Rattle.commands.specs.Volumes.{volume_of}
 use Rattle.mesh_text.specs.declared.format.TwoWayFormat.{TwoWayFormat}
 use Rattle.mesh_text.specs.declared.format.TwoWayFormat.TheVariants.{Ply, Obj}
@@ -40,16 +40,16 @@ unfolding points_of
 points_text_is v level names places e d = points_are v.grid (field v.samples level) names places e d
 
 -- the text of what the input gives
-pub gives_mesh : (level : ℤ) (pad : Option ℤ) (format : TwoWayFormat) (left : Option (List ℕ)) (v : Volume) → IfSome left (λ bytes. volume_of pad level bytes ≡ Ok v) → IfSome left (λ bytes. mesh_given level pad format bytes ≡ Ok (mesh_text format level v))
-gives_mesh level pad format left v h = if_told _ _ left (λ bytes e. ap (text_by (mesh_text format level)) e) h
+pub gives_mesh : (level : ℤ) (pad : Option ℤ) (format : TwoWayFormat) (left : Option (List ℕ)) (v : Volume) → IfSome left (λ bytes. volume_of pad level bytes ≡ Ok v) → IfSome left (λ bytes. mesh_given level pad format bytes ≡ Ok (text_of_volume format level v))
+gives_mesh level pad format left v h = if_told _ _ left (λ bytes e. ap (text_by (text_of_volume format level)) e) h
 
 -- the text of the volume's mesh
-text_is : (format : TwoWayFormat) (v : Volume) (level : ℤ) (padded : Bool) (m : FlatMesh) → padded ≡ is_some v.pad → m ≡ mesh_of v.grid (field v.samples level) → text_of format padded m ≡ mesh_text format level v
+text_is : (format : TwoWayFormat) (v : Volume) (level : ℤ) (padded : Bool) (m : FlatMesh) → padded ≡ is_some v.pad → m ≡ mesh_of v.grid (field v.samples level) → text_of format padded m ≡ text_of_volume format level v
 unfolding ply_of obj_of ply_text obj_text
 text_is Ply v level padded m p e = rw (p, e) refl
 text_is Obj v level padded m p e = rw (p, e) refl
 
 -- what was put is that text, whatever was answered with it
 pub text_put : {T E : Type 0} (old new : Tape) (r : Result T E) (format : TwoWayFormat) (v : Volume) (level : ℤ) (padded : Bool) (m : FlatMesh) → padded ≡ is_some v.pad → m ≡ mesh_of v.grid (field v.samples level)
-    → Puts old new r (text_of format padded m) → Puts old new r (mesh_text format level v)
+    → Puts old new r (text_of format padded m) → Puts old new r (text_of_volume format level v)
 text_put old new r format v level padded m p e put = subst (λ (text : List ℕ). Puts old new r text) (text_is format v level padded m p e) put

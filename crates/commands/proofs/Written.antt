@@ -4,7 +4,7 @@ use Rattle.std.specs.Prelude.{Option, Result}
 use Rattle.iso_base.specs.Volume.{Volume}
 use Rattle.iso_io.specs.Seen.{Tape}
 use Rattle.mesh_text.specs.declared.format.TwoWayFormat.{TwoWayFormat}
-use Rattle.commands.specs.Meaning.{mesh_given, mesh_text, text_by}
+use Rattle.commands.specs.Meaning.{mesh_given, text_of_volume, text_by}
 use Rattle.commands.specs.Outcome.{Converts, ReadWhole, Streams, WritesGiven}
 use Rattle.commands.specs.Volumes.{HoldsNone, IsNoVolume, volume_answer, volume_limit, volume_of}
 use Rattle.commands.specs.declared.volumes.NoVolume.{NoVolume}
@@ -33,7 +33,7 @@ converts given call bytes (answers.BadMesh fault) read whole h = absurd h
 -- a refusal writes nothing
 pub refused : (level : ℤ) (pad : Option ℤ) (format : TwoWayFormat) (bytes : List ℕ) (tape : Tape) (reason : NoVolume) → IsNoVolume pad level bytes reason
     → WritesGiven (mesh_given level pad format bytes) tape tape (volume_answer reason)
-refused level pad format bytes tape (reasons.Refused fault) h = (ap (text_by (mesh_text format level)) h, refl)
+refused level pad format bytes tape (reasons.Refused fault) h = (ap (text_by (text_of_volume format level)) h, refl)
 refused level pad format bytes tape reasons.Memory h = refl
 
 -- and is no end of a command that was carried out
@@ -43,8 +43,8 @@ not_done reasons.Memory e = absurd cc
 
 -- what is written of a volume is what its bytes give
 pub of_volume : (level : ℤ) (pad : Option ℤ) (format : TwoWayFormat) (bytes : List ℕ) (v : Volume) (old new : Tape) (a : Answer)
-    → volume_of pad level bytes ≡ Ok v → WritesGiven (Ok (mesh_text format level v)) old new a → WritesGiven (mesh_given level pad format bytes) old new a
-of_volume level pad format bytes v old new a e h = subst (λ given. WritesGiven given old new a) (sym (ap (text_by (mesh_text format level)) e)) h
+    → volume_of pad level bytes ≡ Ok v → WritesGiven (Ok (text_of_volume format level v)) old new a → WritesGiven (mesh_given level pad format bytes) old new a
+of_volume level pad format bytes v old new a e h = subst (λ given. WritesGiven given old new a) (sym (ap (text_by (text_of_volume format level)) e)) h
 
 -- where there is no volume in the input nothing is written
 pub not_held : (level : ℤ) (pad : Option ℤ) (format : TwoWayFormat) (call : Streams) (a : Answer) → call.output_after ≡ call.output
@@ -57,7 +57,7 @@ not_held level pad format call (answers.BadVolume fault) same h = (
     within = if_told (λ bytes. (length bytes ≤ volume_limit) × (volume_of pad level bytes ≡ Err fault)) (λ bytes. length bytes ≤ volume_limit) call.input.left (λ bytes e. e.0) h.1;
   },
   if_told (λ bytes. (length bytes ≤ volume_limit) × (volume_of pad level bytes ≡ Err fault)) (λ bytes. mesh_given level pad format bytes ≡ Err fault) call.input.left
-      (λ bytes e. ap (text_by (mesh_text format level)) e.1) h.1,
+      (λ bytes e. ap (text_by (text_of_volume format level)) e.1) h.1,
   same,
 )
 not_held level pad format call answers.Memory same h = same

@@ -14,8 +14,8 @@ unfoldable pub points_of : ℤ → Volume → List ℕ
 points_of level v = points_text (edge_points v.grid (field v.samples level))
 
 -- the text of the mesh of a volume at a level, from scratch: that of a bench that was opened on it
-abbrev pub mesh_text : TwoWayFormat → ℤ → Volume → List ℕ
-mesh_text format level v = benches.mesh_text format (record { volume = v; level = level; past = []; future = [] })
+abbrev pub text_of_volume : TwoWayFormat → ℤ → Volume → List ℕ
+text_of_volume format level v = benches.text_of_state format (record { volume = v; level = level; past = []; future = [] })
 
 abbrev pub text_by : (Volume → List ℕ) → Result Volume VolumeFault → Result (List ℕ) VolumeFault
 text_by text (Ok v) = Ok (text v)
@@ -27,4 +27,4 @@ points_given level bytes = text_by (points_of level) (volume_of None level bytes
 
 -- what `extract` gives
 abbrev pub mesh_given : ℤ → Option ℤ → TwoWayFormat → List ℕ → Result (List ℕ) VolumeFault
-mesh_given level pad format bytes = text_by (mesh_text format level) (volume_of pad level bytes)
+mesh_given level pad format bytes = text_by (text_of_volume format level) (volume_of pad level bytes)

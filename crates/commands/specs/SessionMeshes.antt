@@ -8,14 +8,14 @@ use Rattle.iso_io.specs.Shelves.{with_file}
 use Rattle.bench_core.specs.Keeping.{Workbench}
 use Rattle.bench_core.specs.Machine.{State}
 use Rattle.bench_core.specs.Surface.{IsWatertight}
-use Rattle.bench_core.specs.Texts.{mesh_text}
+use Rattle.bench_core.specs.Texts.{text_of_state}
 use Rattle.mesh_text.specs.declared.format.TwoWayFormat.{TwoWayFormat}
 use Rattle.mesh_text.specs.declared.format.TwoWayFormat.TheVariants as formats
 use Rattle.script.specs.Commands.{read_of}
 use Rattle.script.specs.declared.command.Command.{Command}
 use Rattle.script.specs.declared.command.Command.TheVariants as commands
 use Rattle.session.specs.Following.{Followed}
-use Rattle.session.specs.Worlds.{World, is_shelf_error, joined}
+use Rattle.session.specs.Worlds.{World, is_shelf_error, replies_text}
 use Rattle.session.specs.Sessions.{EndsAfter}
 use Rattle.session.specs.declared.ending.Ending.{Ending}
 use Rattle.session.specs.declared.ending.Ending.TheVariants as endings
@@ -34,7 +34,7 @@ writes_mesh formats.Obj name = commands.Obj name
 -- extraction from scratch of the volume and level as they then are, and it is watertight.
 pub record WroteMesh (s : State) (files : Option Files) (format : TwoWayFormat) (name reply : List ℕ) (after : Option Files) : Type 0 where
   pub told : reply ≡ says_of s (writes_mesh format name)
-  pub file : after ≡ with_file name (mesh_text format s) files
+  pub file : after ≡ with_file name (text_of_state format s) files
   pub watertight : IsWatertight s.volume s.level
 
 -- A line among those that were run asked for a mesh. The lines before it, with their replies, led to a state; it wrote the
@@ -53,8 +53,8 @@ pub record MeshTurn (w v : World) (before later replies : List (List ℕ)) (form
 
 -- what was written of the replies to the lines of a session: all of it, or a front where the output failed
 abbrev pub WritesReplies : Ending → Tape → Tape → List (List ℕ) → Type 0
-WritesReplies endings.OutputFault old new replies = AppendsFront old.taken new.taken (joined replies)
-WritesReplies ending old new replies = Appends old.taken new.taken (joined replies)
+WritesReplies endings.OutputFault old new replies = AppendsFront old.taken new.taken (replies_text replies)
+WritesReplies ending old new replies = Appends old.taken new.taken (replies_text replies)
 
 -- Lines were run, and their replies are what was written: so it is at each line that asked for a mesh.
 pub record ShowsMeshes (w v : World) (ending : Ending) (lines : List (List ℕ)) : Type 0 where

@@ -19,7 +19,7 @@ use Rattle.session.specs.Loop.{PutAll}
 use Rattle.session.specs.Table.{may_want_memory}
 use Rattle.session.specs.declared.response.Response.{Response}
 use Rattle.session.specs.declared.response.Response.TheVariants.{Line}
-use Rattle.session.specs.Worlds.{CountsBy, World, joined, scene_of, world}
+use Rattle.session.specs.Worlds.{CountsBy, World, replies_text, scene_of, world}
 use Rattle.commands.specs.Outcome.{Call, LeavesShelf, NothingWritten}
 use Rattle.commands.specs.Sessions.{world_after}
 use Rattle.commands.specs.declared.soak.Pace.{Pace}
@@ -93,7 +93,7 @@ pub record RanQuietly (w v : World) (lines replies : List (List ℕ)) : Type 0 w
 pub record Soaks (w v : World) (lines : List (List ℕ)) : Type 0 where
   pub replies : List (List ℕ)
   pub ran : RanQuietly w v lines replies
-  pub written : Appends w.tape.taken v.tape.taken (joined (shown lines replies))
+  pub written : Appends w.tape.taken v.tape.taken (replies_text (shown lines replies))
   pub later : w.tape.faults ≤ v.tape.faults
 
 -- lines were run, the last of which asks for the mesh as PLY, and of the reply to that one only a front was written
@@ -108,7 +108,7 @@ pub record SoakBreaks (w v : World) (lines : List (List ℕ)) : Type 0 where
   pub front : List ℕ
   pub back : List ℕ
   pub cut : reply ≡ front ++ back
-  pub written : Appends w.tape.taken v.tape.taken (joined (shown before replies) ++ front)
+  pub written : Appends w.tape.taken v.tape.taken (replies_text (shown before replies) ++ front)
   pub cause : Rose w.tape.faults v.tape.faults
 
 -- ---- how it ends

@@ -21,7 +21,7 @@ use crate::checks::check;
 use crate::generate::generate;
 use crate::meshes::extract;
 use crate::points::points;
-use crate::sessions::run_script;
+use crate::sessions::run_on_file;
 use crate::soak::soak;
 use bench_core::{Bench, Capacity};
 use command_words::{Request, read_words};
@@ -65,7 +65,7 @@ fn carry_out<S: Source, K: Sink, H: Shelf, L: Ledger>(
             name,
             bricks,
             pages,
-        } => run_script(
+        } => run_on_file(
             alloc,
             level,
             pad,

@@ -5,7 +5,7 @@ ghost use Rattle.iso_defs.specs.Grid.{point_count};
 ghost use Rattle.iso_base.specs.Volume.{Volume, unpadded};
 ghost use Rattle.iso_base.specs.Samples.{IsSample};
 ghost use Rattle.iso_io.specs.Seen.{Puts};
-ghost use Rattle.commands.specs.Meaning.{mesh_given, mesh_text};
+ghost use Rattle.commands.specs.Meaning.{mesh_given, text_of_volume};
 ghost use Rattle.bench_core.specs.Machine.{IsAbovePad};
 ghost use Rattle.bench_core.specs.Surface.{IsWatertight};
 ghost use Rattle.commands.specs.Headline.{IsMeshWatertight, ShowsMesh};
@@ -32,7 +32,7 @@ fn put_text<S: SampleList, K: Sink>(
     style: Style,
 ) -> Result<Written, Failed>
     ensures { (v : Volume) (level : ℤ) → style.padded ≡ is_some v.pad → mesh.now ≡ record { grid = v.grid; samples = v.samples; level = level }
-        → Puts (K.seen sink.old) (K.seen sink.new) result (mesh_text style.format level v) }
+        → Puts (K.seen sink.old) (K.seen sink.new) result (text_of_volume style.format level v) }
 {
     mesh.write(style, sink)
 }
@@ -55,7 +55,7 @@ fn write_mesh<S: SampleList, K: Sink>(
     requires count { length (S.list samples.now) ≡ point_count sizes }
     requires samples { All IsSample (S.list samples.now) }
     ensures { (v : Volume) → v.grid ≡ sizes → v.samples ≡ S.list samples.now → style.padded ≡ is_some v.pad
-        → WritesGiven (Ok (mesh_text style.format level v)) (K.seen output.old) (K.seen output.new) result }
+        → WritesGiven (Ok (text_of_volume style.format level v)) (K.seen output.old) (K.seen output.new) result }
 {
     let Ok(mesh) = ListMesh::of(alloc, sizes, samples, level) else {
         return Answer::Memory;
@@ -75,7 +75,7 @@ fn extract_list<K: Sink>(
     output: &mut K,
 ) -> Answer
     requires { IsAbovePad volume.now.pad level }
-    ensures text { WritesGiven (Ok (mesh_text format level volume.now)) (K.seen output.old) (K.seen output.new) result }
+    ensures text { WritesGiven (Ok (text_of_volume format level volume.now)) (K.seen output.old) (K.seen output.new) result }
     ensures surface { IsWatertight volume.now level }
 {
     let padded = is_padded(volume);
@@ -95,7 +95,7 @@ fn extract_raw<K: Sink>(
     volume: &RawVolume<'_>,
     output: &mut K,
 ) -> Answer
-    ensures text { WritesGiven (Ok (mesh_text format level (unpadded volume.now))) (K.seen output.old) (K.seen output.new) result }
+    ensures text { WritesGiven (Ok (text_of_volume format level (unpadded volume.now))) (K.seen output.old) (K.seen output.new) result }
     ensures surface { IsWatertight (unpadded volume.now) level }
 {
     let style = Style {

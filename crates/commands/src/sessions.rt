@@ -27,7 +27,7 @@ fn answer(ending: Ending) -> Answer
 }
 
 /// Runs the script of the input on the volume of a file, and leaves the bench on which it was run.
-pub fn run_script<S: Source, K: Sink, H: Shelf, L: Ledger>(
+pub fn run_on_file<S: Source, K: Sink, H: Shelf, L: Ledger>(
     alloc: Global,
     level: Level,
     pad: Option<i64>,

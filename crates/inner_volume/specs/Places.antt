@@ -13,9 +13,9 @@ pub record IsInside (v : Volume) (p : Point) : Type 0 where
   pub high_z : p.z + layer v.pad < v.grid.nz
 
 -- the stored coordinate of one that does not count the layer, where it is inside
-abbrev pub stored : ℕ → ℕ → ℤ → Option ℕ
-stored n layer (pos x) = if nat_lt x (n - 2 * layer) then Some (x + layer) else None
-stored n layer (negsuc x) = None
+abbrev pub stored_coordinate : ℕ → ℕ → ℤ → Option ℕ
+stored_coordinate n layer (pos x) = if nat_lt x (n - 2 * layer) then Some (x + layer) else None
+stored_coordinate n layer (negsuc x) = None
 
 -- the point of three coordinates that are all there
 abbrev pub point_by : Option ℕ → Option ℕ → Option ℕ → Option Point
@@ -27,10 +27,10 @@ point_by None y z = None
 -- the stored point of coordinates that do not count the layer, where it is inside
 unfoldable pub place_of : Volume → ℤ × ℤ × ℤ → Option Point
 place_of v at = point_by
-    (stored v.grid.nx (layer v.pad) at.0)
-    (stored v.grid.ny (layer v.pad) at.1)
-    (stored v.grid.nz (layer v.pad) at.2)
+    (stored_coordinate v.grid.nx (layer v.pad) at.0)
+    (stored_coordinate v.grid.ny (layer v.pad) at.1)
+    (stored_coordinate v.grid.nz (layer v.pad) at.2)
 
 -- the stored plane of one that does not count the layer, where it is inside
 abbrev pub plane_of : Volume → ℤ → Option ℕ
-plane_of v k = stored v.grid.nz (layer v.pad) k
+plane_of v k = stored_coordinate v.grid.nz (layer v.pad) k

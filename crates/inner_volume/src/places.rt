@@ -2,7 +2,7 @@
 
 ghost use Rattle.std.specs.Prelude.{◌≡◌, ◌+◌, ◌<◌, ◌≤◌, IfSome};
 ghost use Rattle.iso_base.specs.Volume.{inner_grid, layer};
-ghost use Rattle.inner_volume.specs.Places.{IsInside, place_of, plane_of, stored};
+ghost use Rattle.inner_volume.specs.Places.{IsInside, place_of, plane_of, stored_coordinate};
 
 use brick_store::BrickStore;
 use iso_base::{Point, Sizes};
@@ -59,7 +59,7 @@ pub fn place_in(store: &BrickStore, x: i64, y: i64, z: i64) -> Option<Point>
 fn stored_at(n: u32, layer: u32, x: i64) -> Option<u32>
     requires layer { layer ≤ 1 }
     requires size { n ≤ 1026 }
-    ensures value { result ≡ stored n layer x }
+    ensures value { result ≡ stored_coordinate n layer x }
     ensures inside { IfSome result (λ p. (layer ≤ p) × (p + layer < n)) }
 {
     if 0 <= x && x < i64::from(n) - 2 * i64::from(layer) {

@@ -20,7 +20,7 @@ use Rattle.script.specs.Commands.{read_of}
 use Rattle.session.specs.Lines.{Saying, is_quit, has_no_quit}
 use Rattle.session.specs.Following.{Followed}
 use Rattle.session.specs.Kept.{Kept, KeptLine, Scene}
-use Rattle.session.specs.Worlds.{Breaks, CountsBy, QuitsLast, Runs, World, is_shelf_error, joined, scene_of, shelf_errors}
+use Rattle.session.specs.Worlds.{Breaks, CountsBy, QuitsLast, Runs, World, is_shelf_error, replies_text, scene_of, shelf_errors}
 use Rattle.session.specs.Loop.{Ran, Told}
 use Rattle.session.specs.declared.after.After.{After}
 use Rattle.session.specs.declared.after.After.TheVariants.{On, Quit, Fault}
@@ -34,8 +34,8 @@ pub kept_followed : (ls rs : List (List ℕ)) (w v : Scene) → Kept w ls rs v �
 kept_followed [] rs w v h = (h.0, ap (λ (x : Scene). x.bench.state) h.1, ap (λ (x : Scene). x.files) h.1)
 kept_followed (l ∷ ls) rs w v h = (h.0, h.1, h.2.bench.state, h.2.files, h.3, h.4.turn, kept_followed ls h.1 h.2 v h.5)
 
-pub joined-append : (xs ys : List (List ℕ)) → joined (xs ++ ys) ≡ joined xs ++ joined ys
-joined-append xs ys = flat_map-append (λ (r : List ℕ). r) xs ys
+pub replies_text-append : (xs ys : List (List ℕ)) → replies_text (xs ++ ys) ≡ replies_text xs ++ replies_text ys
+replies_text-append xs ys = flat_map-append (λ (r : List ℕ). r) xs ys
 
 shelf_errors-append : (xs ys : List (List ℕ)) → shelf_errors (xs ++ ys) ≡ shelf_errors xs + shelf_errors ys
 shelf_errors-append [] ys = omega arith
@@ -54,7 +54,7 @@ pub runs_both : (w v x : World) (ls ls' : List (List ℕ)) → Runs w v ls → R
 runs_both w v x ls ls' a b = record {
   replies = a.replies ++ b.replies;
   kept = kept_both (scene_of w) ls a.replies (scene_of v) ls' b.replies (scene_of x) a.kept b.kept;
-  written = rw (joined-append a.replies b.replies) (Appends-trans w.tape.taken v.tape.taken x.tape.taken (joined a.replies) (joined b.replies) a.written b.written);
+  written = rw (replies_text-append a.replies b.replies) (Appends-trans w.tape.taken v.tape.taken x.tape.taken (replies_text a.replies) (replies_text b.replies) a.written b.written);
   beside = b.beside ∙ a.beside;
   later = omega (arith, a.later, b.later);
   shelf_later = omega (arith, a.shelf_later, b.shelf_later);
@@ -83,7 +83,7 @@ runs_breaks w v x ls ls' a q b = record {
   front = b.front;
   back = b.back;
   cut = b.cut;
-  written = rw (joined-append a.replies b.replies, append_assoc (joined a.replies) (joined b.replies) b.front) (Appends-trans w.tape.taken v.tape.taken x.tape.taken (joined a.replies) (joined b.replies ++ b.front) a.written b.written);
+  written = rw (replies_text-append a.replies b.replies, append_assoc (replies_text a.replies) (replies_text b.replies) b.front) (Appends-trans w.tape.taken v.tape.taken x.tape.taken (replies_text a.replies) (replies_text b.replies ++ b.front) a.written b.written);
   beside = b.beside ∙ a.beside;
   cause = omega (arith, a.later, b.cause);
   shelf_later = omega (arith, a.shelf_later, b.shelf_later);

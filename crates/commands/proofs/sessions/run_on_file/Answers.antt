@@ -1,7 +1,7 @@
 use Rattle.std.proofs.Common.{refl}
 use Rattle.commands.specs.Serving.{asked_for}
 use Rattle.commands.proofs.Openings.{opened}
-use Rattle.commands.proofs.sessions.run_script.Goals as goal
+use Rattle.commands.proofs.sessions.run_on_file.Goals as goal
 
 pub returns-in-Ok-run_session : goal.returns-in-Ok-run_session
 returns-in-Ok-run_session g c =
