@@ -33,7 +33,7 @@ use stitch_rows::{CellRows, Field};
 /// Puts what stands before the lines behind the others: a head in PLY, nothing in OBJ.
 pub fn put_head(format: TwoWayFormat, vertices: u32, faces: u32, block: &mut Block)
     requires page { block.old.page ≡ 0 }
-    requires room { length block.old.waiting + 256 ≤ 32768 }
+    requires room { length block.old.waiting + 256 ≤ 65536 }
     ensures put { IsBehind block.old block.new (head_of format vertices faces) }
     ensures bytes { block.new.total ≤ block.old.total + 256 }
 {
