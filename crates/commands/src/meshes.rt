@@ -16,8 +16,8 @@ use crate::volumes::{NoVolume, bytes_of_input, volume_in};
 use bench_core::watertight;
 use crossing_edges::{Numbers, SampleList};
 use endings::Answer;
-use file_points::FileSamples;
-use iso_base::{Level, Sizes, Written};
+use file_points::{FileBytes, FileSamples};
+use iso_base::{Level, SampleKind, Sizes, Written};
 use iso_io::{Failed, Sink, Source};
 use list_stitch::{ListMesh, Style};
 use mesh_text::TwoWayFormat;
@@ -87,7 +87,28 @@ fn extract_list<K: Sink>(
     write_mesh(alloc, level, style, volume.sizes(), &samples, output)
 }
 
-/// Writes the mesh of a volume without a pad whose samples stay in its file.
+/// Writes the mesh of a volume in its file without a pad, from its samples.
+fn extract_samples<S: SampleList, K: Sink>(
+    alloc: Global,
+    level: Level,
+    format: TwoWayFormat,
+    volume: &RawVolume<'_>,
+    samples: &S,
+    output: &mut K,
+) -> Answer
+    requires { S.list samples.now ≡ volume.now.samples }
+    ensures text { WritesGiven (Ok (mesh_text format level (unpadded volume.now))) (K.seen output.old) (K.seen output.new) result }
+    ensures surface { IsWatertight (unpadded volume.now) level }
+{
+    let style = Style {
+        format,
+        padded: false,
+    };
+    write_mesh(alloc, level, style, volume.sizes(), samples, output)
+}
+
+/// Writes the mesh of a volume without a pad whose samples stay in its file: bytes as they are, and numbers of other kinds as
+/// they are asked for.
 fn extract_raw<K: Sink>(
     alloc: Global,
     level: Level,
@@ -98,18 +119,18 @@ fn extract_raw<K: Sink>(
     ensures text { WritesGiven (Ok (text_of_volume format level (unpadded volume.now))) (K.seen output.old) (K.seen output.new) result }
     ensures surface { IsWatertight (unpadded volume.now) level }
 {
-    let style = Style {
-        format,
-        padded: false,
-    };
-    write_mesh(
-        alloc,
-        level,
-        style,
-        volume.sizes(),
-        &FileSamples { volume },
-        output,
-    )
+    match volume.kind() {
+        SampleKind::U8 => {
+            let samples = FileBytes {
+                bytes: volume.bytes(),
+            };
+            extract_samples(alloc, level, format, volume, &samples, output)
+        }
+        _ => {
+            let samples = FileSamples { volume };
+            extract_samples(alloc, level, format, volume, &samples, output)
+        }
+    }
 }
 
 /// Writes the mesh of the volume in the bytes of a file.

@@ -1,7 +1,7 @@
 use Rattle.iso_base.specs.Volume.{unpadded}
 use Rattle.iso_base.proofs.VolumeLaws.{unpadded_is}
 use Rattle.bench_core.proofs.Surfaces.{watertight_of}
-use Rattle.commands.proofs.meshes.extract_raw.Goals as goal
+use Rattle.commands.proofs.meshes.extract_samples.Goals as goal
 
 pub returns-clause-surface : goal.returns-clause-surface
 returns-clause-surface g c =
