@@ -18,7 +18,7 @@ use Rattle.voxel_list.specs.Areas.{Area, area_count, between, is_in_area}
 use Rattle.voxel_list.proofs.Volumes.{set_keeps}
 use Rattle.edit_log.specs.Boxes.{filled}
 use Rattle.brick_store.proofs.Replacing.{length-replaced, sample-replaced}
-use Rattle.inner_volume.specs.Places.{IsInside, place_of, plane_of, point_by, stored}
+use Rattle.inner_volume.specs.Places.{IsInside, place_of, plane_of, point_by, stored_coordinate}
 use Rattle.inner_volume.proofs.Insides.{free, inside_area, inside_is_inner}
 use Rattle.bench_core.specs.Machine.{Entry, IsAbovePad, IsState, State, area_by, changed, checked_level, contour_by, contour_step, fill_at, fill_step, is_of_kind, level_by, level_step, pad_fault, redo_by, redo_step, set_at, set_step, undo_by, undo_step, unless_fault, value_fault, with_sample}
 use Rattle.bench_core.specs.Windows.{stays_unless, window_area, window_fault, window_step}
@@ -55,7 +55,7 @@ no_some e = absurd cc
 
 -- ---- points of commands are inside
 
-stored_inside : (n l : ℕ) (x : ℤ) (q : ℕ) → stored n l x ≡ Some q → (l ≤ q) × (q + l < n)
+stored_inside : (n l : ℕ) (x : ℤ) (q : ℕ) → stored_coordinate n l x ≡ Some q → (l ≤ q) × (q + l < n)
 stored_inside n l (negsuc x) q e = absurd (no_some e)
 stored_inside n l (pos x) q e = by_test (nat_lt x (n - 2 * l)) refl e
   where
@@ -68,9 +68,9 @@ stored_inside n l (pos x) q e = by_test (nat_lt x (n - 2 * l)) refl e
 
 place_inside : (v : Volume) (at : ℤ × ℤ × ℤ) (p : Point) → place_of v at ≡ Some p → IsInside v p
 unfolding place_of
-place_inside v at p e = by_parts (stored v.grid.nx (layer v.pad) at.0) (stored v.grid.ny (layer v.pad) at.1) (stored v.grid.nz (layer v.pad) at.2) refl refl refl e
+place_inside v at p e = by_parts (stored_coordinate v.grid.nx (layer v.pad) at.0) (stored_coordinate v.grid.ny (layer v.pad) at.1) (stored_coordinate v.grid.nz (layer v.pad) at.2) refl refl refl e
   where
-    by_parts : (x y z : Option ℕ) → stored v.grid.nx (layer v.pad) at.0 ≡ x → stored v.grid.ny (layer v.pad) at.1 ≡ y → stored v.grid.nz (layer v.pad) at.2 ≡ z → point_by x y z ≡ Some p → IsInside v p
+    by_parts : (x y z : Option ℕ) → stored_coordinate v.grid.nx (layer v.pad) at.0 ≡ x → stored_coordinate v.grid.ny (layer v.pad) at.1 ≡ y → stored_coordinate v.grid.nz (layer v.pad) at.2 ≡ z → point_by x y z ≡ Some p → IsInside v p
     by_parts None y z ex ey ez e = absurd (no_some e)
     by_parts (Some x) None z ex ey ez e = absurd (no_some e)
     by_parts (Some x) (Some y) None ex ey ez e = absurd (no_some e)
