@@ -97,7 +97,7 @@ fn extract_samples<S: SampleList, K: Sink>(
     output: &mut K,
 ) -> Answer
     requires { S.list samples.now ≡ volume.now.samples }
-    ensures text { WritesGiven (Ok (mesh_text format level (unpadded volume.now))) (K.seen output.old) (K.seen output.new) result }
+    ensures text { WritesGiven (Ok (text_of_volume format level (unpadded volume.now))) (K.seen output.old) (K.seen output.new) result }
     ensures surface { IsWatertight (unpadded volume.now) level }
 {
     let style = Style {
