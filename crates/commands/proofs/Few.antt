@@ -7,7 +7,7 @@ use Rattle.std.proofs.lemmas.List.Sums.{length-filter, count_by-le-length}
 use Rattle.std.proofs.lemmas.List.FromFn.{length-range_with_len}
 use Rattle.std.proofs.lemmas.Slice.Zip.{length-zip}
 use Rattle.iso_base.specs.Triangles.{Mesh}
-use Rattle.text_lines.specs.Lines.{Line, lines_of, texts_of, replies_text, begins_feed}
+use Rattle.text_lines.specs.Lines.{Line, lines_of, texts_of, joined, begins_feed}
 use Rattle.text_lines.specs.Words.{words_of}
 use Rattle.mesh_text.specs.declared.format.TwoWayFormat.{TwoWayFormat}
 use Rattle.mesh_text.specs.declared.format.TwoWayFormat.TheVariants.{Ply, Obj}
@@ -20,7 +20,7 @@ use Rattle.mesh_read.specs.declared.fault.MeshFault.TheVariants.{NotMesh, ShortM
 
 -- ---- lines
 
-joined_length : (b : ℕ) (ls : List Line) → length (replies_text b ls) ≤ length ls + 1
+joined_length : (b : ℕ) (ls : List Line) → length (joined b ls) ≤ length ls + 1
 joined_length b [] = omega arith
 joined_length b (l ∷ ls) = omega arith
 
@@ -33,8 +33,8 @@ pub few_lines : (bytes : List ℕ) → length (lines_of bytes) ≤ length bytes
 few_lines [] = omega arith
 few_lines (b ∷ bs) =
     let ih : length (lines_of bs) ≤ length bs = few_lines bs in
-    let j : length (replies_text b (lines_of bs)) ≤ length (lines_of bs) + 1 = joined_length b (lines_of bs) in
-    few_chosen (eqb b 10) (eqb b 13 && begins_feed bs) (length (b ∷ bs)) (record { text = []; after = bs } ∷ lines_of bs) (lines_of bs) (replies_text b (lines_of bs)) (omega (arith, ih)) (omega (arith, ih)) (omega (arith, ih, j))
+    let j : length (joined b (lines_of bs)) ≤ length (lines_of bs) + 1 = joined_length b (lines_of bs) in
+    few_chosen (eqb b 10) (eqb b 13 && begins_feed bs) (length (b ∷ bs)) (record { text = []; after = bs } ∷ lines_of bs) (lines_of bs) (joined b (lines_of bs)) (omega (arith, ih)) (omega (arith, ih)) (omega (arith, ih, j))
 
 few_texts : (bytes : List ℕ) → length (texts_of bytes) ≤ length bytes
 few_texts bytes = let e : length (texts_of bytes) ≡ length (lines_of bytes) = length-map (lines_of bytes) (λ (l : Line). l.text) in let f = few_lines bytes in omega (arith, e, f)
