@@ -1,6 +1,6 @@
 -- Samples of a box that are written in each brick that holds them.
-use Rattle.std.proofs.Common.{◌≡◌, ℕ, ◌+◌, ◌-◌, ◌*◌, ◌/◌, ◌%◌, ◌<◌, ◌≤◌, ◌⊎◌, Bool, true, false, cond, List, length, refl, sym, ◌∙◌, ap, subst, arith, inl, inr, ℤ, min}
-use Rattle.std.proofs.lemmas.Bool.{cases_Bool, cases_lt, le-leb}
+use Rattle.std.proofs.Common.{◌≡◌, ℕ, ◌+◌, ◌-◌, ◌*◌, ◌<◌, ◌≤◌, ◌⊎◌, Bool, true, false, cond, List, length, refl, sym, ◌∙◌, ap, subst, arith, inl, inr, ℤ, min}
+use Rattle.std.proofs.lemmas.Bool.{cases_Bool, le-leb}
 use Rattle.iso_defs.specs.Grid.{Grid, index, point_count}
 use Rattle.iso_defs.specs.Bricks.{bricks_along, brick_start, brick_point}
 use Rattle.iso_defs.proofs.Points.{x_index, y_index, z_index, index_in}
@@ -12,15 +12,14 @@ use Rattle.voxel_list.specs.Areas.{Area, IsArea, area_count, is_in_area}
 use Rattle.brick_store.specs.declared.boxes.Part.{Part}
 use Rattle.brick_store.specs.declared.boxes.Values.{Values}
 use Rattle.brick_store.specs.Holding.{brick_at}
-use Rattle.brick_store.specs.Copies.{AreCopies, copy_at, copy_place, samples_of}
-use Rattle.brick_store.specs.Rows.{AreOffsets, InZone, Zone, brick_zone, row_set}
-use Rattle.brick_store.specs.Boxes.{AreBoxWritten, ArePartWritten, AreWrittenAt, IsBox, IsOfBox, IsOfPart, IsOfZone, IsPartOf, IsWithin, area_place, box_zone, boxed, one_layer, one_row, value_in}
+use Rattle.brick_store.specs.Copies.{AreCopies, copy_at, samples_of}
+use Rattle.brick_store.specs.Rows.{AreOffsets, InZone, Zone, brick_zone}
+use Rattle.brick_store.specs.Boxes.{AreBoxWritten, ArePartWritten, AreWrittenAt, IsBox, IsOfBox, IsOfPart, IsOfZone, IsPartOf, IsWithin, area_place, box_zone, boxed, value_in}
 use Rattle.brick_store.proofs.BoxPoints.{area_place_in, x_side, y_side, z_side}
 use Rattle.brick_store.proofs.BrickNumbers.{IsIn, IsPlaced, is_in, brick_places, places}
 use Rattle.brick_store.proofs.Replacing.{length-replaced, sample-replaced}
-use Rattle.brick_store.proofs.RowWriting.{IsJoined, length-row_set, one_brick, row_set_before, row_set_within, row_set_behind}
+use Rattle.brick_store.proofs.RowWriting.{IsJoined, one_brick}
 use Rattle.brick_store.proofs.Standing.{brick_point_in, length-samples_of, stands_for_one}
-use Rattle.brick_store.proofs.Writing.{place_brick, place_x, place_y, place_z}
 
 -- ---- sets of copies
 

@@ -14,3 +14,4 @@ pub mod BoxWriting
 pub mod PartWriting
 pub mod BoxVolumes
 pub mod Taking
+pub mod Lending

@@ -1,8 +1,8 @@
 -- Rows of values that are put into a part of a brick.
-use Rattle.std.proofs.Common.{◌≡◌, ℕ, ◌+◌, ◌-◌, ◌*◌, ◌/◌, ◌%◌, ◌<◌, ◌≤◌, ◌⊎◌, List, length, replicate, refl, sym, ◌∙◌, ap, subst, arith, inl, inr, ℤ, pos}
+use Rattle.std.proofs.Common.{◌≡◌, ℕ, ◌+◌, ◌-◌, ◌*◌, ◌/◌, ◌%◌, ◌<◌, ◌≤◌, ◌⊎◌, List, length, replicate, refl, sym, ◌∙◌, ap, arith, inl, inr, ℤ, pos}
 use Rattle.std.proofs.lemmas.Bool.{cases_lt}
 use Rattle.std.proofs.lemmas.List.{get_or-replicate, length-replicate}
-use Rattle.iso_defs.specs.Grid.{Grid, index}
+use Rattle.iso_defs.specs.Grid.{Grid}
 use Rattle.iso_defs.specs.Bricks.{brick_point, brick_start}
 use Rattle.iso_base.specs.declared.point.Point.{Point}
 use Rattle.iso_base.specs.Volume.{sample}
@@ -12,11 +12,11 @@ use Rattle.brick_store.specs.declared.boxes.Source.{Source}
 use Rattle.brick_store.specs.declared.boxes.Values.{Values}
 use Rattle.brick_store.specs.declared.boxes.Values.TheVariants.{One}
 use Rattle.brick_store.specs.Copies.{copy_at, copy_place}
-use Rattle.brick_store.specs.Rows.{row_set}
+use Rattle.packed_samples.specs.Runs.{row_set}
 use Rattle.brick_store.specs.Boxes.{ArePartWritten, IsBox, IsOfBox, IsOfPart, IsPartOf, IsWithin, area_place, one_layer, one_row, value_in}
 use Rattle.brick_store.specs.Parts.{AreRowsPut, HasRows, IsPart, row_place, source_value}
 use Rattle.brick_store.proofs.BrickNumbers.{IsIn}
-use Rattle.brick_store.proofs.BoxWriting.{in_grid, one_in, place_is, place_low}
+use Rattle.brick_store.proofs.BoxWriting.{in_grid, place_is, place_low}
 use Rattle.brick_store.proofs.RowWriting.{length-row_set, row_set_before, row_set_within, row_set_behind}
 use Rattle.brick_store.proofs.Writing.{place_brick, place_x, place_y, place_z}
 

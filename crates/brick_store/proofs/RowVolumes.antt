@@ -7,7 +7,7 @@ use Rattle.iso_defs.specs.Grid.{point_count}
 use Rattle.iso_defs.specs.Outside.{is_outer}
 use Rattle.iso_base.specs.Samples.{IsOfKind}
 use Rattle.iso_base.specs.Volume.{Volume, IsVolume, HoldsPad, IsInner}
-use Rattle.brick_store.specs.Rows.{row_set}
+use Rattle.packed_samples.specs.Runs.{row_set}
 use Rattle.brick_store.proofs.RowWriting.{length-row_set, row_set_before, row_set_within, row_set_behind}
 
 module _ (v : Volume) (i : ℕ) (values : List ℤ) (is : IsVolume v) (low : i + length values ≤ point_count v.grid) where

@@ -12,7 +12,8 @@ use Rattle.iso_base.specs.Stored.{StandsFor}
 use Rattle.iso_base.specs.Volume.{sample}
 use Rattle.brick_store.specs.Holding.{brick_at}
 use Rattle.brick_store.specs.Copies.{AreCopies, copy_at, copy_place, samples_of}
-use Rattle.brick_store.specs.Rows.{AreOffsets, AreRowWritten, InZone, IsOfRow, Zone, row_set, row_zone}
+use Rattle.brick_store.specs.Rows.{AreOffsets, AreRowWritten, InZone, IsOfRow, Zone, row_zone}
+use Rattle.packed_samples.specs.Runs.{row_set}
 use Rattle.brick_store.proofs.BrickNumbers.{IsIn, IsPlaced, is_in, brick_grid, brick_places, places}
 use Rattle.brick_store.proofs.Standing.{length-samples_of, stands_for_one}
 use Rattle.brick_store.proofs.Writing.{place_brick, place_x, place_y, place_z}

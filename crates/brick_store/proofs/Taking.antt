@@ -13,7 +13,7 @@ use Rattle.iso_base.specs.declared.point.Point.{Point}
 use Rattle.iso_base.specs.Volume.{sample}
 use Rattle.brick_store.specs.Holding.{brick_at}
 use Rattle.brick_store.specs.Copies.{AreCopies, copy_place, home, home_place, row_rest, samples_of}
-use Rattle.brick_store.specs.Rows.{row_set}
+use Rattle.packed_samples.specs.Runs.{row_set}
 use Rattle.brick_store.proofs.RowWriting.{length-row_set, row_set_before, row_set_within}
 use Rattle.brick_store.proofs.Standing.{IsHome, home_of, sample_at}
 

@@ -1,14 +1,10 @@
 -- Samples of a row, along x, that are replaced together.
-use Rattle.std.specs.Prelude.{◌≡◌, ℕ, ◌+◌, ◌-◌, ◌*◌, ◌/◌, ◌<◌, ◌≤◌, min, ℤ, List, ◌++◌, length, take, drop}
+use Rattle.std.specs.Prelude.{◌≡◌, ℕ, ◌+◌, ◌-◌, ◌*◌, ◌/◌, ◌<◌, ◌≤◌, min, ℤ, List, length}
 use Rattle.iso_defs.specs.Grid.{Grid}
 use Rattle.iso_defs.specs.Bricks.{brick_count, brick_start}
 use Rattle.iso_base.specs.declared.point.Point.{Point}
 use Rattle.iso_base.specs.Volume.{sample}
 use Rattle.brick_store.specs.Copies.{copy_at, home}
-
--- the samples with those from a place on replaced by these
-abbrev pub row_set : ℕ → List ℤ → List ℤ → List ℤ
-row_set i values samples = take i samples ++ (values ++ drop (i + length values) samples)
 
 -- offsets in a brick
 pub record AreOffsets (g : Grid) (b x y z : ℕ) : Type 0 where

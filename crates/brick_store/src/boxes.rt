@@ -4,7 +4,8 @@ ghost use Rattle.iso_defs.specs.Bricks.{brick_count, brick_start, bricks_along};
 ghost use Rattle.iso_base.specs.Points.{IsPoint, index_of};
 ghost use Rattle.voxel_list.specs.Areas.{IsArea, area_count};
 ghost use Rattle.brick_store.specs.Copies.{AreCopies, home, samples_of};
-ghost use Rattle.brick_store.specs.Rows.{brick_zone, row_set};
+ghost use Rattle.brick_store.specs.Rows.{brick_zone};
+ghost use Rattle.packed_samples.specs.Runs.{row_set};
 ghost use Rattle.brick_store.specs.Boxes.{ArePartWritten, AreBoxWritten, AreAsMany, IsPartOf, area_place, boxed, box_layer, box_line, one_layer, one_row};
 ghost use Rattle.brick_store.specs.Parts.{AreRowsPut, HasRows, IsPart};
 

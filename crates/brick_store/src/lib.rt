@@ -7,11 +7,9 @@ mod filling;
 mod flat;
 mod numbering;
 mod rows;
-mod sample_runs;
 mod store;
 mod taken;
 
 pub use boxes::Values;
 pub use numbering::{BrickId, brick_at, home};
-pub use sample_runs::SampleRuns;
 pub use store::BrickStore;

@@ -3,7 +3,8 @@ ghost use Rattle.std.specs.Prelude.{◌≡◌, ◌+◌, ◌*◌, ◌<◌, ◌≤
 ghost use Rattle.iso_defs.specs.Bricks.{brick_count, bricks_along};
 ghost use Rattle.iso_base.specs.Points.{IsPoint, index_of};
 ghost use Rattle.brick_store.specs.Copies.{AreCopies, home, samples_of};
-ghost use Rattle.brick_store.specs.Rows.{AreRowWritten, brick_zone, layer_zone, line_zone, row_set};
+ghost use Rattle.brick_store.specs.Rows.{AreRowWritten, brick_zone, layer_zone, line_zone};
+ghost use Rattle.packed_samples.specs.Runs.{row_set};
 
 use crate::copies::copy_place;
 use crate::numbering::{brick_at, home, reaching, row_end};

@@ -4,21 +4,21 @@ ghost use Rattle.iso_defs.specs.Lists.{below};
 ghost use Rattle.iso_defs.specs.Grid.{is_cell, point_count};
 ghost use Rattle.iso_defs.specs.Outside.{is_outer};
 ghost use Rattle.iso_defs.specs.Cell.{cell_values};
-ghost use Rattle.iso_defs.specs.Bricks.{brick_count, brick_point, brick_start, in_brick};
+ghost use Rattle.iso_defs.specs.Bricks.{brick_count, brick_start};
 ghost use Rattle.iso_base.specs.Points.{IsPoint, index_of};
 ghost use Rattle.iso_base.specs.Samples.{IsOfKind, IsSample};
 ghost use Rattle.iso_base.specs.Volume.{IsInner, IsVolume, Volume, sample};
-ghost use Rattle.brick_store.specs.Holding.{IsCellOf, brick_of, holds_point, local_of, points_along, row_length};
-ghost use Rattle.brick_store.specs.Copies.{AreCopiesOf, row_rest};
-ghost use Rattle.brick_store.specs.Rows.{row_set};
+ghost use Rattle.brick_store.specs.Holding.{IsCellOf, brick_of, holds_point, local_of, points_along};
+ghost use Rattle.brick_store.specs.Copies.{AreAllCopies, AreCopiesOf};
+ghost use Rattle.packed_samples.specs.Runs.{row_set, samples_in};
 ghost use Rattle.brick_store.specs.Boxes.{AreAsMany, AreOfKind, IsInnerArea, boxed};
 
 use crate::boxes::Values;
 use crate::numbering::{self, BrickId};
-use crate::sample_runs::SampleRuns;
 use crate::{boxes, copies, filling, flat, rows, taken};
 use arrayvec::ArrayVec;
 use iso_base::{CellName, Memory, Point, SampleKind, Sizes};
+use packed_samples::{Packed, PackedRun, SampleRuns};
 use std::alloc::Global;
 use std::marker::Model;
 use voxel_list::{FillBox, VoxelList};
@@ -198,36 +198,36 @@ impl BrickStore {
         numbering::points_along(&self.sizes, brick)
     }
 
+    /// The copies that all bricks keep, those of a brick behind those of the brick before it, where they lie in memory.
+    #[inline(always)]
+    pub fn copies(&self) -> PackedRun<'_>
+        ensures { AreAllCopies self.now.grid self.now.samples (samples_in result) }
+    {
+        let _ = self.sizes.nx();
+        PackedRun::Numbers(&self.copies)
+    }
+
+    /// The copies of a brick among those of all, nine along each axis with x fastest and z slowest: of each of its points that
+    /// lies in the grid the sample.
+    #[inline(always)]
+    pub fn brick_in<'c, T: Packed>(&self, copies: &'c [T], brick: BrickId) -> &'c [T]
+        requires copies { AreAllCopies self.now.grid self.now.samples (map T.value copies.now) }
+        requires brick { brick.0 < brick_count self.now.grid }
+        ensures { AreCopiesOf self.now.grid self.now.samples brick.0 (map T.value result.now) }
+    {
+        let _ = self.sizes.nx();
+        let start = 729 * brick.0 as usize;
+        &copies[start..start + 729]
+    }
+
     /// The copies that a brick keeps, nine along each axis with x fastest and z slowest, where they lie in memory: of each of
     /// its points that lies in the grid the sample.
     #[inline(always)]
-    pub fn brick(&self, brick: BrickId) -> &[i64]
+    pub fn brick(&self, brick: BrickId) -> PackedRun<'_>
         requires { brick.0 < brick_count self.now.grid }
-        ensures { AreCopiesOf self.now.grid self.now.samples brick.0 result.now }
+        ensures { AreCopiesOf self.now.grid self.now.samples brick.0 (samples_in result) }
     {
-        copies::brick(&self.sizes, &self.copies, brick)
-    }
-
-    /// The samples of a row of a brick, from its first point along x on: its own copies, where they lie in memory.
-    pub fn row(&self, brick: BrickId, y: u8, z: u8) -> &[i64]
-        requires brick { brick.0 < brick_count self.now.grid }
-        requires y { y < 9 }
-        requires z { z < 9 }
-        requires inside { in_brick self.now.grid brick.0 0 y z ≡ true }
-        ensures value { result.now ≡ map (λ x. sample self.now.samples (brick_point self.now.grid brick.0 x y z)) (below (row_length self.now.grid brick.0)) }
-        ensures range { All IsSample result.now }
-    {
-        copies::row(&self.sizes, &self.copies, brick, y, z)
-    }
-
-    /// The samples from a point of the stored grid on, along x, as far as the first brick that holds it has them: its own
-    /// copies, where they lie in memory.
-    #[inline(always)]
-    pub fn row_from(&self, p: Point) -> &[i64]
-        requires { IsPoint self.now.grid p }
-        ensures { result.now ≡ map (λ x. sample self.now.samples (index_of self.now.grid p + x)) (below (row_rest self.now.grid p)) }
-    {
-        copies::row_from(&self.sizes, &self.copies, p)
+        PackedRun::Numbers(copies::brick(&self.sizes, &self.copies, brick))
     }
 
     /// Copies the samples from a point of the stored grid on, along x, so many as there is room for.

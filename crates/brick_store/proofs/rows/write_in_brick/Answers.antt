@@ -2,7 +2,7 @@ use Rattle.std.proofs.Common.{◌≡◌, ℕ, ◌+◌, ◌-◌, ◌*◌, ◌≤�
 use Rattle.std.proofs.lemmas.List.{length-take-le}
 use Rattle.brick_store.specs.Holding.{brick_at}
 use Rattle.brick_store.specs.Copies.{copy_place}
-use Rattle.brick_store.specs.Rows.{row_set}
+use Rattle.packed_samples.specs.Runs.{row_set}
 use Rattle.brick_store.proofs.RowWriting.{max_is, min_is, one_written, put_is, room_of}
 use Rattle.brick_store.proofs.rows.write_in_brick.Goals as goal
 

@@ -2,7 +2,7 @@ use Rattle.std.proofs.Common.{◌≡◌, ℕ, ◌+◌, ◌≤◌, ◌<◌, List,
 use Rattle.iso_base.specs.Points.{IsPoint, index_of}
 use Rattle.iso_base.specs.Volume.{IsInner, IsVolume, Volume}
 use Rattle.brick_store.specs.Copies.{samples_of, volume_of}
-use Rattle.brick_store.specs.Rows.{row_set}
+use Rattle.packed_samples.specs.Runs.{row_set}
 use Rattle.brick_store.proofs.RowVolumes.{row_set_at}
 use Rattle.brick_store.proofs.RowWriting.{row_in}
 use Rattle.brick_store.proofs.Writing.{whole_put}

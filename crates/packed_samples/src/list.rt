@@ -1,0 +1,53 @@
+//! Lists of packed samples.
+ghost use Rattle.std.specs.Prelude.{◌≡◌, ◌+◌, ◌<◌, ◌≤◌, ◌^◌, ◌++◌, ℤ, List, All, OnOk, length, pos, drop, take, replicate, slice_set};
+ghost use Rattle.iso_base.specs.Volume.{sample};
+ghost use Rattle.packed_samples.specs.Runs.{row_set};
+
+use crate::source::SampleRuns;
+use std::alloc::AllocError;
+
+/// A list of samples in one width. Contracts see the samples, and which ones the width has room for.
+pub trait PackedList {
+    ghost list: { Self → List ℤ };
+
+    ghost Fits: { ℤ → Type 0 };
+
+    /// The number of samples.
+    fn length(&self) -> usize
+        ensures { result ≡ length (list self.now) };
+
+    /// The sample at a place.
+    fn at(&self, place: usize) -> i64
+        requires { place < length (list self.now) }
+        ensures { result ≡ sample (list self.now) place };
+
+    /// Replaces the sample at a place.
+    fn set(&mut self, place: usize, value: i64)
+        requires place { place < length (list self.old) }
+        requires fits { Fits value }
+        ensures { list self.new ≡ slice_set (list self.old) place value };
+
+    /// Copies so many values from a place on over the samples from a place on.
+    fn put(&mut self, start: usize, values: &[i64], from: usize, count: usize)
+        requires room { start + count ≤ length (list self.old) }
+        requires there { from + count ≤ length values.now }
+        requires fits { All Fits values.now }
+        ensures { list self.new ≡ row_set start (take count (drop from values.now)) (list self.old) };
+
+    /// Copies the samples from a place on over as many numbers as there are.
+    fn copy_to(&self, start: usize, into: &mut [i64])
+        requires { start + length into.old ≤ length (list self.now) }
+        ensures { into.new ≡ take (length into.old) (drop start (list self.now)) };
+
+    /// Puts zeros behind the samples.
+    fn add_zeros(&mut self, count: usize) -> Result<(), AllocError>
+        requires { length (list self.old) + count < 2 ^ 64 }
+        ensures { OnOk result (list self.new ≡ list self.old ++ replicate count (pos 0)) };
+
+    /// Copies so many samples of a source from an index on over the samples from a place on.
+    fn take_from<S: SampleRuns>(&mut self, place: usize, samples: &S, start: u32, count: usize)
+        requires room { place + count ≤ length (list self.old) }
+        requires there { start + count ≤ length (S.list samples.now) }
+        requires fits { All Fits (S.list samples.now) }
+        ensures { list self.new ≡ row_set place (take count (drop start (S.list samples.now))) (list self.old) };
+}
