@@ -1,52 +1,72 @@
--- The samples in the rows of a brick.
-use Rattle.std.proofs.Common.{◌≡◌, ◌∙◌, ℕ, ◌+◌, ◌<◌, ℤ, pos, List, length, refl, ap, arith}
-use Rattle.std.proofs.lemmas.List.FromFn.{get_or-map-range_with_len, length-map-range_with_len}
+-- The corners of a cell of a brick among the brick's copies.
+use Rattle.std.proofs.Common.{◌≡◌, ◌∙◌, ℕ, ◌+◌, ◌*◌, ◌/◌, ◌%◌, ◌<◌, ℤ, List, refl, sym, ap, subst, arith, true}
+use Rattle.iso_defs.specs.Bricks.{brick_cell, brick_count, brick_point, in_brick}
 use Rattle.iso_defs.specs.Cell.{cell_values, corner_point}
+use Rattle.iso_base.specs.Samples.{IsSample}
 use Rattle.iso_base.specs.Shifted.{shifted}
-use Rattle.iso_base.specs.Volume.{sample}
-use Rattle.brick_mesh.specs.Block.{BrickAt, corner_values, heights, point_in, row_samples}
-use Rattle.brick_store.specs.Holding.{points_along}
+use Rattle.iso_base.specs.Volume.{Volume, IsVolume, sample}
+use Rattle.iso_base.proofs.VolumeLaws.{sample_in_range}
+use Rattle.brick_store.specs.Copies.{AreCopiesOf}
+use Rattle.brick_store.proofs.Standing.{brick_point_in}
+use Rattle.brick_mesh.specs.Block.{IsCell, block_of, corner_place, corner_values, heights}
+use Rattle.brick_mesh.proofs.Spans.{Offsets, cell_offsets, inside}
 use Rattle.brick_mesh.proofs.Values.{same_list}
 
-pub row_long : (b : BrickAt) (y z : ℕ) → length (row_samples b y z) ≡ points_along b.grid b.brick 0
-row_long b y z = length-map-range_with_len (λ x. sample b.samples (point_in b x y z)) 0 (points_along b.grid b.brick 0)
+-- the value at a place that is that of a corner
+pub at_corner : (copies : List ℤ) (level : ℤ) (low place corner : ℕ) (value : ℤ) → place ≡ low + corner_place corner → value ≡ shifted (sample copies place) level
+    → value ≡ shifted (sample copies (low + corner_place corner)) level
+at_corner copies level low place corner value at is = is ∙ ap (λ p. shifted (sample copies p) level) at
 
-pub row_at : (b : BrickAt) (y z x : ℕ) → x < points_along b.grid b.brick 0 → sample (row_samples b y z) x ≡ sample b.samples (point_in b x y z)
-row_at b y z x h = get_or-map-range_with_len (λ x. sample b.samples (point_in b x y z)) 0 (points_along b.grid b.brick 0) x x (pos 0) h (omega arith)
+module _ (v : Volume) (brick : ℕ) (level : ℤ) (copies : List ℤ) (cell : ℕ) (is : IsVolume v) (low : brick < brick_count v.grid)
+    (are : AreCopiesOf v.grid v.samples brick copies) (there : IsCell (block_of v brick level) cell) where
+  abbrev lowest : ℕ
+  lowest = cell % 8 + 9 * (cell / 8 % 8 + 9 * (cell / 64))
 
--- the points at the corners of a cell, in the rows of its brick
-module _ (b : BrickAt) (x y z : ℕ) (room : x + 1 < points_along b.grid b.brick 0) where
-  abbrev q : ℕ
-  q = point_in b x y z
+  corner_in : (c : ℕ) → c < 8 → in_brick v.grid brick (cell % 8 + c % 2) (cell / 8 % 8 + c / 2 % 2) (cell / 64 + c / 4) ≡ true
+  corner_in c h =
+      let o : Offsets v.grid brick (cell % 8 + 1) (cell / 8 % 8 + 1) (cell / 64 + 1) = cell_offsets (block_of v brick level) cell there in
+      let few : cell < 512 = there.local in
+      inside v.grid brick (cell % 8 + c % 2) (cell / 8 % 8 + c / 2 % 2) (cell / 64 + c / 4)
+      (record { x-in = omega (arith, o.x-in); y-in = omega (arith, o.y-in); z-in = omega (arith, o.z-in) }) (omega arith) (omega arith) (omega arith)
 
-  at : (x' y' z' k : ℕ) → x' < points_along b.grid b.brick 0 → point_in b x' y' z' ≡ corner_point b.grid q k
-      → shifted (sample (row_samples b y' z') x') b.level ≡ heights b (corner_point b.grid q k)
-  at x' y' z' k h e = ap (λ v. shifted v b.level) (row_at b y' z' x' h ∙ ap (sample b.samples) e)
+  -- the copy of a corner is the sample of its point
+  corner_is : (c : ℕ) → c < 8 → sample copies (lowest + corner_place c) ≡ sample v.samples (brick_point v.grid brick (cell % 8 + c % 2) (cell / 8 % 8 + c / 2 % 2) (cell / 64 + c / 4))
+  corner_is c h =
+      let few : cell < 512 = there.local in
+      ap (sample copies) (omega arith)
+      ∙ are.each (cell % 8 + c % 2) (cell / 8 % 8 + c / 2 % 2) (cell / 64 + c / 4) (omega arith) (omega arith) (omega arith) (corner_in c h)
 
-  pub corners_are : (near up far both : List ℤ) → near ≡ row_samples b y z → up ≡ row_samples b (y + 1) z → far ≡ row_samples b y (z + 1)
-      → both ≡ row_samples b (y + 1) (z + 1) → corner_values b.level near up far both x ≡ cell_values b.grid (heights b) q
-  corners_are near up far both n u f t =
-      let low : x < points_along b.grid b.brick 0 = omega arith in
-      rw (n, u, f, t) (same_list (corner_values b.level (row_samples b y z) (row_samples b (y + 1) z) (row_samples b y (z + 1)) (row_samples b (y + 1) (z + 1)) x)
-      (cell_values b.grid (heights b) q) refl (
-        at x y z 0 low (omega arith),
+  pub corner_sample : (c : ℕ) → c < 8 → IsSample (sample copies (lowest + corner_place c))
+  corner_sample c h =
+      subst IsSample (sym (corner_is c h))
+      (sample_in_range v (brick_point v.grid brick (cell % 8 + c % 2) (cell / 8 % 8 + c / 2 % 2) (cell / 64 + c / 4)) is
+      (brick_point_in v.grid brick (cell % 8 + c % 2) (cell / 8 % 8 + c / 2 % 2) (cell / 64 + c / 4) (corner_in c h)))
+
+  value_is : (c : ℕ) → c < 8 → brick_point v.grid brick (cell % 8 + c % 2) (cell / 8 % 8 + c / 2 % 2) (cell / 64 + c / 4) ≡ corner_point v.grid (brick_cell v.grid brick cell) c
+      → shifted (sample copies (lowest + corner_place c)) level ≡ heights (block_of v brick level) (corner_point v.grid (brick_cell v.grid brick cell) c)
+  value_is c h at = ap (λ s. shifted s level) (corner_is c h ∙ ap (sample v.samples) at)
+
+  pub corners_are : corner_values level copies lowest ≡ cell_values v.grid (heights (block_of v brick level)) (brick_cell v.grid brick cell)
+  corners_are =
+      same_list (corner_values level copies lowest) (cell_values v.grid (heights (block_of v brick level)) (brick_cell v.grid brick cell)) refl (
+        value_is 0 (omega arith) (omega arith),
         (
-          at (x + 1) y z 1 room (omega arith),
+          value_is 1 (omega arith) (omega arith),
           (
-            at x (y + 1) z 2 low (omega arith),
+            value_is 2 (omega arith) (omega arith),
             (
-              at (x + 1) (y + 1) z 3 room (omega arith),
+              value_is 3 (omega arith) (omega arith),
               (
-                at x y (z + 1) 4 low (omega arith),
+                value_is 4 (omega arith) (omega arith),
                 (
-                  at (x + 1) y (z + 1) 5 room (omega arith),
+                  value_is 5 (omega arith) (omega arith),
                   (
-                    at x (y + 1) (z + 1) 6 low (omega arith),
-                    (at (x + 1) (y + 1) (z + 1) 7 room (omega arith), tt),
+                    value_is 6 (omega arith) (omega arith),
+                    (value_is 7 (omega arith) (omega arith), tt),
                   ),
                 ),
               ),
             ),
           ),
         ),
-      ))
+      )

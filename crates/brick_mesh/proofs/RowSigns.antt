@@ -1,40 +1,40 @@
 -- The signs of the rows of a brick.
-use Rattle.std.proofs.Common.{◌≡◌, ◌∙◌, ℕ, ◌+◌, ◌/◌, ◌%◌, ◌<◌, ◌≤◌, ◌++◌, ℤ, pos, negsuc, List, [], map, drop, length, get_or, set, replicate, sym, ap, subst, arith, All, below_more, get_or-set_same, get_or-set_other, ◌≢◌, eqb, eq-eqb, true, zero, suc, refl, ◌∷◌}
+use Rattle.std.proofs.Common.{◌≡◌, ◌∙◌, ℕ, ◌+◌, ◌*◌, ◌/◌, ◌%◌, ◌<◌, ◌≤◌, ℤ, List, [], length, get_or, set, replicate, sym, ap, subst, arith, All, below_more, get_or-set_same, get_or-set_other, ◌≢◌, eqb, eq-eqb, true, zero, suc, refl, ◌∷◌}
 use Rattle.std.proofs.lemmas.Bool.{and_from}
 use lib.Pointwise.{pointwise}
-use Rattle.std.proofs.lemmas.List.Elements.{All-append, All-drop, All-map, All-replicate}
 use Rattle.iso_base.specs.Volume.{sample}
-use Rattle.iso_base.specs.Shifted.{shifted}
-use Rattle.brick_mesh.specs.Block.{BrickAt, row_samples}
-use Rattle.brick_store.specs.Holding.{points_along}
+use Rattle.iso_base.specs.Shifted.{is_above_level, shifted}
+use Rattle.std.specs.Prelude.{Bool, false, if◌then◌else◌, int_le}
+use Rattle.std.proofs.lemmas.List.{get_or_default}
+use Rattle.brick_mesh.specs.Block.{BrickAt}
+use Rattle.brick_store.specs.Copies.{AreCopiesOf}
+use Rattle.corner_signs.specs.Rows.{bit_from}
 use Rattle.brick_mesh.specs.Signs.{AreRows, AreSigns, bit_of}
-use Rattle.brick_mesh.proofs.Corners.{row_at, row_long}
-use Rattle.brick_mesh.proofs.Spans.{offsets}
 
-bit_low : (value : ℤ) → bit_of value ≤ 1
-bit_low (pos n) = omega arith
-bit_low (negsuc n) = omega arith
+bit_low : (test : Bool) → (if test then 1 else 0) ≤ 1
+bit_low true = omega arith
+bit_low false = omega arith
 
--- signs, and zeros behind them
-pub bits_low : (samples : List ℤ) (level : ℤ) (out : List ℕ) (n : ℕ) → out ≡ map (λ v. bit_of (shifted v level)) samples
-    → All (λ sign. sign ≤ 1) (out ++ drop n (replicate 9 0))
-bits_low samples level out n is =
-    let low : ℕ → Type 0 = λ sign. sign ≤ 1 in
-    let signs : All low out = subst (All low) (sym is) (All-map low (λ v. bit_of (shifted v level)) samples (λ k d h. bit_low (shifted (get_or samples k d) level))) in
-    All-append low out (drop n (replicate 9 0)) signs (All-drop low n (replicate 9 0) (All-replicate low 9 0 (omega arith)))
+-- where each of nine signs is known, none is more than 1
+nine_low : (f : ℕ → ℕ) (signs : List ℕ) → length signs ≡ 9 → ((k : ℕ) → f k ≤ 1) → ((x : ℕ) → x < 9 → get_or signs x 0 ≡ f x) → All (λ sign. sign ≤ 1) signs
+nine_low f signs nine low each k d h =
+    subst (λ n. n ≤ 1) (sym (get_or_default signs k d 0 h ∙ each k (omega arith))) (low k)
 
--- the signs of the samples of a row are those of its points
-pub row_signed : (b : BrickAt) (y z : ℕ) (row : List ℤ) (signs : List ℕ) → y < 9 → z < 9 → length signs ≡ 9 → row ≡ row_samples b y z
-    → All (λ sign. sign ≤ 1) signs → ((x : ℕ) → x < length row → get_or signs x 0 ≡ bit_of (shifted (sample row x) b.level)) → AreSigns b y z signs
-row_signed b y z row signs hy hz nine is low each = record {
+-- the signs of the copies of a row are those of its points
+pub row_signed : (b : BrickAt) (copies : List ℤ) (least : ℤ) (row : ℕ) (signs : List ℕ) → row < 81 → length signs ≡ 9
+    → AreCopiesOf b.grid b.samples b.brick copies → ((s : ℤ) → int_le least s ≡ is_above_level s b.level)
+    → ((x : ℕ) → x < 9 → get_or signs x 0 ≡ bit_from least (sample copies (9 * row + x))) → AreSigns b (row % 9) (row / 9) signs
+row_signed b copies least row signs low nine are level each = record {
   count = nine;
-  bits = low;
+  bits = nine_low (λ x. bit_from least (sample copies (9 * row + x))) signs nine (λ x. bit_low (int_le least (sample copies (9 * row + x)))) each;
   each = λ x h there.
-      (let inside = offsets b.grid b.brick x y z h hy hz there in
-      let long : length row ≡ points_along b.grid b.brick 0 = ap length is ∙ row_long b y z in
-      each x (omega (arith, inside.x-in, long)) ∙ ap (λ r. bit_of (shifted (sample r x) b.level)) is
-      ∙ ap (λ v. bit_of (shifted v b.level)) (row_at b y z x inside.x-in));
+      each x h
+      ∙ (ap (λ v. if v then 1 else 0) (level (sample copies (9 * row + x)))
+      ∙ ap (λ v. bit_of (shifted v b.level)) (ap (sample copies) (place x) ∙ are.each x (row % 9) (row / 9) h (omega arith) (omega arith) there));
 }
+  where
+    place : (x : ℕ) → 9 * row + x ≡ x + 9 * (row % 9 + 9 * (row / 9))
+    place x = omega arith
 
 -- one more row has its signs
 pub rows_more : (b : BrickAt) (rows : List (List ℕ)) (row : ℕ) (signs : List ℕ) → row < length rows → AreRows b row rows

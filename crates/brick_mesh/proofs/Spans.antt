@@ -1,10 +1,10 @@
 -- Which points and cells a brick has.
-use Rattle.std.proofs.Common.{◌≡◌, ◌∙◌, ℕ, ◌+◌, ◌-◌, ◌/◌, ◌%◌, ◌<◌, ◌≤◌, true, ◌&&◌, nat_lt, min, sym, ap₂, arith}
+use Rattle.std.proofs.Common.{◌≡◌, ◌∙◌, ℕ, ◌+◌, ◌-◌, ◌/◌, ◌%◌, ◌<◌, true, ◌&&◌, nat_lt, min, sym, ap₂, arith}
 use Rattle.std.proofs.lemmas.Bool.{and_parts, ltb-true}
 use Rattle.std.proofs.lemmas.Bool.Decides.{nat_tests}
 use Rattle.iso_defs.specs.Grid.{Grid}
 use Rattle.iso_defs.specs.Bricks.{brick_start, in_brick}
-use Rattle.brick_mesh.specs.Block.{BrickAt, IsCell, IsCellRow, IsRow}
+use Rattle.brick_mesh.specs.Block.{BrickAt, IsCell}
 use Rattle.brick_store.specs.Holding.{points_along}
 
 -- a place below the number of points is a coordinate below the size
@@ -37,15 +37,3 @@ pub cell_offsets : (b : BrickAt) (cell : ℕ) → IsCell b cell → Offsets b.gr
 cell_offsets b cell h =
     let low : cell < 512 = h.local in
     offsets b.grid b.brick (cell % 8 + 1) (cell / 8 % 8 + 1) (cell / 64 + 1) (omega arith) (omega arith) (omega arith) h.there
-
--- the rows of points round a row of cells
-pub row_offsets : (b : BrickAt) (y z j k : ℕ) → IsCellRow b y z → y ≤ j → j ≤ y + 1 → z ≤ k → k ≤ z + 1 → IsRow b j k
-row_offsets b y z j k row y_from y_to z_from z_to =
-    let hy : y < 8 = row.y_low in
-    let hz : z < 8 = row.z_low in
-    let o = offsets b.grid b.brick 0 (y + 1) (z + 1) (omega arith) (omega arith) (omega arith) row.last in
-    record {
-      low_y = omega arith;
-      low_z = omega arith;
-      there = inside b.grid b.brick 0 j k (record { x-in = o.x-in; y-in = omega (arith, o.y-in); z-in = omega (arith, o.z-in) }) (omega arith) (omega arith) (omega arith);
-    }

@@ -1,10 +1,10 @@
 -- A brick of a volume at a level: its points and its cells.
-use Rattle.std.specs.Prelude.{ℕ, ◌+◌, ◌<◌, ℤ, List, [], ◌∷◌, map, true, ◌≡◌, ◌≤◌}
+use Rattle.std.specs.Prelude.{ℕ, ◌+◌, ◌*◌, ◌/◌, ◌%◌, ◌<◌, ℤ, List, map, true, ◌≡◌, ◌≤◌}
 use Rattle.iso_defs.specs.Lists.{below}
 use Rattle.iso_defs.specs.Grid.{Grid}
 use Rattle.iso_defs.specs.Bricks.{brick_count, brick_point, has_cell, in_brick}
 use Rattle.iso_base.specs.Shifted.{field, shifted}
-use Rattle.iso_base.specs.Volume.{sample}
+use Rattle.iso_base.specs.Volume.{Volume, sample}
 use Rattle.brick_store.specs.Holding.{points_along}
 
 -- a brick of a grid with samples, and a level
@@ -13,6 +13,10 @@ pub record BrickAt : Type 0 where
   pub samples : List ℤ
   pub brick : ℕ
   pub level : ℤ
+
+-- the brick of a volume at a level
+abbrev pub block_of : Volume → ℕ → ℤ → BrickAt
+block_of v brick level = record { grid = v.grid; samples = v.samples; brick = brick; level = level }
 
 -- the shifted values
 abbrev pub heights : BrickAt → ℕ → ℤ
@@ -41,28 +45,16 @@ pub record IsCell (b : BrickAt) (cell : ℕ) : Type 0 where
   pub local : cell < 512
   pub there : has_cell b.grid b.brick cell ≡ true
 
--- a row of the brick
-pub record IsRow (b : BrickAt) (y z : ℕ) : Type 0 where
-  pub low_y : y < 9
-  pub low_z : z < 9
-  pub there : HasPoint b 0 y z
-
 -- a row of cells of the brick
 pub record IsCellRow (b : BrickAt) (y z : ℕ) : Type 0 where
   pub y_low : y < 8
   pub z_low : z < 8
   pub last : HasPoint b 0 (y + 1) (z + 1)
 
--- the samples of a row of the brick
-abbrev pub row_samples : BrickAt → ℕ → ℕ → List ℤ
-row_samples b y z = map (λ x. sample b.samples (point_in b x y z)) (below (points_along b.grid b.brick 0))
+-- where the copy of a corner of a cell lies behind the lowest one
+abbrev pub corner_place : ℕ → ℕ
+corner_place corner = corner % 2 + 9 * (corner / 2 % 2 + 9 * (corner / 4))
 
--- the samples at the corners of the cell at place x between four rows
-abbrev pub corner_samples : List ℤ → List ℤ → List ℤ → List ℤ → ℕ → List ℤ
-corner_samples near up far both x =
-    sample near x ∷ sample near (x + 1) ∷ sample up x ∷ sample up (x + 1)
-    ∷ sample far x ∷ sample far (x + 1) ∷ sample both x ∷ sample both (x + 1) ∷ []
-
--- and their shifted values
-abbrev pub corner_values : ℤ → List ℤ → List ℤ → List ℤ → List ℤ → ℕ → List ℤ
-corner_values level near up far both x = map (λ v. shifted v level) (corner_samples near up far both x)
+-- the shifted values at the corners of the cell whose lowest copy is at this place
+abbrev pub corner_values : ℤ → List ℤ → ℕ → List ℤ
+corner_values level copies low = map (λ corner. shifted (sample copies (low + corner_place corner)) level) (below 8)

@@ -1,71 +1,69 @@
 //! A brick of a volume at a level.
-ghost use Rattle.std.specs.Prelude.{◌≡◌, ◌+◌, ◌-◌, ◌/◌, ◌%◌, ◌<◌, ◌≤◌, ◌^◌, All, length, unsigned_abs};
+ghost use Rattle.std.specs.Prelude.{◌≡◌, ℕ, ◌+◌, ◌-◌, ◌/◌, ◌%◌, ◌<◌, ◌≤◌, ◌^◌, All, length, map, unsigned_abs};
 ghost use Rattle.iso_defs.specs.Bricks.{brick_cell, brick_count, in_brick};
 ghost use Rattle.iso_defs.specs.Cell.{cell_values};
 ghost use Rattle.iso_base.specs.Samples.{IsSample};
 ghost use Rattle.iso_base.specs.Shifted.{shifted};
 ghost use Rattle.iso_base.specs.Volume.{sample};
-ghost use Rattle.brick_mesh.specs.Around.{AreAround};
-ghost use Rattle.brick_mesh.specs.Block.{IsCell, IsCellRow, IsRow, corner_values, heights, row_samples};
+ghost use Rattle.brick_mesh.specs.Block.{IsCell, block_of, corner_place, corner_values, heights};
+ghost use Rattle.brick_store.specs.Copies.{AreCopiesOf};
 ghost use Rattle.brick_store.specs.Holding.{points_along};
+ghost use Rattle.packed_samples.specs.Runs.{samples_in};
 
 use brick_store::{BrickId, BrickStore};
 use iso_base::Level;
+use packed_samples::{Packed, PackedRun};
 use std::marker::Model;
 
-/// The shifted value of a sample.
+/// The shifted value of a sample among the copies of a brick.
 #[inline(always)]
-fn height(samples: &[i64], x: usize, level: Level) -> i64
-    requires place { x < length samples.now }
-    requires range { All IsSample samples.now }
-    ensures value { result ≡ shifted (sample samples.now x) level }
+fn height<T: Packed>(copies: &[T], place: usize, level: Level) -> i64
+    requires place { place < length copies.now }
+    requires range { IsSample (sample (map T.value copies.now) place) }
+    ensures value { result ≡ shifted (sample (map T.value copies.now) place) level }
     ensures bound { unsigned_abs result < 2 ^ 44 }
 {
-    level.shifted(samples[x])
+    level.shifted(copies[place].sample())
 }
 
-/// The shifted values at the corners of the cell at place x between four rows of samples:
-/// a row, the next one along y, the next one along z, and the next one along both.
+/// The shifted values at the corners of the cell whose lowest copy is at this place.
 #[inline(always)]
-fn corner_values(
-    near: &[i64],
-    up: &[i64],
-    far: &[i64],
-    both: &[i64],
-    x: usize,
-    level: Level,
-) -> [i64; 8]
-    requires near { x + 1 < length near.now }
-    requires up { x + 1 < length up.now }
-    requires far { x + 1 < length far.now }
-    requires both { x + 1 < length both.now }
-    requires near_range { All IsSample near.now }
-    requires up_range { All IsSample up.now }
-    requires far_range { All IsSample far.now }
-    requires both_range { All IsSample both.now }
-    ensures value { result ≡ corner_values level near.now up.now far.now both.now x }
+fn corner_values<T: Packed>(copies: &[T], low: usize, level: Level) -> [i64; 8]
+    requires inside { low + 91 < length copies.now }
+    requires range { (corner : ℕ) → corner < 8 → IsSample (sample (map T.value copies.now) (low + corner_place corner)) }
+    ensures value { result ≡ corner_values level (map T.value copies.now) low }
     ensures bound { All (λ v. unsigned_abs v < 2 ^ 44) result }
 {
     [
-        height(near, x, level),
-        height(near, x + 1, level),
-        height(up, x, level),
-        height(up, x + 1, level),
-        height(far, x, level),
-        height(far, x + 1, level),
-        height(both, x, level),
-        height(both, x + 1, level),
+        height(copies, low, level),
+        height(copies, low + 1, level),
+        height(copies, low + 9, level),
+        height(copies, low + 10, level),
+        height(copies, low + 81, level),
+        height(copies, low + 82, level),
+        height(copies, low + 90, level),
+        height(copies, low + 91, level),
     ]
 }
 
-/// The samples of the rows of points round a row of cells: its own, the next one along y, the next one along z, and the next one
-/// along both.
-#[derive(Clone, Copy)]
-pub struct Around<'a> {
-    near: &'a [i64],
-    up: &'a [i64],
-    far: &'a [i64],
-    both: &'a [i64],
+/// The shifted values at the corners of a cell of a brick, from the brick's copies.
+#[inline(always)]
+fn values_among<T: Packed>(
+    store: &BrickStore,
+    brick: BrickId,
+    level: Level,
+    copies: &[T],
+    cell: u32,
+) -> [i64; 8]
+    requires brick { brick.0 < brick_count store.now.grid }
+    requires copies { AreCopiesOf store.now.grid store.now.samples brick.0 (map T.value copies.now) }
+    requires cell { IsCell (block_of store.now brick.0 level) cell }
+    ensures value { result ≡ cell_values store.now.grid (heights (block_of store.now brick.0 level)) (brick_cell store.now.grid brick.0 cell) }
+    ensures bound { All (λ v. unsigned_abs v < 2 ^ 44) result }
+{
+    let _ = store.sizes();
+    let low = cell % 8 + 9 * (cell / 8 % 8 + 9 * (cell / 64));
+    corner_values(copies, low as usize, level)
 }
 
 /// A brick of a volume at a level. Contracts see its grid, its samples by index, its number and the level.
@@ -93,7 +91,7 @@ impl<'a> Block<'a> {
     /// A brick of a store at a level.
     pub fn of(store: &'a BrickStore, brick: BrickId, level: Level) -> Block<'a>
         requires { brick.0 < brick_count store.now.grid }
-        ensures { result ≡ record { grid = store.now.grid; samples = store.now.samples; brick = brick.0; level = level } }
+        ensures { result ≡ block_of store.now brick.0 level }
     {
         // The sizes are those of a grid, so each brick has two points along each axis at least.
         let _ = store.sizes();
@@ -132,43 +130,27 @@ impl<'a> Block<'a> {
         self.along_x - 1
     }
 
-    /// The samples of a row.
-    pub fn row(&self, y: u8, z: u8) -> &[i64]
-        requires { IsRow self.now y z }
-        ensures value { result.now ≡ row_samples self.now y z }
-        ensures range { All IsSample result.now }
+    /// The copies of the brick's samples.
+    pub fn copies(&self) -> PackedRun<'_>
+        ensures { AreCopiesOf self.now.grid self.now.samples self.now.brick (samples_in result) }
     {
-        self.store.row(self.brick, y, z)
+        self.store.brick(self.brick)
     }
 
-    /// The samples round a row of cells.
-    pub fn around(&self, y: u8, z: u8) -> Around<'_>
-        requires { IsCellRow self.now y z }
-        ensures { AreAround self.now y z result }
-    {
-        Around {
-            near: self.row(y, z),
-            up: self.row(y + 1, z),
-            far: self.row(y, z + 1),
-            both: self.row(y + 1, z + 1),
-        }
-    }
-
-    /// The shifted values at the corners of a cell of the brick, from the samples round its row.
+    /// The shifted values at the corners of a cell of the brick.
     #[inline(always)]
-    pub fn values(&self, around: &Around<'_>, cell: u32) -> [i64; 8]
-        requires cell { IsCell self.now cell }
-        requires around { AreAround self.now (cell / 8 % 8) (cell / 64) around.now }
+    pub fn values(&self, cell: u32) -> [i64; 8]
+        requires { IsCell self.now cell }
         ensures value { result ≡ cell_values self.now.grid (heights self.now) (brick_cell self.now.grid self.now.brick cell) }
         ensures bound { All (λ v. unsigned_abs v < 2 ^ 44) result }
     {
-        corner_values(
-            around.near,
-            around.up,
-            around.far,
-            around.both,
-            (cell % 8) as usize,
-            self.level(),
-        )
+        match self.copies() {
+            PackedRun::Bytes(copies) => {
+                values_among(self.store, self.brick, self.level, copies, cell)
+            }
+            PackedRun::Numbers(copies) => {
+                values_among(self.store, self.brick, self.level, copies, cell)
+            }
+        }
     }
 }

@@ -4,12 +4,11 @@ ghost use Rattle.arrayvec.specs.ArrayVec.{array_vec_len};
 ghost use Rattle.iso_defs.specs.Bricks.{brick_cell, brick_count, entries as entries_of, in_brick, is_mixed, row_cases};
 ghost use Rattle.iso_defs.specs.Cell.{cell_signs};
 ghost use Rattle.iso_base.specs.Shifted.{field};
-ghost use Rattle.brick_mesh.specs.Around.{AreAround};
 ghost use Rattle.brick_mesh.specs.Block.{IsCell, IsCellRow, heights};
 ghost use Rattle.brick_mesh.specs.Entries.{case_of, entries_from};
 ghost use Rattle.brick_mesh.specs.Signs.{AreRows};
 
-use crate::block::{Around, Block};
+use crate::block::Block;
 use crate::signs::{SignRows, are_alike, columns, is_mixed, sign_rows};
 use arrayvec::ArrayVec;
 use brick_store::{BrickId, BrickStore};
@@ -18,39 +17,31 @@ use iso_base::{Level, Steps};
 use std::sync::ledger::Ledger;
 
 /// The number of the case of a cell, which is classified.
-fn case_number<L: Ledger>(
-    block: &Block<'_>,
-    around: &Around<'_>,
-    cell: u32,
-    steps: &mut Steps<L>,
-) -> u16
+fn case_number<L: Ledger>(block: &Block<'_>, cell: u32, steps: &mut Steps<L>) -> u16
     requires cell { IsCell block.now cell }
-    requires around { AreAround block.now (cell / 8 % 8) (cell / 64) around.now }
     ensures value { result ≡ case_of block.now.grid (heights block.now) (brick_cell block.now.grid block.now.brick cell) }
     ensures bound { result < 656 }
     ensures counted { steps.new ≡ steps.old + 1 }
 {
-    classify(&block.values(around, cell), steps).number()
+    classify(&block.values(cell), steps).number()
 }
 
 /// Puts the entry of a cell behind the others, if the cell has a crossing edge.
 fn add_cell<L: Ledger>(
     block: &Block<'_>,
-    around: &Around<'_>,
     cell: u32,
     mixed: bool,
     entries: &mut ArrayVec<u32, 512>,
     steps: &mut Steps<L>,
 )
     requires cell { IsCell block.now cell }
-    requires around { AreAround block.now (cell / 8 % 8) (cell / 64) around.now }
     requires mixed { mixed ≡ is_mixed (cell_signs block.now.grid (heights block.now) (brick_cell block.now.grid block.now.brick cell)) }
     requires room { array_vec_len entries.old < 512 }
     ensures entries { entries.new.items ≡ entries.old.items ++ entries_from block.now cell 1 }
     ensures counted { steps.new ≡ steps.old + length (entries_from block.now cell 1) }
 {
     if mixed {
-        let case = case_number(block, around, cell, steps);
+        let case = case_number(block, cell, steps);
         entries.push(1024 * cell + u32::from(case));
     }
 }
@@ -80,11 +71,10 @@ fn add_row<L: Ledger>(
         &signs[first + 9],
         &signs[first + 10],
     );
-    let around = block.around(y, z);
     for x in 0..block.cells_along_x() {
         let mixed = is_mixed(above[x as usize], above[x as usize + 1]);
         let cell = 8 * u32::from(row) + u32::from(x);
-        add_cell(block, &around, cell, mixed, entries, steps);
+        add_cell(block, cell, mixed, entries, steps);
     }
 }
 
@@ -126,11 +116,10 @@ fn put_row<L: Ledger>(
     ensures counted { steps.new ≡ steps.old + length rows.new.items }
     ensures bound { steps.new ≤ steps.old + 8 }
 {
-    let around = block.around(y, z);
     rows.clear();
     for x in 0..block.cells_along_x() {
         let cell = u32::from(x) + 8 * (u32::from(y) + 8 * u32::from(z));
-        rows.push(case_number(block, &around, cell, steps));
+        rows.push(case_number(block, cell, steps));
     }
 }
 

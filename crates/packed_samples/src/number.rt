@@ -1,5 +1,6 @@
 //! Numbers that samples are kept as.
 ghost use Rattle.std.specs.Prelude.{◌≡◌, ◌<◌, ℤ, length, map, pos};
+ghost use Rattle.std.specs.Int.{int_max, int_min};
 ghost use Rattle.iso_base.specs.Volume.{sample};
 
 /// A number that a sample is kept as: a byte, or a number of eight bytes.
@@ -9,6 +10,14 @@ pub trait Packed: Copy {
     /// The sample.
     fn sample(&self) -> i64
         ensures { result ≡ value self.now };
+
+    /// The lesser of two. Numbers are compared in the width that they are kept in, so that many bytes are at once.
+    fn lesser(self, other: Self) -> Self
+        ensures { value result ≡ int_min (value self) (value other) };
+
+    /// The greater of two.
+    fn greater(self, other: Self) -> Self
+        ensures { value result ≡ int_max (value self) (value other) };
 }
 
 impl Packed for u8 {
@@ -18,6 +27,16 @@ impl Packed for u8 {
     fn sample(&self) -> i64 {
         i64::from(*self)
     }
+
+    #[inline(always)]
+    fn lesser(self, other: u8) -> u8 {
+        self.min(other)
+    }
+
+    #[inline(always)]
+    fn greater(self, other: u8) -> u8 {
+        self.max(other)
+    }
 }
 
 impl Packed for i64 {
@@ -26,6 +45,16 @@ impl Packed for i64 {
     #[inline(always)]
     fn sample(&self) -> i64 {
         *self
+    }
+
+    #[inline(always)]
+    fn lesser(self, other: i64) -> i64 {
+        self.min(other)
+    }
+
+    #[inline(always)]
+    fn greater(self, other: i64) -> i64 {
+        self.max(other)
     }
 }
 

@@ -1,5 +1,5 @@
 -- Bricks that lie in a box of one value.
-use Rattle.std.proofs.Common.{◌≡◌, ℕ, ◌+◌, ◌<◌, true, subst, sym, arith, ℤ, pos}
+use Rattle.std.proofs.Common.{◌≡◌, ℕ, ◌<◌, subst, sym, arith, ℤ, pos}
 use Rattle.iso_defs.specs.Bricks.{brick_count, brick_point}
 use Rattle.iso_base.specs.Samples.{IsSample}
 use Rattle.iso_base.specs.Volume.{Volume, IsVolume, sample}

@@ -1,7 +1,6 @@
--- Bricks all of whose samples are one value, and the samples of a brick among its copies.
-use Rattle.std.proofs.Common.{◌≡◌, ℕ, ◌+◌, ◌-◌, ◌*◌, ◌^◌, ◌<◌, ◌≤◌, Bool, true, false, All, List, [], ◌∷◌, length, take, drop, refl, sym, ◌∙◌, ap, ap₂, subst, arith, inl, inr, ℤ, pos, negsuc}
+-- Bricks all of whose samples are one value.
+use Rattle.std.proofs.Common.{◌≡◌, ℕ, ◌+◌, ◌-◌, ◌*◌, ◌^◌, ◌<◌, ◌≤◌, true, List, [], ◌∷◌, take, drop, refl, sym, ◌∙◌, ap, ap₂, subst, arith, inl, inr, ℤ, pos, negsuc}
 use Rattle.std.specs.Prelude.{◌≤ℤ◌}
-use Rattle.std.specs.Bool.{OnTrue}
 use Rattle.std.specs.List.{fold}
 use Rattle.std.specs.Int.{int_max, int_min}
 use Rattle.std.proofs.lemmas.Int.{fold-int_max_bounds, fold-int_min_bounds}
@@ -18,22 +17,15 @@ use Rattle.brick_store.proofs.BrickNumbers.{IsIn, brick_in, is_in}
 use Rattle.iso_defs.specs.Bricks.{brick_count, brick_point, bricks_along, in_brick}
 use Rattle.iso_base.specs.Samples.{IsSample}
 use Rattle.iso_base.specs.Volume.{Volume, IsVolume, sample}
-use Rattle.iso_base.proofs.VolumeLaws.{sample_in_range}
 use Rattle.verdict_laws.proofs.Lists.{In}
-use Rattle.brick_store.specs.Copies.{AreCopiesOf, home}
-use Rattle.brick_store.specs.Holding.{brick_at, points_along}
-use Rattle.brick_store.proofs.Runs.{run_is}
-use Rattle.brick_store.proofs.Standing.{IsHome, brick_point_in, home_of, point_in, row_samples}
-use Rattle.span_tree.specs.Spans.{IsRightFor, Span, Tree, brick_samples, list_span, no_span, one_span, row_of, span_at, span_of, spans_of}
-use Rattle.span_tree.proofs.Active.{IsWide, all_in, each_listed, inside, listed, wide}
+use Rattle.brick_store.specs.Copies.{home}
+use Rattle.brick_store.specs.Holding.{brick_at}
+use Rattle.brick_store.proofs.Standing.{IsHome, home_of, point_in}
+use Rattle.span_tree.specs.Spans.{IsRightFor, Span, Tree, brick_samples, list_span, no_span, one_span, span_at, span_of, spans_of}
+use Rattle.span_tree.proofs.Active.{all_in, inside, listed}
 use Rattle.span_tree.specs.Nodes.{IsTree, node_at, tree_of}
 use Rattle.span_tree.proofs.Trees.{span_is_node}
 use Rattle.span_tree.proofs.SpanLaws.{of_max, of_min}
-
--- what follows from what holds where an answer is true
-pub then_true : (r : Bool) (P Q : Type 0) → (P → Q) → OnTrue r P → OnTrue r Q
-then_true true P Q f h = f h
-then_true false P Q f h = h
 
 -- a fold over one value
 fold_same : (f : ℤ → ℤ → ℤ) (v : ℤ) (xs : List ℤ) → f v v ≡ v → ((w : ℤ) → In w xs → w ≡ v) → fold f v xs ≡ v
@@ -41,10 +33,10 @@ fold_same f v [] same each = refl
 fold_same f v (x ∷ xs) same each = ap (λ a. fold f a xs) (ap (f v) (each x (inl refl)) ∙ same) ∙ fold_same f v xs same (λ w i. each w (inr i))
 
 -- the first sample is the least and the greatest
-least_first : (v : ℤ) → IsSample v → int_min (pos 4294967295) v ≡ v
+pub least_first : (v : ℤ) → IsSample v → int_min (pos 4294967295) v ≡ v
 least_first v is = (let high = is.high in grind arith)
 
-greatest_first : (v : ℤ) → IsSample v → int_max (negsuc 2147483647) v ≡ v
+pub greatest_first : (v : ℤ) → IsSample v → int_max (negsuc 2147483647) v ≡ v
 greatest_first v is = (let low = is.low in grind arith)
 
 -- the span of some samples that are all one value
@@ -122,40 +114,3 @@ tree_of_one g height half nodes v a value tree is area high at right have =
     ∙ (ap (λ n. node_at nodes (n + brick_at g x y z)) (sym at) ∙ have x y z x0 x1 y0 y1 z0 z1) in
     box_of_one v a value spans is (record { area = area; high = subst (λ g. IsPoint g a.high) same high }) (ap (λ (t : Tree). t.spans) right)
     (subst (λ g. HaveOne g a value (span_at spans)) same own)
-
-module _ (v : Volume) (b : ℕ) (copies : List ℤ) (is : IsVolume v) (low : b < brick_count v.grid) (are : AreCopiesOf v.grid v.samples b copies) where
-  -- the sample of a point of the brick
-  copy_is : (x y z : ℕ) → x < points_along v.grid b 0 → y < points_along v.grid b 1 → z < points_along v.grid b 2
-      → sample v.samples (brick_point v.grid b x y z) ≡ sample copies (x + 9 * (y + 9 * z))
-  copy_is x y z hx hy hz = sym (are.each x y z (omega arith) (omega arith) (omega arith) (inside v (pos 0) b is low x y z hx hy hz))
-
-  some : (0 < points_along v.grid b 0) × ((0 < points_along v.grid b 1) × (0 < points_along v.grid b 2))
-  some = let w : IsWide v.grid b = wide v (pos 0) b is low in (omega (arith, w.x), (omega (arith, w.y), omega (arith, w.z)))
-
-  -- the first copy is a sample
-  pub first_is_sample : IsSample (sample copies 0)
-  first_is_sample =
-      subst IsSample (copy_is 0 0 0 some.0 some.1.0 some.1.1)
-      (sample_in_range v (brick_point v.grid b 0 0 0) is (brick_point_in v.grid b 0 0 0 (inside v (pos 0) b is low 0 0 0 some.0 some.1.0 some.1.1)))
-
-  -- where all copies are one value, so are all samples of the brick
-  pub one_value : ((k : ℕ) → k < 729 → sample copies k ≡ sample copies 0) → span_of v b ≡ one_span (sample copies 0)
-  unfolding span_of
-  one_value same =
-      span_of_same (sample copies 0) _ (brick_samples v b) first_is_sample
-      (listed v (pos 0) b is low 0 0 0 some.0 some.1.0 some.1.1)
-      (each_listed v (pos 0) b is low (λ w. w ≡ sample copies 0)
-      (λ x y z hx hy hz. copy_is x y z hx hy hz ∙ same (x + 9 * (y + 9 * z)) (omega arith)))
-
-  -- the samples of a row
-  pub row_among : (start n y z : ℕ) → start ≡ 9 * (y + 9 * z) → n ≡ points_along v.grid b 0 → y < points_along v.grid b 1 → z < points_along v.grid b 2
-      → (start + n ≤ length copies) × ((take (start + n - start) (drop start copies) ≡ row_of v b z y) × All IsSample (row_of v b z y))
-  row_among start n y z at size hy hz =
-      let fits : start + n ≤ length copies = omega (arith, are.count) in (
-        fits,
-        (
-          run_is copies start (start + n) (points_along v.grid b 0) (λ x. sample v.samples (brick_point v.grid b x y z)) (omega arith) fits (λ x h.
-              ap (sample copies) (omega arith) ∙ sym (copy_is x y z h hy hz)),
-          row_samples v b y z is (inside v (pos 0) b is low 0 y z some.0 hy hz),
-        ),
-      )

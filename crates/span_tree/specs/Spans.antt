@@ -59,6 +59,12 @@ brick_samples v brick = flat_map (layer_of v brick) (below (points_along v.grid 
 unfoldable pub span_of : Volume → ℕ → Span
 span_of v brick = list_span (brick_samples v brick)
 
+-- all points that a brick may have lie in the grid
+pub record IsWhole (g : Grid) (brick : ℕ) : Type 0 where
+  pub x : points_along g brick 0 ≡ 9
+  pub y : points_along g brick 1 ≡ 9
+  pub z : points_along g brick 2 ≡ 9
+
 -- all points of a brick lie in a box
 pub record LiesIn (g : Grid) (a : Area) (brick : ℕ) : Type 0 where
   pub x_from : a.low.x ≤ brick_start g brick 0

@@ -1,16 +1,6 @@
-use Rattle.std.proofs.Common.{◌≡◌, ◌∙◌, ◌∷◌, ◌++◌, ◌+◌, ◌*◌, ◌/◌, ◌%◌, ℕ, [], subst, ap, ap₂, arith, length, sym, length-append}
-use Rattle.brick_mesh.specs.Around.{AreAround}
+use Rattle.std.proofs.Common.{◌≡◌, ◌∙◌, ◌∷◌, ◌++◌, ◌+◌, ◌*◌, ℕ, [], ap, ap₂, arith, length, sym, length-append}
 use Rattle.brick_mesh.proofs.Runs.{first_all, first_long, first_more, first_none}
 use Rattle.brick_mesh.proofs.entries.put_row.Goals as goal
-
-pub case_number-requires-clause-around : goal.case_number-requires-clause-around
-case_number-requires-clause-around g c =
-    let b = c.args.block.now in
-    let cell : ℕ = c.from.result + 8 * (c.from-in-loop-x.result + 8 * c.from-in-loop-x-2.result) in
-    let hy = c.requires.y_low in
-    let y : c.args.y ≡ cell / 8 % 8 = omega arith in
-    let z : c.args.z ≡ cell / 64 = omega arith in
-    subst (λ z. AreAround b (cell / 8 % 8) z c.around-around.result) z (subst (λ y. AreAround b y c.args.z c.around-around.result) y c.around-around.ensures)
 
 pub push-requires : goal.push-requires
 push-requires g c = omega (arith, ap length c.loop-x.invariant.cases, first_long c.args.block.now c.args.y c.args.z c.loop-x.x)

@@ -5,14 +5,16 @@ use Rattle.span_tree.specs.Spans.{one_span}
 use Rattle.span_tree.proofs.FilledBricks.{filled_span_is, value_is_sample}
 use Rattle.span_tree.proofs.bricks.filled_span.Goals as goal
 
-pub one-requires : goal.one-requires
-one-requires c =
+pub of-requires : goal.of-requires
+of-requires c =
     let same : to_z w64 (of_z w64 c.args.value) ≡ c.args.value = search (rules, to_z-of_z) in
-    subst IsSample (sym same) (value_is_sample c.args.store.now c.args.area.now c.args.brick.0 c.args.value c.sizes.ensures.volume c.requires.brick c.requires.inside c.requires.filled)
+    let is : IsSample (to_z w64 (of_z w64 c.args.value)) = subst IsSample (sym same)
+    (value_is_sample c.args.store.now c.args.area.now c.args.brick.0 c.args.value c.sizes.ensures.volume c.requires.brick c.requires.inside c.requires.filled) in
+    record { least = is; greatest = is }
 
 pub returns : goal.returns
 returns c =
     let same : to_z w64 (of_z w64 c.args.value) ≡ c.args.value = search (rules, to_z-of_z) in
-    c.one.ensures
+    c.of.ensures
     ∙ (ap one_span same
     ∙ filled_span_is c.args.store.now c.args.area.now c.args.brick.0 c.args.value c.sizes.ensures.volume c.requires.brick c.requires.inside c.requires.filled)
