@@ -1,7 +1,9 @@
 //! The points of a row: their flags, and the numbers of their crossing edges.
-ghost use Rattle.std.specs.Prelude.{◌≡◌, ℕ, ℤ, ◌+◌, ◌-◌, ◌*◌, ◌<◌, ◌≤◌, ◌^◌, All, IsTrue, cond, int_le, length, min, slice_index, take};
+ghost use Rattle.std.specs.Prelude.{◌≡◌, ℕ, ℤ, ◌+◌, ◌-◌, ◌*◌, ◌<◌, ◌≤◌, ◌^◌, All, IsTrue, cond, int_le, length, map, min, slice_index, take};
 ghost use Rattle.std.specs.List.{sum_by};
 ghost use Rattle.iso_base.specs.Shifted.{is_above_level};
+ghost use Rattle.iso_base.specs.Volume.{sample};
+ghost use Rattle.brick_store.specs.Copies.{AreAllCopies};
 ghost use Rattle.crossing_edges.specs.Flags.{edges_in, flags_from, rank};
 ghost use Rattle.flat_mesh.specs.Lattice.{heights};
 ghost use Rattle.flat_mesh.specs.Rows.{row_start};
@@ -15,6 +17,7 @@ use crate::bricks::{BrickRow, count_along};
 use crate::field::Field;
 use flat_mesh::{Heights, rank_points};
 use iso_base::Sizes;
+use packed_samples::{Packed, PackedRun};
 
 /// The most points of a row.
 pub const ROW: usize = 1026;
@@ -39,36 +42,50 @@ fn flags_of(here: bool, right: bool, up: bool, far: bool) -> u8
     u8::from(here != right) + 2 * u8::from(here != up) + 4 * u8::from(here != far)
 }
 
+/// Whether the sample at a place is at least a number.
+#[inline(always)]
+fn is_from<T: Packed>(run: &[T], place: usize, least: i64) -> bool
+    requires { place < length run.now }
+    ensures { result ≡ int_le least (sample (map T.value run.now) place) }
+{
+    run[place].sample() >= least
+}
+
 /// Writes the flags of so many points of a run, behind which another one stands.
 #[inline(always)]
-fn flag_front(here: &[i64], up: &[i64], far: &[i64], least: i64, count: usize, out: &mut [u8])
+fn flag_front<T: Packed>(here: &[T], up: &[T], far: &[T], least: i64, count: usize, out: &mut [u8])
     requires here { count < length here.now }
     requires up { length up.now ≡ length here.now }
     requires far { length far.now ≡ length here.now }
     requires out { count ≤ length out.old }
-    ensures { (i : ℕ) → i < count → slice_index out.new i ≡ run_flags least here.now up.now far.now i }
+    ensures { (i : ℕ) → i < count → slice_index out.new i ≡ run_flags least (map T.value here.now) (map T.value up.now) (map T.value far.now) i }
 {
     // The samples are compared without a branch, since those of the next run are fetched meanwhile.
-    let mut above = here[0] >= least;
+    let mut above = is_from(here, 0, least);
     for i in 0..count {
-        let next = here[i + 1] >= least;
-        out[i] = flags_of(above, next, up[i] >= least, far[i] >= least);
+        let next = is_from(here, i + 1, least);
+        out[i] = flags_of(above, next, is_from(up, i, least), is_from(far, i, least));
         above = next;
     }
 }
 
 /// Writes the flags of the points of a run with which a row ends.
-fn flag_run(here: &[i64], up: &[i64], far: &[i64], least: i64, out: &mut [u8])
+fn flag_run<T: Packed>(here: &[T], up: &[T], far: &[T], least: i64, out: &mut [u8])
     requires some { 0 < length here.now }
     requires up { length up.now ≡ length here.now }
     requires far { length far.now ≡ length here.now }
     requires out { length out.old ≡ length here.now }
-    ensures { (i : ℕ) → i < length here.now → slice_index out.new i ≡ run_flags least here.now up.now far.now i }
+    ensures { (i : ℕ) → i < length here.now → slice_index out.new i ≡ run_flags least (map T.value here.now) (map T.value up.now) (map T.value far.now) i }
 {
     let last = here.len() - 1;
     flag_front(here, up, far, least, last, out);
-    let end = here[last] >= least;
-    out[last] = flags_of(end, end, up[last] >= least, far[last] >= least);
+    let end = is_from(here, last, least);
+    out[last] = flags_of(
+        end,
+        end,
+        is_from(up, last, least),
+        is_from(far, last, least),
+    );
 }
 
 /// The next coordinate, or the last one again.
@@ -97,39 +114,47 @@ pub fn rows_at(sizes: &Sizes, y: u32, z: u32) -> Rows
 /// The samples of the points of a row that a brick holds, and those of the next points along y and z, or the points' own again
 /// where there are none.
 #[derive(Clone, Copy)]
-pub struct PointRuns<'a> {
-    pub here: &'a [i64],
-    pub up: &'a [i64],
-    pub far: &'a [i64],
+pub struct PointRuns<'a, T> {
+    pub here: &'a [T],
+    pub up: &'a [T],
+    pub far: &'a [T],
 }
 
 /// The samples of the points of a row that a brick holds, and of the next ones: those from 8 * x on.
 #[inline(always)]
-pub fn point_runs<'f>(field: &'f Field<'_>, rows: Rows, x: u32, y: u32, z: u32) -> PointRuns<'f>
+pub fn point_runs<'c, T: Packed>(
+    field: &Field,
+    copies: &'c [T],
+    rows: Rows,
+    x: u32,
+    y: u32,
+    z: u32,
+) -> PointRuns<'c, T>
+    requires copies { AreAllCopies field.now.grid field.now.samples (map T.value copies.now) }
     requires x { 8 * x + 1 < field.now.grid.nx }
     requires y { y < field.now.grid.ny }
     requires z { z < field.now.grid.nz }
     requires rows { HoldRows field.now.grid y z rows }
-    ensures { AreRuns field.now (8 * x) y z result }
+    ensures { AreRuns T.value field.now (8 * x) y z result }
 {
     let sizes = field.sizes();
     PointRuns {
-        here: field.run(rows.here, x, y, z),
-        up: field.run(rows.up, x, next_along(y, sizes.ny()), z),
-        far: field.run(rows.far, x, y, next_along(z, sizes.nz())),
+        here: field.run(copies, rows.here, x, y, z),
+        up: field.run(copies, rows.up, x, next_along(y, sizes.ny()), z),
+        far: field.run(copies, rows.far, x, y, next_along(z, sizes.nz())),
     }
 }
 
 /// Writes the flags of a run of points from a place on: of all but the last where the row goes on behind it, since the next brick has
 /// that one too.
 #[inline(always)]
-fn put_flags(here: &[i64], up: &[i64], far: &[i64], least: i64, start: usize, flags: &mut [u8])
+fn put_flags<T: Packed>(here: &[T], up: &[T], far: &[T], least: i64, start: usize, flags: &mut [u8])
     requires room { start < length flags.old }
     requires here { length here.now ≡ min 9 (length flags.old - start) }
     requires up { length up.now ≡ length here.now }
     requires far { length far.now ≡ length here.now }
     ensures inside { (i : ℕ) → i < length here.now → (start + 9 < length flags.old → i < 8)
-        → slice_index flags.new (start + i) ≡ run_flags least here.now up.now far.now i }
+        → slice_index flags.new (start + i) ≡ run_flags least (map T.value here.now) (map T.value up.now) (map T.value far.now) i }
     ensures before { (k : ℕ) → k < start → slice_index flags.new k ≡ slice_index flags.old k }
     ensures behind { start + 9 < length flags.old → (k : ℕ) → start + 8 ≤ k → slice_index flags.new k ≡ slice_index flags.old k }
 {
@@ -142,7 +167,17 @@ fn put_flags(here: &[i64], up: &[i64], far: &[i64], least: i64, start: usize, fl
 
 /// Writes the flags of the points of a row that an active brick holds: those from 8 * x on, where zeros stand.
 #[inline(always)]
-fn active_flags(field: &Field, rows: Rows, least: i64, x: u32, y: u32, z: u32, flags: &mut [u8])
+fn active_flags<T: Packed>(
+    field: &Field,
+    copies: &[T],
+    rows: Rows,
+    least: i64,
+    x: u32,
+    y: u32,
+    z: u32,
+    flags: &mut [u8],
+)
+    requires copies { AreAllCopies field.now.grid field.now.samples (map T.value copies.now) }
     requires x { 8 * x + 1 < field.now.grid.nx }
     requires y { y < field.now.grid.ny }
     requires z { z < field.now.grid.nz }
@@ -155,7 +190,7 @@ fn active_flags(field: &Field, rows: Rows, least: i64, x: u32, y: u32, z: u32, f
     ensures zeros { 8 * x + 9 < field.now.grid.nx → AreZerosFrom (8 * x + 8) flags.new }
 {
     let _ = field.sizes();
-    let runs = point_runs(field, rows, x, y, z);
+    let runs = point_runs(field, copies, rows, x, y, z);
     let start = 8 * x as usize;
     put_flags(runs.here, runs.up, runs.far, least, start, flags);
 }
@@ -170,8 +205,9 @@ fn put_zeros(flags: &mut [u8])
 /// Writes the flags of the points of a row that a brick holds: those from 8 * x on, where zeros stand. From the points of a brick
 /// that is not active no crossing edge begins, so that the zeros are left.
 #[inline(always)]
-fn brick_flags(
+fn brick_flags<T: Packed>(
     field: &Field,
+    copies: &[T],
     active: &ActiveRow,
     rows: Rows,
     least: i64,
@@ -180,6 +216,7 @@ fn brick_flags(
     z: u32,
     flags: &mut [u8],
 )
+    requires copies { AreAllCopies field.now.grid field.now.samples (map T.value copies.now) }
     requires active { AreMarked field.now active.now }
     requires first { active.now.first ≡ rows.here.first }
     requires x { 8 * x + 1 < field.now.grid.nx }
@@ -195,7 +232,33 @@ fn brick_flags(
 {
     let _ = field.sizes();
     if active.is_active(x) {
-        active_flags(field, rows, least, x, y, z, flags);
+        active_flags(field, copies, rows, least, x, y, z, flags);
+    }
+}
+
+/// Writes the flags of the points of a row, from the samples of all bricks.
+fn flag_bricks<T: Packed>(
+    field: &Field,
+    copies: &[T],
+    active: &ActiveRow,
+    y: u32,
+    z: u32,
+    flags: &mut [u8],
+)
+    requires copies { AreAllCopies field.now.grid field.now.samples (map T.value copies.now) }
+    requires active { AreMarked field.now active.now }
+    requires first { active.now.first ≡ first_brick field.now.grid y z }
+    requires y { y < field.now.grid.ny }
+    requires z { z < field.now.grid.nz }
+    requires flags { length flags.old ≡ field.now.grid.nx }
+    ensures { AreFlags field.now y z flags.new }
+{
+    let sizes = field.sizes();
+    let rows = rows_at(&sizes, y, z);
+    let least = field.level().least_above();
+    put_zeros(flags);
+    for x in 0..count_along(sizes.nx()) {
+        brick_flags(field, copies, active, rows, least, x, y, z, flags);
     }
 }
 
@@ -209,12 +272,9 @@ pub fn flag_row(field: &Field, active: &ActiveRow, y: u32, z: u32, flags: &mut [
     ensures each { AreFlags field.now y z flags.new }
     ensures list { flags.new ≡ flags_from field.now.grid (heights field.now) (row_start field.now.grid y z) field.now.grid.nx }
 {
-    let sizes = field.sizes();
-    let rows = rows_at(&sizes, y, z);
-    let least = field.level().least_above();
-    put_zeros(flags);
-    for x in 0..count_along(sizes.nx()) {
-        brick_flags(field, active, rows, least, x, y, z, flags);
+    match field.copies() {
+        PackedRun::Bytes(copies) => flag_bricks(field, copies, active, y, z, flags),
+        PackedRun::Numbers(copies) => flag_bricks(field, copies, active, y, z, flags),
     }
 }
 

@@ -6,6 +6,7 @@ use Rattle.crossing_edges.specs.Flags.{flags_at}
 use Rattle.flat_mesh.specs.Lattice.{heights}
 use Rattle.flat_mesh.specs.Rows.{row_start}
 use Rattle.stitch_rows.specs.Rows.{AreRuns}
+use Rattle.stitch_rows.proofs.Heights.{run_count}
 use Rattle.stitch.specs.Spans.{edge_line, edges_text}
 use Rattle.stitch.proofs.Adding.{adds_as, adds_none}
 use Rattle.stitch.proofs.EdgeLines.{edges_zeros}
@@ -42,12 +43,12 @@ pub write_point-requires-clause-runs : goal.write_point-requires-clause-runs
 write_point-requires-clause-runs g c =
     let v = c.args.field.now in
     let e : 8 * c.args.x ≡ c.loop-at.at - (c.loop-at.at - 8 * c.args.x) = omega arith in
-    subst (λ n. AreRuns v n c.args.y c.args.z c.point_runs-runs.result) e c.point_runs-runs.ensures
+    subst (λ n. AreRuns g.T.Packed.value v n c.args.y c.args.z c.point_runs-runs.result) e c.point_runs-runs.ensures
 
 pub write_point-requires-clause-k : goal.write_point-requires-clause-k
 write_point-requires-clause-k g c =
     let f = end_fits c.args.field.now.grid c.args.x c.args.end c.requires.x c.requires.end in
-    omega (arith, f.from, f.to, f.few, c.loop-at-test.true, c.point_runs-runs.ensures.here.count)
+    omega (arith, f.from, f.to, f.few, c.loop-at-test.true, run_count _ _ _ _ _ _ c.point_runs-runs.ensures.here)
 
 pub write_point-requires-clause-flags : goal.write_point-requires-clause-flags
 write_point-requires-clause-flags g c =
@@ -60,7 +61,7 @@ write_point-requires-clause-flags g c =
 pub write_point-requires-clause-next : goal.write_point-requires-clause-next
 write_point-requires-clause-next g c = λ more.
     let f = end_fits c.args.field.now.grid c.args.x c.args.end c.requires.x c.requires.end in
-    omega (arith, f.next c.loop-at.at c.loop-at-test.true more, more, c.loop-at.auto.at, c.point_runs-runs.ensures.here.count)
+    omega (arith, f.next c.loop-at.at c.loop-at-test.true more, more, c.loop-at.auto.at, run_count _ _ _ _ _ _ c.point_runs-runs.ensures.here)
 
 pub returns-in_err-write_point-clause-adds : goal.returns-in_err-write_point-clause-adds
 returns-in_err-write_point-clause-adds g c =
