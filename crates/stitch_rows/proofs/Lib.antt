@@ -11,3 +11,5 @@ pub mod StillFlags
 pub mod LoopCases
 pub mod Corners
 pub mod RunRanks
+pub mod EightLanes
+pub mod OneSide

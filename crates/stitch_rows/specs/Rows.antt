@@ -64,3 +64,8 @@ AreFirst v y z first = (x : ℕ) → x ≤ v.grid.nx → slice_index first x ≡
 -- the numbers from a place on are 0
 abbrev pub AreZerosFrom : ℕ → List ℕ → Type 0
 AreZerosFrom start numbers = (k : ℕ) → start ≤ k → k < length numbers → slice_index numbers k ≡ 0
+
+-- eight numbers, by place
+pub record AreEight (number : ℕ → ℕ) (numbers : List ℕ) : Type 0 where
+  pub count : length numbers ≡ 8
+  pub each : (i : ℕ) → i < 8 → slice_index numbers i ≡ number i

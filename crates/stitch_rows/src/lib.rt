@@ -6,6 +6,8 @@ mod active;
 mod bricks;
 mod cases;
 mod field;
+mod flags;
+mod lanes;
 mod named;
 mod points;
 

@@ -1,20 +1,18 @@
 //! The points of a row: their flags, and the numbers of their crossing edges.
-ghost use Rattle.std.specs.Prelude.{◌≡◌, ℕ, ℤ, ◌+◌, ◌-◌, ◌*◌, ◌<◌, ◌≤◌, ◌^◌, All, IsTrue, cond, int_le, length, map, min, slice_index, take};
+ghost use Rattle.std.specs.Prelude.{◌≡◌, ℕ, ℤ, ◌+◌, ◌-◌, ◌*◌, ◌<◌, ◌≤◌, ◌^◌, All, IsTrue, int_le, length, map, min, slice_index, take};
 ghost use Rattle.std.specs.List.{sum_by};
 ghost use Rattle.iso_base.specs.Shifted.{is_above_level};
-ghost use Rattle.iso_base.specs.Volume.{sample};
 ghost use Rattle.brick_store.specs.Copies.{AreAllCopies};
 ghost use Rattle.crossing_edges.specs.Flags.{edges_in, flags_from, rank};
 ghost use Rattle.flat_mesh.specs.Lattice.{heights};
 ghost use Rattle.flat_mesh.specs.Rows.{row_start};
-ghost use Rattle.corner_signs.specs.Rows.{bit_from};
-ghost use Rattle.crossing_edges.specs.Signs.{flag_of};
 ghost use Rattle.stitch_rows.specs.Bricks.{AreMarked, HoldRows, first_brick, next_at};
-ghost use Rattle.stitch_rows.specs.Rows.{AreFirst, AreFlags, AreFlagsTo, AreRuns, AreZerosFrom, HasMoreFlags, run_flags};
+ghost use Rattle.stitch_rows.specs.Rows.{AreFirst, AreFlags, AreFlagsTo, AreRuns, AreZerosFrom, HasMoreFlags};
 
 use crate::active::ActiveRow;
 use crate::bricks::{BrickRow, count_along};
 use crate::field::Field;
+use crate::flags::{Flagged, put_flags};
 use flat_mesh::{Heights, rank_points};
 use iso_base::Sizes;
 use packed_samples::{Packed, PackedRun};
@@ -32,60 +30,6 @@ pub struct Rows {
     here: BrickRow,
     up: BrickRow,
     far: BrickRow,
-}
-
-/// The flags of a point, from which of its sample and those of the next points are above the level.
-#[inline(always)]
-fn flags_of(here: bool, right: bool, up: bool, far: bool) -> u8
-    ensures { result ≡ flag_of (cond here 1 0) (cond right 1 0) (cond up 1 0) (cond far 1 0) }
-{
-    u8::from(here != right) + 2 * u8::from(here != up) + 4 * u8::from(here != far)
-}
-
-/// Whether the sample at a place is at least a number.
-#[inline(always)]
-fn is_from<T: Packed>(run: &[T], place: usize, least: i64) -> bool
-    requires { place < length run.now }
-    ensures { result ≡ int_le least (sample (map T.value run.now) place) }
-{
-    run[place].sample() >= least
-}
-
-/// Writes the flags of so many points of a run, behind which another one stands.
-#[inline(always)]
-fn flag_front<T: Packed>(here: &[T], up: &[T], far: &[T], least: i64, count: usize, out: &mut [u8])
-    requires here { count < length here.now }
-    requires up { length up.now ≡ length here.now }
-    requires far { length far.now ≡ length here.now }
-    requires out { count ≤ length out.old }
-    ensures { (i : ℕ) → i < count → slice_index out.new i ≡ run_flags least (map T.value here.now) (map T.value up.now) (map T.value far.now) i }
-{
-    // The samples are compared without a branch, since those of the next run are fetched meanwhile.
-    let mut above = is_from(here, 0, least);
-    for i in 0..count {
-        let next = is_from(here, i + 1, least);
-        out[i] = flags_of(above, next, is_from(up, i, least), is_from(far, i, least));
-        above = next;
-    }
-}
-
-/// Writes the flags of the points of a run with which a row ends.
-fn flag_run<T: Packed>(here: &[T], up: &[T], far: &[T], least: i64, out: &mut [u8])
-    requires some { 0 < length here.now }
-    requires up { length up.now ≡ length here.now }
-    requires far { length far.now ≡ length here.now }
-    requires out { length out.old ≡ length here.now }
-    ensures { (i : ℕ) → i < length here.now → slice_index out.new i ≡ run_flags least (map T.value here.now) (map T.value up.now) (map T.value far.now) i }
-{
-    let last = here.len() - 1;
-    flag_front(here, up, far, least, last, out);
-    let end = is_from(here, last, least);
-    out[last] = flags_of(
-        end,
-        end,
-        is_from(up, last, least),
-        is_from(far, last, least),
-    );
 }
 
 /// The next coordinate, or the last one again.
@@ -145,29 +89,9 @@ pub fn point_runs<'c, T: Packed>(
     }
 }
 
-/// Writes the flags of a run of points from a place on: of all but the last where the row goes on behind it, since the next brick has
-/// that one too.
-#[inline(always)]
-fn put_flags<T: Packed>(here: &[T], up: &[T], far: &[T], least: i64, start: usize, flags: &mut [u8])
-    requires room { start < length flags.old }
-    requires here { length here.now ≡ min 9 (length flags.old - start) }
-    requires up { length up.now ≡ length here.now }
-    requires far { length far.now ≡ length here.now }
-    ensures inside { (i : ℕ) → i < length here.now → (start + 9 < length flags.old → i < 8)
-        → slice_index flags.new (start + i) ≡ run_flags least (map T.value here.now) (map T.value up.now) (map T.value far.now) i }
-    ensures before { (k : ℕ) → k < start → slice_index flags.new k ≡ slice_index flags.old k }
-    ensures behind { start + 9 < length flags.old → (k : ℕ) → start + 8 ≤ k → slice_index flags.new k ≡ slice_index flags.old k }
-{
-    if flags.len() - start > 9 {
-        flag_front(here, up, far, least, 8, &mut flags[start..start + 8]);
-    } else {
-        flag_run(here, up, far, least, &mut flags[start..]);
-    }
-}
-
 /// Writes the flags of the points of a row that an active brick holds: those from 8 * x on, where zeros stand.
 #[inline(always)]
-fn active_flags<T: Packed>(
+fn active_flags<T: Flagged>(
     field: &Field,
     copies: &[T],
     rows: Rows,
@@ -205,7 +129,7 @@ fn put_zeros(flags: &mut [u8])
 /// Writes the flags of the points of a row that a brick holds: those from 8 * x on, where zeros stand. From the points of a brick
 /// that is not active no crossing edge begins, so that the zeros are left.
 #[inline(always)]
-fn brick_flags<T: Packed>(
+fn brick_flags<T: Flagged>(
     field: &Field,
     copies: &[T],
     active: &ActiveRow,
@@ -237,7 +161,7 @@ fn brick_flags<T: Packed>(
 }
 
 /// Writes the flags of the points of a row, from the samples of all bricks.
-fn flag_bricks<T: Packed>(
+fn flag_bricks<T: Flagged>(
     field: &Field,
     copies: &[T],
     active: &ActiveRow,

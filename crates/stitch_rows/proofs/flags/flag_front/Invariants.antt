@@ -1,7 +1,7 @@
 use Rattle.std.proofs.Common.{◌≡◌, ℕ, ◌<◌, get_or, map, pos}
 use Rattle.std.specs.Prelude.{int_le}
 use Rattle.stitch_rows.specs.Rows.{run_flags}
-use Rattle.stitch_rows.proofs.points.flag_front.Given as goal
+use Rattle.stitch_rows.proofs.flags.flag_front.Given as goal
 
 abbrev pub invariant-loop-i : goal.invariant-loop-i
 invariant-loop-i g l = record {

@@ -3,7 +3,7 @@ use Rattle.std.proofs.lemmas.Int.{to_z-of_z}
 use Rattle.std.proofs.lemmas.List.{length-map}
 use Rattle.stitch_rows.specs.Rows.{run_flags}
 use Rattle.stitch_rows.proofs.RunFlags.{inner_flags, written_more}
-use Rattle.stitch_rows.proofs.points.flag_front.Goals as goal
+use Rattle.stitch_rows.proofs.flags.flag_front.Goals as goal
 
 pub loop-i-preserved : goal.loop-i-preserved
 loop-i-preserved g c =

@@ -3,7 +3,7 @@ use Rattle.std.proofs.lemmas.Int.{to_z-of_z}
 use Rattle.std.proofs.lemmas.List.{length-map}
 use Rattle.stitch_rows.specs.Rows.{run_flags}
 use Rattle.stitch_rows.proofs.RunFlags.{last_flags, written_more}
-use Rattle.stitch_rows.proofs.points.flag_run.Goals as goal
+use Rattle.stitch_rows.proofs.flags.flag_run.Goals as goal
 
 pub returns : goal.returns
 returns g c = λ k low.
