@@ -1,5 +1,5 @@
 //! The lines of the vertices on crossing edges, in order of name.
-ghost use Rattle.std.specs.Prelude.{◌≡◌, ◌+◌, ◌-◌, ◌*◌, ◌<◌, ◌≤◌, ◌^◌, ◌==◌, All, IfOk, IsTrue, if◌then◌else◌, length, map, slice_index, true, unsigned_abs};
+ghost use Rattle.std.specs.Prelude.{◌≡◌, ℕ, ◌+◌, ◌-◌, ◌*◌, ◌<◌, ◌≤◌, ◌^◌, ◌==◌, All, IfOk, IsTrue, if◌then◌else◌, length, map, slice_index, true, unsigned_abs};
 ghost use Rattle.iso_defs.specs.Rows.{row_count};
 ghost use Rattle.iso_defs.specs.Signs.{is_crossing};
 ghost use Rattle.iso_defs.specs.Grid.{Grid};
@@ -21,13 +21,14 @@ ghost use Rattle.stitch.specs.Spans.{all_edges_text, edge_line, edges_text, poin
 use crate::block::Block;
 use crate::ranks::{edges_before, row_at};
 use crate::style::Style;
+use crossing_edges::begin_none;
 use edge_points::{RowRanks, place};
 use flat_mesh::Heights;
 use iso_base::Point;
 use iso_io::{Failed, Sink};
 use packed_samples::{Packed, PackedRun};
 use stitch_rows::{
-    ActiveRow, Field, PointRuns, ROW, Rows, are_zeros, count_along, flag_row, point_runs, rows_at,
+    ActiveRow, Field, PointRuns, ROW, Rows, count_along, flag_row, point_runs, rows_at,
 };
 
 /// Where the vertex on an edge is in thousandths, by its lower point, its axis and its place on the edge.
@@ -202,6 +203,16 @@ fn write_point<T: Packed, K: Sink>(
     Ok(())
 }
 
+/// Whether the points from a place to before an end are eight at which no crossing edge begins.
+#[inline(always)]
+fn eight_begin_none(flags: &[u8], start: usize, end: usize) -> bool
+    requires order { start ≤ end }
+    requires end { end ≤ length flags.now }
+    ensures { IsTrue result → (k : ℕ) → k < end - start → slice_index flags.now (start + k) ≡ 0 }
+{
+    end - start == 8 && begin_none(flags, start)
+}
+
 /// Puts the lines of the vertices on the edges that begin at the points of a row from 8 * x to before an end behind the
 /// others: points that one brick holds.
 fn write_run<T: Packed, K: Sink>(
@@ -231,7 +242,7 @@ fn write_run<T: Packed, K: Sink>(
 {
     let _ = field.sizes();
     let start = 8 * x;
-    if are_zeros(&flags[start as usize..end as usize]) {
+    if eight_begin_none(flags, start as usize, end as usize) {
         return Ok(());
     }
     let runs = point_runs(field, copies, rows, x, y, z);

@@ -214,70 +214,6 @@ fn set_flags(field: &Field, active: &ActiveRow, y: u32, z: u32, flags: &mut [u8;
     flag_row(field, active, y, z, &mut flags[..nx]);
 }
 
-/// Whether no flag is set. Eight flags are looked at as one number.
-#[inline(always)]
-pub fn are_zeros(flags: &[u8]) -> bool
-    ensures { IsTrue result → All (λ f. f ≡ 0) flags.now }
-{
-    if flags.len() != 8 {
-        return flags.iter().all(|f| *f == 0);
-    }
-    u64::from_le_bytes([
-        flags[0], flags[1], flags[2], flags[3], flags[4], flags[5], flags[6], flags[7],
-    ]) == 0
-}
-
-/// Writes a number throughout.
-fn put_same(number: u32, first: &mut [u32])
-    ensures { (i : ℕ) → i < length first.new → slice_index first.new i ≡ number }
-{
-    first.fill(number);
-}
-
-/// Writes the numbers of the first crossing edges of some points, and behind them that of the next point.
-#[inline(always)]
-fn rank_some(flags: &[u8], before: u32, first: &mut [u32])
-    requires flags { All (λ f. f < 8) flags.now }
-    requires lengths { length first.old ≡ length flags.now + 1 }
-    requires room { before + 3 * length flags.now < 2 ^ 32 }
-    ensures { (i : ℕ) → i ≤ length flags.now → slice_index first.new i ≡ before + sum_by edges_in (take i flags.now) }
-{
-    if are_zeros(flags) {
-        put_same(before, first);
-        return;
-    }
-    rank_points(flags, before, first);
-}
-
-/// The same of those from a place to before an end, where the numbers of the earlier ones are written.
-#[inline(always)]
-fn rank_part(flags: &[u8], before: u32, at: usize, end: usize, first: &mut [u32])
-    requires at { at ≤ end }
-    requires end { end ≤ length flags.now }
-    requires flags { All (λ f. f < 8) flags.now }
-    requires lengths { length first.old ≡ length flags.now + 1 }
-    requires room { before + 3 * length flags.now < 2 ^ 32 }
-    requires ranked { (i : ℕ) → i ≤ at → slice_index first.old i ≡ before + sum_by edges_in (take i flags.now) }
-    ensures { (i : ℕ) → i ≤ end → slice_index first.new i ≡ before + sum_by edges_in (take i flags.now) }
-{
-    rank_some(&flags[at..end], first[at], &mut first[at..end + 1]);
-}
-
-/// The same of all points of a row, eight at a time.
-fn rank_eights(flags: &[u8], before: u32, first: &mut [u32])
-    requires flags { All (λ f. f < 8) flags.now }
-    requires lengths { length first.old ≡ length flags.now + 1 }
-    requires room { before + 3 * length flags.now < 2 ^ 32 }
-    ensures { (i : ℕ) → i ≤ length flags.now → slice_index first.new i ≡ before + sum_by edges_in (take i flags.now) }
-{
-    let eights = flags.len() / 8;
-    first[0] = before;
-    for k in 0..eights {
-        rank_part(flags, before, 8 * k, 8 * k + 8, first);
-    }
-    rank_part(flags, before, 8 * eights, flags.len(), first);
-}
-
 /// Writes the numbers of the first crossing edges of the points of a row, and behind them that of the next row.
 fn rank_run<H: Heights>(field: &H, y: u32, z: u32, before: u32, flags: &[u8], first: &mut [u32])
     requires y { y < (H.leveled field.now).grid.ny }
@@ -289,7 +225,7 @@ fn rank_run<H: Heights>(field: &H, y: u32, z: u32, before: u32, flags: &[u8], fi
     ensures { AreFirst (H.leveled field.now) y z first.new }
 {
     let _ = field.sizes();
-    rank_eights(flags, before, first);
+    rank_points(flags, before, first);
 }
 
 /// Writes the same at the front of a buffer.

@@ -14,18 +14,18 @@ use Rattle.stitch.proofs.EdgeRuns.{end_fits, zeros_in}
 use Rattle.stitch.proofs.SpanLaws.{run_failed, run_more, run_none}
 use Rattle.stitch.proofs.edges.write_run.Goals as goal
 
-pub slice_bounds-are_zeros-end : goal.slice_bounds-are_zeros-end
-slice_bounds-are_zeros-end g c = let f = end_fits c.args.field.now.grid c.args.x c.args.end c.requires.x c.requires.end in omega (arith, f.to, c.requires.count)
+pub eight_begin_none-requires-clause-order : goal.eight_begin_none-requires-clause-order
+eight_begin_none-requires-clause-order g c = let f = end_fits c.args.field.now.grid c.args.x c.args.end c.requires.x c.requires.end in omega (arith, f.from)
 
-pub slice_bounds-are_zeros-start : goal.slice_bounds-are_zeros-start
-slice_bounds-are_zeros-start g c = let f = end_fits c.args.field.now.grid c.args.x c.args.end c.requires.x c.requires.end in omega (arith, f.from, f.to, c.requires.count)
+pub eight_begin_none-requires-clause-end : goal.eight_begin_none-requires-clause-end
+eight_begin_none-requires-clause-end g c = let f = end_fits c.args.field.now.grid c.args.x c.args.end c.requires.x c.requires.end in omega (arith, f.to, c.requires.count)
 
-pub returns-then-are_zeros-clause-adds : goal.returns-then-are_zeros-clause-adds
-returns-then-are_zeros-clause-adds g c =
+pub returns-then-eight_begin_none-clause-adds : goal.returns-then-eight_begin_none-clause-adds
+returns-then-eight_begin_none-clause-adds g c =
     let v = c.args.field.now in
     let f = end_fits v.grid c.args.x c.args.end c.requires.x c.requires.end in
     adds_as _ _ _ _ _ _ _ (sym (edges_zeros c.args.style.format c.args.style.padded v (row_start v.grid c.args.y c.args.z + 8 * c.args.x) (c.args.end - 8 * c.args.x)
-    (zeros_in v c.args.y c.args.z (8 * c.args.x) c.args.end c.args.flags.now c.requires.count f.to c.requires.flags (c.are_zeros.ensures c.if-are_zeros.true))))
+    (zeros_in v c.args.y c.args.z (8 * c.args.x) c.args.end c.args.flags.now f.to c.requires.flags (c.eight_begin_none.ensures c.if-eight_begin_none.true))))
     (adds_none _ c.args.block.now tt)
 
 pub loop-at-init : goal.loop-at-init
