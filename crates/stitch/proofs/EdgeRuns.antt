@@ -1,7 +1,6 @@
 -- The points of a row that go with a brick.
-use Rattle.std.proofs.Common.{◌≡◌, ℕ, ◌+◌, ◌-◌, ◌*◌, ◌<◌, ◌≤◌, cond, List, All, length, take, drop, sym, ◌∙◌, ap, arith, inl, inr}
+use Rattle.std.proofs.Common.{◌≡◌, ℕ, ◌+◌, ◌-◌, ◌*◌, ◌<◌, ◌≤◌, cond, List, get_or, sym, ◌∙◌, ap, arith, inl, inr}
 use Rattle.std.proofs.lemmas.Bool.{cases_lt, lt-ltb, le-ltb}
-use Rattle.std.proofs.lemmas.List.{get_or-take, get_or-drop, length-take, length-drop}
 use Rattle.iso_defs.specs.Grid.{Grid}
 use Rattle.crossing_edges.specs.Flags.{flags_at}
 use Rattle.flat_mesh.specs.Lattice.{Leveled, heights}
@@ -53,10 +52,8 @@ pub before_end : (g : Grid) (x : ℕ) → g.nx ≤ 8 * x + 1 → points_before g
 before_end g x last = ap (λ b. cond b (8 * x) g.nx) (le-ltb (8 * x + 1) g.nx last)
 
 -- the flags of a run that are all 0
-pub zeros_in : (v : Leveled) (y z start end : ℕ) (flags : List ℕ) → length flags ≡ v.grid.nx → end ≤ v.grid.nx → AreFlags v y z flags
-    → All (λ f. f ≡ 0) (take (end - start) (drop start flags)) → (k : ℕ) → k < end - start → flags_at v.grid (heights v) (row_start v.grid y z + start + k) ≡ 0
-zeros_in v y z start end flags count fits are zeros k low =
-    let within : k < length (take (end - start) (drop start flags)) = omega (arith, length-take (end - start) (drop start flags), length-drop start flags) in
+pub zeros_in : (v : Leveled) (y z start end : ℕ) (flags : List ℕ) → end ≤ v.grid.nx → AreFlags v y z flags
+    → ((k : ℕ) → k < end - start → get_or flags (start + k) 0 ≡ 0) → (k : ℕ) → k < end - start → flags_at v.grid (heights v) (row_start v.grid y z + start + k) ≡ 0
+zeros_in v y z start end flags fits are zeros k low =
     let at : row_start v.grid y z + (start + k) ≡ row_start v.grid y z + start + k = omega arith in
-    sym (ap (flags_at v.grid (heights v)) at) ∙ (sym (are (start + k) (omega arith))
-    ∙ (sym (get_or-take (end - start) (drop start flags) k 0 low ∙ get_or-drop start flags k 0) ∙ zeros k 0 within))
+    sym (ap (flags_at v.grid (heights v)) at) ∙ (sym (are (start + k) (omega arith)) ∙ zeros k low)

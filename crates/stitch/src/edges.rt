@@ -1,5 +1,5 @@
 //! The lines of the vertices on crossing edges, in order of name.
-ghost use Rattle.std.specs.Prelude.{◌≡◌, ◌+◌, ◌-◌, ◌*◌, ◌<◌, ◌≤◌, ◌^◌, ◌==◌, All, IfOk, IsTrue, if◌then◌else◌, length, slice_index, true, unsigned_abs};
+ghost use Rattle.std.specs.Prelude.{◌≡◌, ℕ, ◌+◌, ◌-◌, ◌*◌, ◌<◌, ◌≤◌, ◌^◌, ◌==◌, All, IfOk, IsTrue, if◌then◌else◌, length, map, slice_index, true, unsigned_abs};
 ghost use Rattle.iso_defs.specs.Rows.{row_count};
 ghost use Rattle.iso_defs.specs.Signs.{is_crossing};
 ghost use Rattle.iso_defs.specs.Grid.{Grid};
@@ -7,6 +7,7 @@ ghost use Rattle.iso_base.specs.Points.{IsPoint, index_of, next_along};
 ghost use Rattle.iso_base.specs.Samples.{IsSample};
 ghost use Rattle.iso_base.specs.Shifted.{shifted};
 ghost use Rattle.iso_base.specs.Volume.{sample};
+ghost use Rattle.brick_store.specs.Copies.{AreAllCopies};
 ghost use Rattle.crossing_edges.specs.Flags.{flags_at};
 ghost use Rattle.flat_mesh.specs.Lattice.{heights};
 ghost use Rattle.flat_mesh.specs.Rows.{row_start};
@@ -20,12 +21,14 @@ ghost use Rattle.stitch.specs.Spans.{all_edges_text, edge_line, edges_text, poin
 use crate::block::Block;
 use crate::ranks::{edges_before, row_at};
 use crate::style::Style;
+use crossing_edges::begin_none;
 use edge_points::{RowRanks, place};
 use flat_mesh::Heights;
 use iso_base::Point;
 use iso_io::{Failed, Sink};
+use packed_samples::{Packed, PackedRun};
 use stitch_rows::{
-    ActiveRow, Field, PointRuns, ROW, Rows, are_zeros, count_along, flag_row, point_runs, rows_at,
+    ActiveRow, Field, PointRuns, ROW, Rows, count_along, flag_row, point_runs, rows_at,
 };
 
 /// Where the vertex on an edge is in thousandths, by its lower point, its axis and its place on the edge.
@@ -56,19 +59,26 @@ pub struct Ends {
 
 /// The shifted value of a sample of a run.
 #[inline(always)]
-fn height_in(field: &Field, run: &[i64], k: usize) -> i64
-    requires run { All IsSample run.now }
+fn height_in<T: Packed>(field: &Field, run: &[T], k: usize) -> i64
+    requires run { All IsSample (map T.value run.now) }
     requires k { k < length run.now }
-    ensures value { result ≡ shifted (sample run.now k) field.now.level }
+    ensures value { result ≡ shifted (sample (map T.value run.now) k) field.now.level }
     ensures bound { unsigned_abs result < 2 ^ 44 }
 {
-    field.height_of(run[k])
+    field.height_of(run[k].sample())
 }
 
 /// The shifted values at the point at a place of a run of points, and at the next ones.
 #[inline(always)]
-fn ends_at(field: &Field, runs: &PointRuns<'_>, x: u32, y: u32, z: u32, k: usize) -> Ends
-    requires runs { AreRuns field.now x y z runs.now }
+fn ends_at<T: Packed>(
+    field: &Field,
+    runs: &PointRuns<'_, T>,
+    x: u32,
+    y: u32,
+    z: u32,
+    k: usize,
+) -> Ends
+    requires runs { AreRuns T.value field.now x y z runs.now }
     requires k { k < length runs.now.here.now }
     requires next { x + k + 1 < field.now.grid.nx → k + 1 < length runs.now.here.now }
     requires y { y < field.now.grid.ny }
@@ -165,17 +175,17 @@ pub fn put_point<H: Heights>(
 }
 
 /// The same of the point at a place of a run, and first makes room for them.
-fn write_point<K: Sink>(
+fn write_point<T: Packed, K: Sink>(
     field: &Field,
     style: Style,
-    runs: &PointRuns<'_>,
+    runs: &PointRuns<'_, T>,
     k: usize,
     point: Point,
     flags: u8,
     block: &mut Block,
     sink: &mut K,
 ) -> Result<(), Failed>
-    requires runs { AreRuns field.now (point.x - k) point.y point.z runs.now }
+    requires runs { AreRuns T.value field.now (point.x - k) point.y point.z runs.now }
     requires at { k ≤ point.x }
     requires k { k < length runs.now.here.now }
     requires next { point.x + 1 < field.now.grid.nx → k + 1 < length runs.now.here.now }
@@ -193,10 +203,21 @@ fn write_point<K: Sink>(
     Ok(())
 }
 
+/// Whether the points from a place to before an end are eight at which no crossing edge begins.
+#[inline(always)]
+fn eight_begin_none(flags: &[u8], start: usize, end: usize) -> bool
+    requires order { start ≤ end }
+    requires end { end ≤ length flags.now }
+    ensures { IsTrue result → (k : ℕ) → k < end - start → slice_index flags.now (start + k) ≡ 0 }
+{
+    end - start == 8 && begin_none(flags, start)
+}
+
 /// Puts the lines of the vertices on the edges that begin at the points of a row from 8 * x to before an end behind the
 /// others: points that one brick holds.
-fn write_run<K: Sink>(
+fn write_run<T: Packed, K: Sink>(
     field: &Field,
+    copies: &[T],
     style: Style,
     rows: Rows,
     x: u32,
@@ -207,6 +228,7 @@ fn write_run<K: Sink>(
     block: &mut Block,
     sink: &mut K,
 ) -> Result<(), Failed>
+    requires copies { AreAllCopies field.now.grid field.now.samples (map T.value copies.now) }
     requires x { 8 * x + 1 < field.now.grid.nx }
     requires y { y < field.now.grid.ny }
     requires z { z < field.now.grid.nz }
@@ -220,10 +242,10 @@ fn write_run<K: Sink>(
 {
     let _ = field.sizes();
     let start = 8 * x;
-    if are_zeros(&flags[start as usize..end as usize]) {
+    if eight_begin_none(flags, start as usize, end as usize) {
         return Ok(());
     }
-    let runs = point_runs(field, rows, x, y, z);
+    let runs = point_runs(field, copies, rows, x, y, z);
     for at in start..end {
         write_point(
             field,
@@ -249,7 +271,37 @@ fn run_end(nx: u32, x: u32) -> u32
     if 8 * x + 9 < nx { 8 * x + 8 } else { nx }
 }
 
-/// Puts the lines of the vertices on the edges that begin in a row of points behind the others, brick by brick.
+/// Puts the lines of the vertices on the edges that begin in a row of points behind the others, brick by brick, from the samples
+/// of all bricks.
+fn write_bricks<T: Packed, K: Sink>(
+    field: &Field,
+    copies: &[T],
+    style: Style,
+    y: u32,
+    z: u32,
+    flags: &[u8],
+    block: &mut Block,
+    sink: &mut K,
+) -> Result<(), Failed>
+    requires copies { AreAllCopies field.now.grid field.now.samples (map T.value copies.now) }
+    requires y { y < field.now.grid.ny }
+    requires z { z < field.now.grid.nz }
+    requires count { length flags.now ≡ field.now.grid.nx }
+    requires flags { AreFlags field.now y z flags.now }
+    ensures adds { Adds (K.seen sink.old) (K.seen sink.new) block.old block.new result (row_edges_text style field.now (y + field.now.grid.ny * z)) }
+    ensures bytes { IfOk result (λ _. block.new.total ≤ block.old.total + 192 * field.now.grid.nx) }
+{
+    let sizes = field.sizes();
+    let nx = sizes.nx();
+    let rows = rows_at(&sizes, y, z);
+    for x in 0..count_along(nx) {
+        let end = run_end(nx, x);
+        write_run(field, copies, style, rows, x, y, z, end, flags, block, sink)?;
+    }
+    Ok(())
+}
+
+/// Puts the lines of the vertices on the edges that begin in a row of points behind the others.
 fn write_points<K: Sink>(
     field: &Field,
     style: Style,
@@ -266,14 +318,10 @@ fn write_points<K: Sink>(
     ensures adds { Adds (K.seen sink.old) (K.seen sink.new) block.old block.new result (row_edges_text style field.now (y + field.now.grid.ny * z)) }
     ensures bytes { IfOk result (λ _. block.new.total ≤ block.old.total + 192 * field.now.grid.nx) }
 {
-    let sizes = field.sizes();
-    let nx = sizes.nx();
-    let rows = rows_at(&sizes, y, z);
-    for x in 0..count_along(nx) {
-        let end = run_end(nx, x);
-        write_run(field, style, rows, x, y, z, end, flags, block, sink)?;
+    match field.copies() {
+        PackedRun::Bytes(copies) => write_bricks(field, copies, style, y, z, flags, block, sink),
+        PackedRun::Numbers(copies) => write_bricks(field, copies, style, y, z, flags, block, sink),
     }
-    Ok(())
 }
 
 /// Puts the lines of the vertices on the edges that begin in a row of points behind the others, where there are any.

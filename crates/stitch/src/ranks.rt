@@ -12,36 +12,7 @@ use crossing_edges::count_all_edges;
 use edge_points::RowRanks;
 use flat_mesh::Heights;
 use iso_base::Sizes;
-use stitch_rows::{ActiveRow, Field, ROW, are_zeros, flag_row};
-
-/// How many crossing edges begin at some points.
-#[inline(always)]
-fn count_run(flags: &[u8]) -> u32
-    requires flags { All (λ f. f < 8) flags.now }
-    requires few { length flags.now ≤ 1026 }
-    ensures value { result ≡ sum_by edges_in flags.now }
-    ensures bound { result ≤ 3 * length flags.now }
-{
-    if are_zeros(flags) {
-        return 0;
-    }
-    count_all_edges(flags)
-}
-
-/// The same of the points of a row, eight at a time.
-fn count_eights(flags: &[u8]) -> u32
-    requires flags { All (λ f. f < 8) flags.now }
-    requires few { length flags.now ≤ 1026 }
-    ensures value { result ≡ sum_by edges_in flags.now }
-    ensures bound { result ≤ 3 * length flags.now }
-{
-    let eights = flags.len() / 8;
-    let mut count = 0;
-    for k in 0..eights {
-        count += count_run(&flags[8 * k..8 * k + 8]);
-    }
-    count + count_run(&flags[8 * eights..])
-}
+use stitch_rows::{ActiveRow, Field, ROW, flag_row};
 
 /// How many crossing edges begin in a row of points. `flags` is a buffer.
 fn row_edges(field: &Field, active: &mut ActiveRow, y: u32, z: u32, flags: &mut [u8]) -> u32
@@ -56,7 +27,7 @@ fn row_edges(field: &Field, active: &mut ActiveRow, y: u32, z: u32, flags: &mut 
     let _ = field.sizes();
     active.mark(field, y, z);
     flag_row(field, active, y, z, flags);
-    count_eights(flags)
+    count_all_edges(flags)
 }
 
 /// The coordinates along y and z of a row of points, by its number.

@@ -1,6 +1,7 @@
 -- The shifted values of a volume.
-use Rattle.std.proofs.Common.{◌≡◌, ℕ, ◌+◌, ◌-◌, ◌*◌, ◌<◌, List, [], ◌∷◌, length, get_or, take, drop, min, refl, sym, ◌∙◌, ap, ap₂, subst, ℤ, pos, arith, true}
-use Rattle.std.proofs.lemmas.List.{get_or-drop, get_or-take, get_or_default, length-drop, length-take-le}
+use Rattle.std.proofs.Common.{◌≡◌, ℕ, ◌+◌, ◌-◌, ◌*◌, ◌<◌, List, [], ◌∷◌, length, get_or, map, take, drop, min, refl, sym, ◌∙◌, ap, ap₂, subst, ℤ, pos, arith, true}
+use Rattle.std.proofs.lemmas.List.{get_or-drop, get_or-take, get_or_default, length-drop, length-map, length-take-le}
+use Rattle.std.specs.List.{drop-map, take-map}
 use Rattle.iso_defs.specs.Grid.{Grid, index}
 use Rattle.iso_defs.specs.Cell.{corner_point}
 use Rattle.iso_defs.specs.Bricks.{brick_count, in_brick}
@@ -37,6 +38,12 @@ unfolding values_at
 corners_are f v level q a b c d e f' g h same ea eb ec ed ee ef eg eh =
     subst (λ f. a ∷ b ∷ c ∷ d ∷ e ∷ f' ∷ g ∷ h ∷ [] ≡ values_at f q) same
     (ap₂ ◌∷◌ ea (ap₂ ◌∷◌ eb (ap₂ ◌∷◌ ec (ap₂ ◌∷◌ ed (ap₂ ◌∷◌ ee (ap₂ ◌∷◌ ef (ap₂ ◌∷◌ eg (ap₂ ◌∷◌ eh refl))))))))
+
+-- a part of packed copies holds the samples of that part
+pub part_is : {T : Type 0} (value : T → ℤ) (packed : List T) (start count : ℕ)
+    → map value (take (start + count - start) (drop start packed)) ≡ take (start + count - start) (drop start (map value packed))
+part_is value packed start count =
+    sym (take-map value (start + count - start) (drop start packed)) ∙ ap (take (start + count - start)) (sym (drop-map value start packed))
 
 -- a run of samples of a brick, among its copies
 module _ (v : Volume) (is : IsVolume v) (x y z : ℕ) (hx : 8 * x + 1 < v.grid.nx) (hy : y < v.grid.ny) (hz : z < v.grid.nz) (held : BrickRow) (hold : HoldRow v.grid y z held)
@@ -76,6 +83,10 @@ module _ (v : Volume) (is : IsVolume v) (x y z : ℕ) (hx : 8 * x + 1 < v.grid.n
         let wide : 8 * x + k < v.grid.nx = omega (arith, run_length) in
         subst IsSample (sym (get_or_default run k d (pos 0) low ∙ run_at k low)) (sample_in_range v (index v.grid (8 * x + k) y z) is (index_in v.grid (8 * x + k) y z wide hy hz));
   }
+
+-- how many packed samples a run has
+pub run_count : {T : Type 0} (value : T → ℤ) (packed : List T) (f : Leveled) (x y z : ℕ) → IsRun f x y z (map value packed) → length packed ≡ min 9 (f.grid.nx - x)
+run_count value packed f x y z run = sym (length-map packed value) ∙ run.count
 
 -- the same of a volume at a level
 module _ (f : Leveled) (v : Volume) (level : ℤ) (e : at_level v level ≡ f) (is : IsVolume v) (x y z : ℕ) (hx : 8 * x + 1 < f.grid.nx) (hy : y < f.grid.ny) (hz : z < f.grid.nz)

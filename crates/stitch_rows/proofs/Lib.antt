@@ -10,4 +10,5 @@ pub mod RunFlags
 pub mod StillFlags
 pub mod LoopCases
 pub mod Corners
-pub mod RunRanks
+pub mod EightLanes
+pub mod OneSide

@@ -1,5 +1,5 @@
 -- What is known of the points and the cells of a row of a volume.
-use Rattle.std.specs.Prelude.{◌≡◌, ℕ, ◌+◌, ◌*◌, ◌<◌, ◌≤◌, ℤ, List, cond, length, nat_lt, slice_index}
+use Rattle.std.specs.Prelude.{◌≡◌, ℕ, ◌+◌, ◌*◌, ◌<◌, ◌≤◌, ℤ, List, cond, length, map, nat_lt, slice_index}
 use Rattle.iso_defs.specs.Grid.{index}
 use Rattle.iso_base.specs.Volume.{Volume, sample}
 use Rattle.corner_signs.specs.Rows.{bit_from}
@@ -26,10 +26,10 @@ unfoldable pub run_flags : ℤ → List ℤ → List ℤ → List ℤ → ℕ �
 run_flags least here up far i = flag_of (bit_from least (sample here i)) (bit_right least here i) (bit_from least (sample up i)) (bit_from least (sample far i))
 
 -- the samples of points from x on, and of the next points along y and z
-pub record AreRuns (v : Leveled) (x y z : ℕ) (runs : PointRuns) : Type 0 where
-  pub here : IsRun v x y z runs.here.now
-  pub up : IsRun v x (next_at y v.grid.ny) z runs.up.now
-  pub far : IsRun v x y (next_at z v.grid.nz) runs.far.now
+pub record AreRuns {T : Type 0} (value : T → ℤ) (v : Leveled) (x y z : ℕ) (runs : PointRuns T) : Type 0 where
+  pub here : IsRun v x y z (map value runs.here.now)
+  pub up : IsRun v x (next_at y v.grid.ny) z (map value runs.up.now)
+  pub far : IsRun v x y (next_at z v.grid.nz) (map value runs.far.now)
 
 -- a number of a case that has the loops of a cell
 pub record IsCaseOf (v : Leveled) (q case : ℕ) : Type 0 where
@@ -64,3 +64,8 @@ AreFirst v y z first = (x : ℕ) → x ≤ v.grid.nx → slice_index first x ≡
 -- the numbers from a place on are 0
 abbrev pub AreZerosFrom : ℕ → List ℕ → Type 0
 AreZerosFrom start numbers = (k : ℕ) → start ≤ k → k < length numbers → slice_index numbers k ≡ 0
+
+-- eight numbers, by place
+pub record AreEight (number : ℕ → ℕ) (numbers : List ℕ) : Type 0 where
+  pub count : length numbers ≡ 8
+  pub each : (i : ℕ) → i < 8 → slice_index numbers i ≡ number i

@@ -1,9 +1,11 @@
 //! A volume in bricks at a level: its shifted values, and its active bricks.
-ghost use Rattle.std.specs.Prelude.{◌≡◌, ◌+◌, ◌*◌, ◌<◌, ◌^◌, All, length, unsigned_abs};
+ghost use Rattle.std.specs.Prelude.{◌≡◌, ◌+◌, ◌*◌, ◌<◌, ◌^◌, All, length, map, unsigned_abs};
 ghost use Rattle.iso_defs.specs.Grid.{index};
 ghost use Rattle.iso_base.specs.Samples.{IsSample};
 ghost use Rattle.iso_base.specs.Shifted.{shifted};
 ghost use Rattle.iso_base.specs.Volume.{IsVolume, sample};
+ghost use Rattle.brick_store.specs.Copies.{AreAllCopies};
+ghost use Rattle.packed_samples.specs.Runs.{samples_in};
 ghost use Rattle.flat_mesh.specs.Cases.{values_at};
 ghost use Rattle.flat_mesh.specs.Centres.{IsCellAt};
 ghost use Rattle.flat_mesh.specs.Lattice.{IsLeveled, heights};
@@ -16,18 +18,19 @@ use crate::bricks::BrickRow;
 use brick_store::{BrickId, BrickStore};
 use flat_mesh::{Cell, Heights};
 use iso_base::{Level, Sizes};
+use packed_samples::{Packed, PackedRun};
 use span_tree::SpanTree;
 use std::marker::Model;
 
 /// The shifted value of a copy of a sample.
 #[inline(always)]
-fn copied_height(level: Level, copies: &[i64], place: usize) -> i64
-    requires place { place < length copies.now }
-    requires sample { IsSample (sample copies.now place) }
-    ensures value { result ≡ shifted (sample copies.now place) level }
+fn copied_height(level: Level, copies: &PackedRun<'_>, place: usize) -> i64
+    requires place { place < length (samples_in copies.now) }
+    requires sample { IsSample (sample (samples_in copies.now) place) }
+    ensures value { result ≡ shifted (sample (samples_in copies.now) place) level }
     ensures bound { unsigned_abs result < 2 ^ 44 }
 {
-    level.shifted(copies[place])
+    level.shifted(copies.at(place))
 }
 
 /// A volume in bricks at a level, with the tree that finds its active bricks. Contracts see its grid, its samples and the
@@ -68,21 +71,38 @@ impl<'a> Field<'a> {
         self.store.sizes()
     }
 
-    /// The samples of a row of points that a brick holds: those from 8 * x on, at most nine.
+    /// The samples of the bricks, those of a brick behind those of the brick before it, where they lie in memory.
     #[inline(always)]
-    pub(crate) fn run(&self, row: BrickRow, x: u32, y: u32, z: u32) -> &[i64]
+    pub fn copies(&self) -> PackedRun<'_>
+        ensures { AreAllCopies self.now.grid self.now.samples (samples_in result) }
+    {
+        let _ = self.store.sizes();
+        self.store.copies()
+    }
+
+    /// The samples of a row of points that a brick holds, among those of all bricks: those from 8 * x on, at most nine.
+    #[inline(always)]
+    pub(crate) fn run<'c, T: Packed>(
+        &self,
+        copies: &'c [T],
+        row: BrickRow,
+        x: u32,
+        y: u32,
+        z: u32,
+    ) -> &'c [T]
+        requires copies { AreAllCopies self.now.grid self.now.samples (map T.value copies.now) }
         requires x { 8 * x + 1 < self.now.grid.nx }
         requires y { y < self.now.grid.ny }
         requires z { z < self.now.grid.nz }
         requires row { HoldRow self.now.grid y z row }
-        ensures { IsRun self.now (8 * x) y z result.now }
+        ensures { IsRun self.now (8 * x) y z (map T.value result.now) }
     {
         let _ = (y, z);
         let sizes = self.store.sizes();
-        let copies = self.store.brick(BrickId(row.first + x));
+        let samples = self.store.brick_in(copies, BrickId(row.first + x));
         let start = 9 * (row.y as usize + 9 * row.z as usize);
         let count = (sizes.nx() - 8 * x).min(9) as usize;
-        &copies[start..start + count]
+        &samples[start..start + count]
     }
 
     /// The least active brick from a number on, or a number behind all bricks.
@@ -129,14 +149,14 @@ impl<'a> Heights for Field<'a> {
         let place = (low.x % 8) as usize + 9 * (row.y as usize + 9 * row.z as usize);
         let level = self.level;
         [
-            copied_height(level, copies, place),
-            copied_height(level, copies, place + 1),
-            copied_height(level, copies, place + 9),
-            copied_height(level, copies, place + 10),
-            copied_height(level, copies, place + 81),
-            copied_height(level, copies, place + 82),
-            copied_height(level, copies, place + 90),
-            copied_height(level, copies, place + 91),
+            copied_height(level, &copies, place),
+            copied_height(level, &copies, place + 1),
+            copied_height(level, &copies, place + 9),
+            copied_height(level, &copies, place + 10),
+            copied_height(level, &copies, place + 81),
+            copied_height(level, &copies, place + 82),
+            copied_height(level, &copies, place + 90),
+            copied_height(level, &copies, place + 91),
         ]
     }
 }

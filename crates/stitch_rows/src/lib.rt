@@ -6,6 +6,8 @@ mod active;
 mod bricks;
 mod cases;
 mod field;
+mod flags;
+mod lanes;
 mod named;
 mod points;
 
@@ -15,5 +17,5 @@ pub use cases::case_row;
 pub use field::Field;
 pub use named::CellRows;
 pub use points::{
-    PointRuns, ROW, RankedRow, Rows, are_zeros, flag_row, point_runs, rank_row, rows_at, set_first,
+    PointRuns, ROW, RankedRow, Rows, flag_row, point_runs, rank_row, rows_at, set_first,
 };

@@ -1,20 +1,21 @@
 //! The points of a row: their flags, and the numbers of their crossing edges.
-ghost use Rattle.std.specs.Prelude.{◌≡◌, ℕ, ℤ, ◌+◌, ◌-◌, ◌*◌, ◌<◌, ◌≤◌, ◌^◌, All, IsTrue, cond, int_le, length, min, slice_index, take};
+ghost use Rattle.std.specs.Prelude.{◌≡◌, ℕ, ℤ, ◌+◌, ◌-◌, ◌*◌, ◌<◌, ◌≤◌, ◌^◌, All, IsTrue, int_le, length, map, min, slice_index, take};
 ghost use Rattle.std.specs.List.{sum_by};
 ghost use Rattle.iso_base.specs.Shifted.{is_above_level};
+ghost use Rattle.brick_store.specs.Copies.{AreAllCopies};
 ghost use Rattle.crossing_edges.specs.Flags.{edges_in, flags_from, rank};
 ghost use Rattle.flat_mesh.specs.Lattice.{heights};
 ghost use Rattle.flat_mesh.specs.Rows.{row_start};
-ghost use Rattle.corner_signs.specs.Rows.{bit_from};
-ghost use Rattle.crossing_edges.specs.Signs.{flag_of};
 ghost use Rattle.stitch_rows.specs.Bricks.{AreMarked, HoldRows, first_brick, next_at};
-ghost use Rattle.stitch_rows.specs.Rows.{AreFirst, AreFlags, AreFlagsTo, AreRuns, AreZerosFrom, HasMoreFlags, run_flags};
+ghost use Rattle.stitch_rows.specs.Rows.{AreFirst, AreFlags, AreFlagsTo, AreRuns, AreZerosFrom, HasMoreFlags};
 
 use crate::active::ActiveRow;
 use crate::bricks::{BrickRow, count_along};
 use crate::field::Field;
+use crate::flags::{Flagged, put_flags};
 use flat_mesh::{Heights, rank_points};
 use iso_base::Sizes;
+use packed_samples::{Packed, PackedRun};
 
 /// The most points of a row.
 pub const ROW: usize = 1026;
@@ -29,46 +30,6 @@ pub struct Rows {
     here: BrickRow,
     up: BrickRow,
     far: BrickRow,
-}
-
-/// The flags of a point, from which of its sample and those of the next points are above the level.
-#[inline(always)]
-fn flags_of(here: bool, right: bool, up: bool, far: bool) -> u8
-    ensures { result ≡ flag_of (cond here 1 0) (cond right 1 0) (cond up 1 0) (cond far 1 0) }
-{
-    u8::from(here != right) + 2 * u8::from(here != up) + 4 * u8::from(here != far)
-}
-
-/// Writes the flags of so many points of a run, behind which another one stands.
-#[inline(always)]
-fn flag_front(here: &[i64], up: &[i64], far: &[i64], least: i64, count: usize, out: &mut [u8])
-    requires here { count < length here.now }
-    requires up { length up.now ≡ length here.now }
-    requires far { length far.now ≡ length here.now }
-    requires out { count ≤ length out.old }
-    ensures { (i : ℕ) → i < count → slice_index out.new i ≡ run_flags least here.now up.now far.now i }
-{
-    // The samples are compared without a branch, since those of the next run are fetched meanwhile.
-    let mut above = here[0] >= least;
-    for i in 0..count {
-        let next = here[i + 1] >= least;
-        out[i] = flags_of(above, next, up[i] >= least, far[i] >= least);
-        above = next;
-    }
-}
-
-/// Writes the flags of the points of a run with which a row ends.
-fn flag_run(here: &[i64], up: &[i64], far: &[i64], least: i64, out: &mut [u8])
-    requires some { 0 < length here.now }
-    requires up { length up.now ≡ length here.now }
-    requires far { length far.now ≡ length here.now }
-    requires out { length out.old ≡ length here.now }
-    ensures { (i : ℕ) → i < length here.now → slice_index out.new i ≡ run_flags least here.now up.now far.now i }
-{
-    let last = here.len() - 1;
-    flag_front(here, up, far, least, last, out);
-    let end = here[last] >= least;
-    out[last] = flags_of(end, end, up[last] >= least, far[last] >= least);
 }
 
 /// The next coordinate, or the last one again.
@@ -97,52 +58,50 @@ pub fn rows_at(sizes: &Sizes, y: u32, z: u32) -> Rows
 /// The samples of the points of a row that a brick holds, and those of the next points along y and z, or the points' own again
 /// where there are none.
 #[derive(Clone, Copy)]
-pub struct PointRuns<'a> {
-    pub here: &'a [i64],
-    pub up: &'a [i64],
-    pub far: &'a [i64],
+pub struct PointRuns<'a, T> {
+    pub here: &'a [T],
+    pub up: &'a [T],
+    pub far: &'a [T],
 }
 
 /// The samples of the points of a row that a brick holds, and of the next ones: those from 8 * x on.
 #[inline(always)]
-pub fn point_runs<'f>(field: &'f Field<'_>, rows: Rows, x: u32, y: u32, z: u32) -> PointRuns<'f>
+pub fn point_runs<'c, T: Packed>(
+    field: &Field,
+    copies: &'c [T],
+    rows: Rows,
+    x: u32,
+    y: u32,
+    z: u32,
+) -> PointRuns<'c, T>
+    requires copies { AreAllCopies field.now.grid field.now.samples (map T.value copies.now) }
     requires x { 8 * x + 1 < field.now.grid.nx }
     requires y { y < field.now.grid.ny }
     requires z { z < field.now.grid.nz }
     requires rows { HoldRows field.now.grid y z rows }
-    ensures { AreRuns field.now (8 * x) y z result }
+    ensures { AreRuns T.value field.now (8 * x) y z result }
 {
     let sizes = field.sizes();
     PointRuns {
-        here: field.run(rows.here, x, y, z),
-        up: field.run(rows.up, x, next_along(y, sizes.ny()), z),
-        far: field.run(rows.far, x, y, next_along(z, sizes.nz())),
-    }
-}
-
-/// Writes the flags of a run of points from a place on: of all but the last where the row goes on behind it, since the next brick has
-/// that one too.
-#[inline(always)]
-fn put_flags(here: &[i64], up: &[i64], far: &[i64], least: i64, start: usize, flags: &mut [u8])
-    requires room { start < length flags.old }
-    requires here { length here.now ≡ min 9 (length flags.old - start) }
-    requires up { length up.now ≡ length here.now }
-    requires far { length far.now ≡ length here.now }
-    ensures inside { (i : ℕ) → i < length here.now → (start + 9 < length flags.old → i < 8)
-        → slice_index flags.new (start + i) ≡ run_flags least here.now up.now far.now i }
-    ensures before { (k : ℕ) → k < start → slice_index flags.new k ≡ slice_index flags.old k }
-    ensures behind { start + 9 < length flags.old → (k : ℕ) → start + 8 ≤ k → slice_index flags.new k ≡ slice_index flags.old k }
-{
-    if flags.len() - start > 9 {
-        flag_front(here, up, far, least, 8, &mut flags[start..start + 8]);
-    } else {
-        flag_run(here, up, far, least, &mut flags[start..]);
+        here: field.run(copies, rows.here, x, y, z),
+        up: field.run(copies, rows.up, x, next_along(y, sizes.ny()), z),
+        far: field.run(copies, rows.far, x, y, next_along(z, sizes.nz())),
     }
 }
 
 /// Writes the flags of the points of a row that an active brick holds: those from 8 * x on, where zeros stand.
 #[inline(always)]
-fn active_flags(field: &Field, rows: Rows, least: i64, x: u32, y: u32, z: u32, flags: &mut [u8])
+fn active_flags<T: Flagged>(
+    field: &Field,
+    copies: &[T],
+    rows: Rows,
+    least: i64,
+    x: u32,
+    y: u32,
+    z: u32,
+    flags: &mut [u8],
+)
+    requires copies { AreAllCopies field.now.grid field.now.samples (map T.value copies.now) }
     requires x { 8 * x + 1 < field.now.grid.nx }
     requires y { y < field.now.grid.ny }
     requires z { z < field.now.grid.nz }
@@ -155,7 +114,7 @@ fn active_flags(field: &Field, rows: Rows, least: i64, x: u32, y: u32, z: u32, f
     ensures zeros { 8 * x + 9 < field.now.grid.nx → AreZerosFrom (8 * x + 8) flags.new }
 {
     let _ = field.sizes();
-    let runs = point_runs(field, rows, x, y, z);
+    let runs = point_runs(field, copies, rows, x, y, z);
     let start = 8 * x as usize;
     put_flags(runs.here, runs.up, runs.far, least, start, flags);
 }
@@ -170,8 +129,9 @@ fn put_zeros(flags: &mut [u8])
 /// Writes the flags of the points of a row that a brick holds: those from 8 * x on, where zeros stand. From the points of a brick
 /// that is not active no crossing edge begins, so that the zeros are left.
 #[inline(always)]
-fn brick_flags(
+fn brick_flags<T: Flagged>(
     field: &Field,
+    copies: &[T],
     active: &ActiveRow,
     rows: Rows,
     least: i64,
@@ -180,6 +140,7 @@ fn brick_flags(
     z: u32,
     flags: &mut [u8],
 )
+    requires copies { AreAllCopies field.now.grid field.now.samples (map T.value copies.now) }
     requires active { AreMarked field.now active.now }
     requires first { active.now.first ≡ rows.here.first }
     requires x { 8 * x + 1 < field.now.grid.nx }
@@ -195,7 +156,33 @@ fn brick_flags(
 {
     let _ = field.sizes();
     if active.is_active(x) {
-        active_flags(field, rows, least, x, y, z, flags);
+        active_flags(field, copies, rows, least, x, y, z, flags);
+    }
+}
+
+/// Writes the flags of the points of a row, from the samples of all bricks.
+fn flag_bricks<T: Flagged>(
+    field: &Field,
+    copies: &[T],
+    active: &ActiveRow,
+    y: u32,
+    z: u32,
+    flags: &mut [u8],
+)
+    requires copies { AreAllCopies field.now.grid field.now.samples (map T.value copies.now) }
+    requires active { AreMarked field.now active.now }
+    requires first { active.now.first ≡ first_brick field.now.grid y z }
+    requires y { y < field.now.grid.ny }
+    requires z { z < field.now.grid.nz }
+    requires flags { length flags.old ≡ field.now.grid.nx }
+    ensures { AreFlags field.now y z flags.new }
+{
+    let sizes = field.sizes();
+    let rows = rows_at(&sizes, y, z);
+    let least = field.level().least_above();
+    put_zeros(flags);
+    for x in 0..count_along(sizes.nx()) {
+        brick_flags(field, copies, active, rows, least, x, y, z, flags);
     }
 }
 
@@ -209,12 +196,9 @@ pub fn flag_row(field: &Field, active: &ActiveRow, y: u32, z: u32, flags: &mut [
     ensures each { AreFlags field.now y z flags.new }
     ensures list { flags.new ≡ flags_from field.now.grid (heights field.now) (row_start field.now.grid y z) field.now.grid.nx }
 {
-    let sizes = field.sizes();
-    let rows = rows_at(&sizes, y, z);
-    let least = field.level().least_above();
-    put_zeros(flags);
-    for x in 0..count_along(sizes.nx()) {
-        brick_flags(field, active, rows, least, x, y, z, flags);
+    match field.copies() {
+        PackedRun::Bytes(copies) => flag_bricks(field, copies, active, y, z, flags),
+        PackedRun::Numbers(copies) => flag_bricks(field, copies, active, y, z, flags),
     }
 }
 
@@ -230,70 +214,6 @@ fn set_flags(field: &Field, active: &ActiveRow, y: u32, z: u32, flags: &mut [u8;
     flag_row(field, active, y, z, &mut flags[..nx]);
 }
 
-/// Whether no flag is set. Eight flags are looked at as one number.
-#[inline(always)]
-pub fn are_zeros(flags: &[u8]) -> bool
-    ensures { IsTrue result → All (λ f. f ≡ 0) flags.now }
-{
-    if flags.len() != 8 {
-        return flags.iter().all(|f| *f == 0);
-    }
-    u64::from_le_bytes([
-        flags[0], flags[1], flags[2], flags[3], flags[4], flags[5], flags[6], flags[7],
-    ]) == 0
-}
-
-/// Writes a number throughout.
-fn put_same(number: u32, first: &mut [u32])
-    ensures { (i : ℕ) → i < length first.new → slice_index first.new i ≡ number }
-{
-    first.fill(number);
-}
-
-/// Writes the numbers of the first crossing edges of some points, and behind them that of the next point.
-#[inline(always)]
-fn rank_some(flags: &[u8], before: u32, first: &mut [u32])
-    requires flags { All (λ f. f < 8) flags.now }
-    requires lengths { length first.old ≡ length flags.now + 1 }
-    requires room { before + 3 * length flags.now < 2 ^ 32 }
-    ensures { (i : ℕ) → i ≤ length flags.now → slice_index first.new i ≡ before + sum_by edges_in (take i flags.now) }
-{
-    if are_zeros(flags) {
-        put_same(before, first);
-        return;
-    }
-    rank_points(flags, before, first);
-}
-
-/// The same of those from a place to before an end, where the numbers of the earlier ones are written.
-#[inline(always)]
-fn rank_part(flags: &[u8], before: u32, at: usize, end: usize, first: &mut [u32])
-    requires at { at ≤ end }
-    requires end { end ≤ length flags.now }
-    requires flags { All (λ f. f < 8) flags.now }
-    requires lengths { length first.old ≡ length flags.now + 1 }
-    requires room { before + 3 * length flags.now < 2 ^ 32 }
-    requires ranked { (i : ℕ) → i ≤ at → slice_index first.old i ≡ before + sum_by edges_in (take i flags.now) }
-    ensures { (i : ℕ) → i ≤ end → slice_index first.new i ≡ before + sum_by edges_in (take i flags.now) }
-{
-    rank_some(&flags[at..end], first[at], &mut first[at..end + 1]);
-}
-
-/// The same of all points of a row, eight at a time.
-fn rank_eights(flags: &[u8], before: u32, first: &mut [u32])
-    requires flags { All (λ f. f < 8) flags.now }
-    requires lengths { length first.old ≡ length flags.now + 1 }
-    requires room { before + 3 * length flags.now < 2 ^ 32 }
-    ensures { (i : ℕ) → i ≤ length flags.now → slice_index first.new i ≡ before + sum_by edges_in (take i flags.now) }
-{
-    let eights = flags.len() / 8;
-    first[0] = before;
-    for k in 0..eights {
-        rank_part(flags, before, 8 * k, 8 * k + 8, first);
-    }
-    rank_part(flags, before, 8 * eights, flags.len(), first);
-}
-
 /// Writes the numbers of the first crossing edges of the points of a row, and behind them that of the next row.
 fn rank_run<H: Heights>(field: &H, y: u32, z: u32, before: u32, flags: &[u8], first: &mut [u32])
     requires y { y < (H.leveled field.now).grid.ny }
@@ -305,7 +225,7 @@ fn rank_run<H: Heights>(field: &H, y: u32, z: u32, before: u32, flags: &[u8], fi
     ensures { AreFirst (H.leveled field.now) y z first.new }
 {
     let _ = field.sizes();
-    rank_eights(flags, before, first);
+    rank_points(flags, before, first);
 }
 
 /// Writes the same at the front of a buffer.

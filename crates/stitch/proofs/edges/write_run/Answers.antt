@@ -6,6 +6,7 @@ use Rattle.crossing_edges.specs.Flags.{flags_at}
 use Rattle.flat_mesh.specs.Lattice.{heights}
 use Rattle.flat_mesh.specs.Rows.{row_start}
 use Rattle.stitch_rows.specs.Rows.{AreRuns}
+use Rattle.stitch_rows.proofs.Heights.{run_count}
 use Rattle.stitch.specs.Spans.{edge_line, edges_text}
 use Rattle.stitch.proofs.Adding.{adds_as, adds_none}
 use Rattle.stitch.proofs.EdgeLines.{edges_zeros}
@@ -13,18 +14,18 @@ use Rattle.stitch.proofs.EdgeRuns.{end_fits, zeros_in}
 use Rattle.stitch.proofs.SpanLaws.{run_failed, run_more, run_none}
 use Rattle.stitch.proofs.edges.write_run.Goals as goal
 
-pub slice_bounds-are_zeros-end : goal.slice_bounds-are_zeros-end
-slice_bounds-are_zeros-end g c = let f = end_fits c.args.field.now.grid c.args.x c.args.end c.requires.x c.requires.end in omega (arith, f.to, c.requires.count)
+pub eight_begin_none-requires-clause-order : goal.eight_begin_none-requires-clause-order
+eight_begin_none-requires-clause-order g c = let f = end_fits c.args.field.now.grid c.args.x c.args.end c.requires.x c.requires.end in omega (arith, f.from)
 
-pub slice_bounds-are_zeros-start : goal.slice_bounds-are_zeros-start
-slice_bounds-are_zeros-start g c = let f = end_fits c.args.field.now.grid c.args.x c.args.end c.requires.x c.requires.end in omega (arith, f.from, f.to, c.requires.count)
+pub eight_begin_none-requires-clause-end : goal.eight_begin_none-requires-clause-end
+eight_begin_none-requires-clause-end g c = let f = end_fits c.args.field.now.grid c.args.x c.args.end c.requires.x c.requires.end in omega (arith, f.to, c.requires.count)
 
-pub returns-then-are_zeros-clause-adds : goal.returns-then-are_zeros-clause-adds
-returns-then-are_zeros-clause-adds g c =
+pub returns-then-eight_begin_none-clause-adds : goal.returns-then-eight_begin_none-clause-adds
+returns-then-eight_begin_none-clause-adds g c =
     let v = c.args.field.now in
     let f = end_fits v.grid c.args.x c.args.end c.requires.x c.requires.end in
     adds_as _ _ _ _ _ _ _ (sym (edges_zeros c.args.style.format c.args.style.padded v (row_start v.grid c.args.y c.args.z + 8 * c.args.x) (c.args.end - 8 * c.args.x)
-    (zeros_in v c.args.y c.args.z (8 * c.args.x) c.args.end c.args.flags.now c.requires.count f.to c.requires.flags (c.are_zeros.ensures c.if-are_zeros.true))))
+    (zeros_in v c.args.y c.args.z (8 * c.args.x) c.args.end c.args.flags.now f.to c.requires.flags (c.eight_begin_none.ensures c.if-eight_begin_none.true))))
     (adds_none _ c.args.block.now tt)
 
 pub loop-at-init : goal.loop-at-init
@@ -42,12 +43,12 @@ pub write_point-requires-clause-runs : goal.write_point-requires-clause-runs
 write_point-requires-clause-runs g c =
     let v = c.args.field.now in
     let e : 8 * c.args.x ≡ c.loop-at.at - (c.loop-at.at - 8 * c.args.x) = omega arith in
-    subst (λ n. AreRuns v n c.args.y c.args.z c.point_runs-runs.result) e c.point_runs-runs.ensures
+    subst (λ n. AreRuns g.T.Packed.value v n c.args.y c.args.z c.point_runs-runs.result) e c.point_runs-runs.ensures
 
 pub write_point-requires-clause-k : goal.write_point-requires-clause-k
 write_point-requires-clause-k g c =
     let f = end_fits c.args.field.now.grid c.args.x c.args.end c.requires.x c.requires.end in
-    omega (arith, f.from, f.to, f.few, c.loop-at-test.true, c.point_runs-runs.ensures.here.count)
+    omega (arith, f.from, f.to, f.few, c.loop-at-test.true, run_count _ _ _ _ _ _ c.point_runs-runs.ensures.here)
 
 pub write_point-requires-clause-flags : goal.write_point-requires-clause-flags
 write_point-requires-clause-flags g c =
@@ -60,7 +61,7 @@ write_point-requires-clause-flags g c =
 pub write_point-requires-clause-next : goal.write_point-requires-clause-next
 write_point-requires-clause-next g c = λ more.
     let f = end_fits c.args.field.now.grid c.args.x c.args.end c.requires.x c.requires.end in
-    omega (arith, f.next c.loop-at.at c.loop-at-test.true more, more, c.loop-at.auto.at, c.point_runs-runs.ensures.here.count)
+    omega (arith, f.next c.loop-at.at c.loop-at-test.true more, more, c.loop-at.auto.at, run_count _ _ _ _ _ _ c.point_runs-runs.ensures.here)
 
 pub returns-in_err-write_point-clause-adds : goal.returns-in_err-write_point-clause-adds
 returns-in_err-write_point-clause-adds g c =

@@ -1,29 +1,35 @@
-use Rattle.std.proofs.Common.{◌≡◌, ◌-◌, ◌*◌, ◌∙◌, rules, w64, to_z, of_z, ap, min, arith, refl}
+use Rattle.std.proofs.Common.{◌≡◌, ◌-◌, ◌*◌, ◌∙◌, rules, ℤ, List, map, w64, to_z, of_z, ap, min, arith, refl}
 use Rattle.std.specs.Prelude.{int_le}
 use Rattle.std.proofs.lemmas.Int.{to_z-of_z}
+use Rattle.std.proofs.lemmas.List.{length-map}
 use Rattle.stitch_rows.proofs.FlagRows.{flags_more}
+use Rattle.stitch_rows.proofs.Heights.{run_count}
 use Rattle.stitch_rows.proofs.points.active_flags.Goals as goal
 
 pub put_flags-requires-clause-here : goal.put_flags-requires-clause-here
-put_flags-requires-clause-here c = omega (arith, c.point_runs-runs.ensures.here.count, c.requires.flags)
+put_flags-requires-clause-here g c = omega (arith, run_count _ _ _ _ _ _ c.point_runs-runs.ensures.here, c.requires.flags)
 
 pub put_flags-requires-clause-up : goal.put_flags-requires-clause-up
-put_flags-requires-clause-up c = omega (arith, c.point_runs-runs.ensures.here.count, c.point_runs-runs.ensures.up.count)
+put_flags-requires-clause-up g c = omega (arith, run_count _ _ _ _ _ _ c.point_runs-runs.ensures.here, run_count _ _ _ _ _ _ c.point_runs-runs.ensures.up)
 
 pub put_flags-requires-clause-far : goal.put_flags-requires-clause-far
-put_flags-requires-clause-far c = omega (arith, c.point_runs-runs.ensures.here.count, c.point_runs-runs.ensures.far.count)
+put_flags-requires-clause-far g c = omega (arith, run_count _ _ _ _ _ _ c.point_runs-runs.ensures.here, run_count _ _ _ _ _ _ c.point_runs-runs.ensures.far)
 
 pub returns-clause-flags : goal.returns-clause-flags
-returns-clause-flags c =
+returns-clause-flags g c =
     let v = c.args.field.now in
     let runs = c.point_runs-runs.result in
+    let here : List ℤ = map g.T.Packed.value runs.here.now in
+    let up : List ℤ = map g.T.Packed.value runs.up.now in
+    let far : List ℤ = map g.T.Packed.value runs.far.now in
     let e : to_z w64 (of_z w64 c.args.least) ≡ c.args.least = search (rules, to_z-of_z) in
     flags_more v c.sizes.ensures.leveled c.args.y c.args.z c.requires.y c.requires.z c.args.x (min 9 (v.grid.nx - 8 * c.args.x))
-    (to_z w64 (of_z w64 c.args.least)) runs.here.now runs.up.now runs.far.now c.args.flags.now c.put_flags.new.flags c.requires.x refl
+    (to_z w64 (of_z w64 c.args.least)) here up far c.args.flags.now c.put_flags.new.flags c.requires.x refl
     c.point_runs-runs.ensures.here c.point_runs-runs.ensures.up c.point_runs-runs.ensures.far
     (λ s. ap (λ l. int_le l s) e ∙ c.requires.least s)
-    (λ i low near. c.put_flags.ensures.inside i low (λ wider. near (omega (arith, wider, c.requires.flags)))) c.put_flags.ensures.before c.requires.before
+    (λ i low near. c.put_flags.ensures.inside i (omega (arith, low, length-map runs.here.now g.T.Packed.value)) (λ wider. near (omega (arith, wider, c.requires.flags))))
+    c.put_flags.ensures.before c.requires.before
 
 pub returns-clause-zeros : goal.returns-clause-zeros
-returns-clause-zeros c = λ wider k from low.
+returns-clause-zeros g c = λ wider k from low.
     c.put_flags.ensures.behind (omega (arith, wider, c.requires.flags)) k (omega (arith, from)) ∙ c.requires.zeros k (omega (arith, from)) (omega (arith, low))

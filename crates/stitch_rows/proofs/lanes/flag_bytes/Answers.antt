@@ -1,0 +1,10 @@
+use Rattle.std.proofs.Common.{map, pos, arith}
+use Rattle.std.proofs.lemmas.List.{length-map}
+use Rattle.stitch_rows.proofs.EightLanes.{flags_are}
+use Rattle.stitch_rows.proofs.lanes.flag_bytes.Goals as goal
+
+pub returns : goal.returns
+returns c =
+    flags_are (pos c.args.least) (map pos c.args.here.now) (map pos c.args.up.now) (map pos c.args.far.now) _ _ _ _ _ _ _ c.args.out.now
+    (omega (arith, length-map c.args.here.now pos)) c.requires.out c.signs_at-signs.ensures c.signs_at.ensures c.signs_at-2.ensures c.signs_at-3.ensures
+    c.where_apart-right.ensures c.where_apart-up.ensures c.where_apart-far.ensures
