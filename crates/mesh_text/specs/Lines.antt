@@ -1,8 +1,9 @@
 -- Lines of mesh texts.
-use Rattle.std.specs.Prelude.{ℕ, List, ◌∷◌, ◌++◌, codes, decimal, ℤ, pos, slice_index_or}
-use Rattle.iso_defs.specs.Texts.{line, decimal_text, numbers_text, vertex_head, face_head}
+use Rattle.std.specs.Prelude.{ℕ, ◌+◌, ◌*◌, List, ◌∷◌, ◌++◌, codes, decimal, ℤ, pos, slice_index, slice_index_or}
+use Rattle.iso_defs.specs.Texts.{line, decimal_text, thousandths, numbers_text, vertex_head, face_head}
 use Rattle.iso_base.specs.Triangles.{triangle_of}
 use Rattle.iso_base.specs.declared.decimal.Thousandth.{Thousandth}
+use Rattle.mesh_text.specs.declared.split.Split.{Split}
 
 -- the coordinate along an axis
 abbrev pub along : List Thousandth → ℕ → ℤ
@@ -15,6 +16,14 @@ coordinates_text x y z = decimal_text x ++ 32 ∷ (decimal_text y ++ 32 ∷ deci
 -- the line of a vertex in PLY
 abbrev pub ply_vertex_line : List Thousandth → List ℕ
 ply_vertex_line at = line (coordinates_text (along at 0) (along at 1) (along at 2))
+
+-- the coordinate along an axis of a point whose coordinates are split, in thousandths
+abbrev pub joined : Split → ℕ → ℕ
+joined at axis = 1000 * slice_index at.whole axis + slice_index at.rest axis
+
+-- its line in PLY
+abbrev pub point_line : Split → List ℕ
+point_line at = line (thousandths (joined at 0) ++ 32 ∷ (thousandths (joined at 1) ++ 32 ∷ thousandths (joined at 2)))
 
 -- the line of a vertex in OBJ
 abbrev pub obj_vertex_line : List Thousandth → List ℕ

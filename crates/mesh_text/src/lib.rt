@@ -12,6 +12,7 @@ mod lines;
 mod number;
 mod obj;
 mod ply;
+mod split;
 
 pub use counted::Counted;
 pub use digits::Digits;
@@ -23,3 +24,4 @@ pub use lines::Lines;
 pub use number::Number;
 pub use obj::{obj_face_text, obj_vertex_text, put_obj_face, put_obj_vertex};
 pub use ply::{ply_face_text, ply_vertex_text, put_ply_face, put_ply_vertex};
+pub use split::Split;

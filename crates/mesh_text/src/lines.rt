@@ -1,11 +1,12 @@
-ghost use Rattle.std.specs.Prelude.{◌≡◌, ◌+◌, ◌<◌, ◌≤◌, ◌^◌, ◌++◌, [], IsTrue, length, decimal, unsigned_abs};
-ghost use Rattle.mesh_text.specs.Lines.{along, letter_line, obj_face_line, obj_vertex_line, ply_face_line, ply_vertex_line};
+ghost use Rattle.std.specs.Prelude.{◌≡◌, ◌+◌, ◌<◌, ◌≤◌, ◌^◌, ◌++◌, [], All, IsTrue, length, decimal, unsigned_abs};
+ghost use Rattle.mesh_text.specs.Lines.{along, letter_line, obj_face_line, obj_vertex_line, ply_face_line, ply_vertex_line, point_line};
 
 use crate::digits::put_letter;
-use crate::fours::Fours;
+use crate::fours::{Fours, put_point_line};
 use crate::number::{Number, put_line};
 use crate::obj::{write_obj_face, write_obj_vertex};
 use crate::ply::{write_ply_face, write_ply_vertex};
+use crate::split::Split;
 use iso_base::Thousandth;
 use std::marker::Model;
 
@@ -87,6 +88,18 @@ impl Lines {
         ensures few { length self.new ≤ length self.old + 64 }
     {
         self.end = write_ply_vertex(&self.digits, vertex, &mut self.bytes, self.end);
+    }
+
+    /// The same of a point whose coordinates are split: none is below zero or has more than four digits before its point.
+    #[inline(always)]
+    pub fn push_ply_point(&mut self, point: &Split)
+        requires whole { All (λ n. n < 10000) point.now.whole }
+        requires rest { All (λ n. n < 1000) point.now.rest }
+        requires room { length self.old + 64 ≤ 4096 }
+        ensures line { self.new ≡ self.old ++ point_line point.now }
+        ensures few { length self.new ≤ length self.old + 64 }
+    {
+        self.end = put_point_line(&self.digits, point, &mut self.bytes, self.end);
     }
 
     /// Puts the line of a vertex in OBJ behind the others.

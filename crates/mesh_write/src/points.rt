@@ -3,35 +3,16 @@
 ghost use Rattle.std.specs.Prelude.{◌≡◌, ◌+◌, ◌*◌, ◌<◌, ◌≤◌, ◌^◌, ◌++◌, length, slice_index, unsigned_abs, pos, [], IfOk, All};
 ghost use Rattle.iso_defs.specs.Grid.{name_bound};
 ghost use Rattle.iso_io.specs.Seen.{Puts, Stages};
-ghost use Rattle.mesh_text.specs.Lines.{along, points_head};
+ghost use Rattle.mesh_text.specs.Lines.{points_head};
 ghost use Rattle.mesh_write.specs.Walk.{IsRow};
 ghost use Rattle.mesh_write.specs.Edges.{ArePlaced, placed_line, placed_lines};
 
 use crate::gathered::{make_room, put_gathered};
 use crate::walk::{Row, position_from};
 use crossing_edges::EdgeVertices;
-use iso_base::{Sizes, Thousandth};
+use iso_base::Sizes;
 use iso_io::{Failed, Sink, write_all_of};
 use mesh_text::{Lines, points_head_text};
-
-fn coordinate(at: &[u32; 3], axis: usize) -> Thousandth
-    requires { axis < 3 }
-    ensures value { result.0 ≡ pos (slice_index at.now axis) }
-    ensures bound { unsigned_abs result.0 < 2 ^ 44 }
-{
-    Thousandth(i64::from(at[axis]))
-}
-
-fn thousandths(at: &[u32; 3]) -> [Thousandth; 3]
-    ensures x { along result 0 ≡ pos (slice_index at.now 0) }
-    ensures y { along result 1 ≡ pos (slice_index at.now 1) }
-    ensures z { along result 2 ≡ pos (slice_index at.now 2) }
-    ensures x_bound { unsigned_abs (along result 0) < 2 ^ 44 }
-    ensures y_bound { unsigned_abs (along result 1) < 2 ^ 44 }
-    ensures z_bound { unsigned_abs (along result 2) < 2 ^ 44 }
-{
-    [coordinate(at, 0), coordinate(at, 1), coordinate(at, 2)]
-}
 
 /// Puts the line of a vertex behind those that are gathered.
 #[inline(always)]
@@ -45,7 +26,7 @@ fn gather_vertex(sizes: &Sizes, row: &mut Row, name: u32, place: u16, lines: &mu
     ensures line { lines.new ≡ lines.old ++ placed_line sizes.now name place }
 {
     let at = position_from(sizes, row, name, place);
-    lines.push_ply_vertex(&thousandths(&at));
+    lines.push_ply_point(&at);
 }
 
 /// Puts the line of a vertex behind those that are gathered and wait.

@@ -1,12 +1,14 @@
 //! A walk over the points of a grid, row by row.
 
-ghost use Rattle.std.specs.Prelude.{◌≡◌, ◌+◌, ◌*◌, ◌<◌, ◌≤◌, slice_index};
+ghost use Rattle.std.specs.Prelude.{◌≡◌, ◌+◌, ◌*◌, ◌<◌, ◌≤◌, All};
 ghost use Rattle.iso_defs.specs.Grid.{name_bound, point_count};
 ghost use Rattle.iso_base.specs.Points.{IsPoint, point_at};
 ghost use Rattle.crossing_edges.specs.Flags.{placed};
+ghost use Rattle.mesh_text.specs.Lines.{joined};
 ghost use Rattle.mesh_write.specs.Walk.{IsRow};
 
 use iso_base::{Point, Sizes, point_of};
+use mesh_text::Split;
 
 /// A lattice row along x: the index of its first point, and where the row is.
 #[derive(Clone, Copy)]
@@ -78,22 +80,29 @@ fn point_in(sizes: &Sizes, row: &Row, index: u32) -> Point
     }
 }
 
-/// Where a vertex is in thousandths of a voxel, from its edge's name and its place on the edge. `row` is the row of the
-/// vertex before it, and then its own.
+/// Where a vertex is, from its edge's name and its place on the edge. `row` is the row of the vertex before it, and then its
+/// own.
 #[inline(always)]
-pub fn position_from(sizes: &Sizes, row: &mut Row, name: u32, place: u16) -> [u32; 3]
+pub fn position_from(sizes: &Sizes, row: &mut Row, name: u32, place: u16) -> Split
     requires row { IsRow sizes.now row.old }
     requires name { name < name_bound sizes.now }
     requires place { place ≤ 1000 }
     ensures row { IsRow sizes.now row.new }
-    ensures x { slice_index result 0 ≡ placed sizes.now name place 0 }
-    ensures y { slice_index result 1 ≡ placed sizes.now name place 1 }
-    ensures z { slice_index result 2 ≡ placed sizes.now name place 2 }
+    ensures x { joined result 0 ≡ placed sizes.now name place 0 }
+    ensures y { joined result 1 ≡ placed sizes.now name place 1 }
+    ensures z { joined result 2 ≡ placed sizes.now name place 2 }
+    ensures whole { All (λ n. n < 10000) result.whole }
+    ensures rest { All (λ n. n < 1000) result.rest }
 {
     let _ = sizes.nx();
     *row = row_from(sizes, row, name / 3);
     let point = point_in(sizes, row, name / 3);
-    let mut at = [1000 * point.x, 1000 * point.y, 1000 * point.z];
-    at[(name % 3) as usize] += u32::from(place);
+    let axis = (name % 3) as usize;
+    let mut at = Split {
+        whole: [point.x, point.y, point.z],
+        rest: [0, 0, 0],
+    };
+    at.whole[axis] += u32::from(place) / 1000;
+    at.rest[axis] = u32::from(place) % 1000;
     at
 }

@@ -1,4 +1,4 @@
-use Rattle.std.proofs.Common.{rules, ℕ, ◌<◌, length, arith}
+use Rattle.std.proofs.Common.{rules, arith}
 use Rattle.mesh_text.proofs.Tables.{counts_more}
 use Rattle.mesh_text.proofs.fours.write_counts.Goals as goal
 

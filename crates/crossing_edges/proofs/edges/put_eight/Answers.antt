@@ -1,14 +1,14 @@
-use Rattle.std.proofs.Common.{length}
+use Rattle.std.proofs.Common.{length, take}
 use Rattle.iso_base.specs.Shifted.{field}
 use Rattle.crossing_edges.proofs.FlagParts.{no_names, no_places, none_of_eight, nothing_put}
-use Rattle.crossing_edges.proofs.edges.add_eight.Goals as goal
+use Rattle.crossing_edges.proofs.edges.put_eight.Goals as goal
 
 pub returns-then-begin_none-clause-names : goal.returns-then-begin_none-clause-names
 returns-then-begin_none-clause-names g c =
     let grid = c.args.sizes.now in
     let s = field (g.S.SampleList.list c.args.samples.now) c.args.level in
     let n = length c.args.flags.now in
-    nothing_put c.args.edges.now.names.items _ (no_names grid s c.args.start n
+    nothing_put (take c.args.at c.args.names.now) _ (no_names grid s c.args.start n
     (none_of_eight grid s c.args.start n c.args.flags.now c.requires.flags c.requires.eight (c.begin_none.ensures.0 c.if-begin_none.true)))
 
 pub returns-then-begin_none-clause-places : goal.returns-then-begin_none-clause-places
@@ -16,5 +16,5 @@ returns-then-begin_none-clause-places g c =
     let grid = c.args.sizes.now in
     let s = field (g.S.SampleList.list c.args.samples.now) c.args.level in
     let n = length c.args.flags.now in
-    nothing_put c.args.edges.now.places.items _ (no_places grid s c.args.start n
+    nothing_put (take c.args.at c.args.places.now) _ (no_places grid s c.args.start n
     (none_of_eight grid s c.args.start n c.args.flags.now c.requires.flags c.requires.eight (c.begin_none.ensures.0 c.if-begin_none.true)))
