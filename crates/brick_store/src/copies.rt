@@ -7,7 +7,7 @@ ghost use Rattle.iso_defs.specs.Bricks.{brick_count, brick_point, in_brick};
 ghost use Rattle.iso_base.specs.Points.{IsPoint, index_of};
 ghost use Rattle.iso_base.specs.Volume.{sample};
 ghost use Rattle.brick_store.specs.Holding.{holds_point, row_length};
-ghost use Rattle.brick_store.specs.Copies.{AreCopies, AreCopiesOf, copy_place, home_place, own_place, row_rest, samples_of};
+ghost use Rattle.brick_store.specs.Copies.{AreCopies, AreCopiesOf, copy_place, home_place, own_place, samples_of};
 
 use crate::numbering::{self, BrickId};
 use iso_base::{CellName, Point, Sizes, point_of};
@@ -95,20 +95,6 @@ pub fn row<'a>(sizes: &Sizes, copies: &'a [i64], brick: BrickId, y: u8, z: u8) -
     let length = numbering::row_length(sizes, brick) as usize;
     let start = copy_place(brick, 0, u32::from(y), u32::from(z));
     &copies[start..start + length]
-}
-
-/// The copies from a point on along x, as far as the first brick that holds it has them.
-#[tactic(auto, using(crate::proofs::Standing::few_bricks))]
-#[inline(always)]
-pub fn row_from<'a>(sizes: &Sizes, copies: &'a [i64], p: Point) -> &'a [i64]
-    requires copies { AreCopies sizes.now copies.now }
-    requires point { IsPoint sizes.now p }
-    ensures { result.now ≡ map (λ x. sample (samples_of sizes.now copies.now) (index_of sizes.now p + x)) (below (row_rest sizes.now p)) }
-{
-    let points = sizes.nx();
-    let end = points.min(8 * numbering::home(p.x) + 9);
-    let start = home_place(sizes, p);
-    &copies[start..start + (end - p.x) as usize]
 }
 
 /// Writes the copy of a point in one brick that holds it.
