@@ -15,3 +15,5 @@ pub mod PartWriting
 pub mod BoxVolumes
 pub mod Taking
 pub mod Lending
+pub mod Fitting
+pub mod Keeping

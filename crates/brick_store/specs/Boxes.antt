@@ -59,10 +59,14 @@ abbrev pub AreAsMany : Area → Values → Type 0
 AreAsMany a (One value) = Unit {0}
 AreAsMany a (Each values) = length values.now ≡ area_count a
 
+-- all of them are what there is room for
+abbrev pub AreFitting : (ℤ → Type 0) → Values → Type 0
+AreFitting Fits (One value) = Fits value
+AreFitting Fits (Each values) = All Fits values.now
+
 -- all of them are of the kind
 abbrev pub AreOfKind : SampleKind → Values → Type 0
-AreOfKind kind (One value) = IsOfKind kind value
-AreOfKind kind (Each values) = All (IsOfKind kind) values.now
+AreOfKind kind values = AreFitting (IsOfKind kind) values
 
 -- the samples with those of a box replaced
 abbrev pub boxed : Grid → Area → Values → List ℤ → List ℤ

@@ -5,3 +5,4 @@ pub mod Next
 pub mod Rows
 pub mod Boxes
 pub mod Parts
+pub mod Kept

@@ -1,17 +1,18 @@
 //! Samples of a box, written brick by brick: each brick that holds a point of it is written once.
-ghost use Rattle.std.specs.Prelude.{◌≡◌, ◌+◌, ◌-◌, ◌*◌, ◌^◌, ◌<◌, ◌≤◌, min, drop, length, replicate, take};
+ghost use Rattle.std.specs.Prelude.{◌≡◌, ◌+◌, ◌-◌, ◌*◌, ◌^◌, ◌<◌, ◌≤◌, All, min, length, replicate};
 ghost use Rattle.iso_defs.specs.Bricks.{brick_count, brick_start, bricks_along};
 ghost use Rattle.iso_base.specs.Points.{IsPoint, index_of};
 ghost use Rattle.voxel_list.specs.Areas.{IsArea, area_count};
 ghost use Rattle.brick_store.specs.Copies.{AreCopies, home, samples_of};
 ghost use Rattle.brick_store.specs.Rows.{brick_zone};
-ghost use Rattle.packed_samples.specs.Runs.{row_set};
-ghost use Rattle.brick_store.specs.Boxes.{ArePartWritten, AreBoxWritten, AreAsMany, IsPartOf, area_place, boxed, box_layer, box_line, one_layer, one_row};
+ghost use Rattle.brick_store.specs.Boxes.{ArePartWritten, AreBoxWritten, AreAsMany, IsPartOf, AreFitting};
+ghost use Rattle.brick_store.specs.Boxes.{area_place, boxed, box_layer, box_line, one_layer, one_row};
 ghost use Rattle.brick_store.specs.Parts.{AreRowsPut, HasRows, IsPart};
 
 use crate::copies::copy_place;
 use crate::numbering::{BrickId, brick_at, first_point, home, row_end};
 use iso_base::{Point, Sizes};
+use packed_samples::PackedList;
 use voxel_list::FillBox;
 
 /// What the points of a box become: all one value, or each its own, in the order of their indices.
@@ -96,21 +97,6 @@ fn nine(value: &i64) -> [i64; 9]
     [*value; 9]
 }
 
-/// Copies so many values from a place on over the copies from a place on. Nine of them, as many as a whole row has, are
-/// copied without a call.
-#[inline(always)]
-pub(crate) fn put(copies: &mut [i64], start: usize, values: &[i64], from: usize, count: usize)
-    requires room { start + count ≤ length copies.old }
-    requires there { from + count ≤ length values.now }
-    ensures { copies.new ≡ row_set start (take count (drop from values.now)) copies.old }
-{
-    if count == 9 {
-        copies[start..start + 9].copy_from_slice(&values[from..from + 9]);
-    } else {
-        copies[start..start + count].copy_from_slice(&values[from..from + count]);
-    }
-}
-
 /// Rows of values for the points of a part: from which place on the first one stands, and how many places further the row of the
 /// next y and that of the next z begin.
 #[derive(Clone, Copy)]
@@ -123,33 +109,42 @@ struct Source<'a> {
 
 /// Writes a row of a part of a brick.
 #[inline(always)]
-fn write_row(copies: &mut [i64], brick: BrickId, part: &Part, source: Source, y: u32, z: u32)
+fn write_row<C: PackedList>(
+    copies: &mut C,
+    brick: BrickId,
+    part: &Part,
+    source: Source,
+    y: u32,
+    z: u32,
+)
     requires few { brick.0 < 2 ^ 22 }
-    requires room { 729 * brick.0 + 729 ≤ length copies.old }
+    requires room { 729 * brick.0 + 729 ≤ length (C.list copies.old) }
     requires part { IsPart part.now }
     requires rows { HasRows part.now source }
+    requires fits { All C.Fits source.values.now }
     requires y_from { part.now.y ≤ y }
     requires y_to { y < part.now.y_end }
     requires z_from { part.now.z ≤ z }
     requires z_to { z < part.now.z_end }
-    ensures { AreRowsPut brick.0 part.now source.entry (one_row part.now y z) copies.old copies.new }
+    ensures { AreRowsPut brick.0 part.now source.entry (one_row part.now y z) (C.list copies.old) (C.list copies.new) }
 {
     let start = copy_place(brick, part.x, y, z);
     let count = (part.x_end - part.x) as usize;
     let before = (z - part.z) as usize * source.layer;
     let from = source.from + (y - part.y) as usize * source.row + before;
-    put(copies, start, source.values, from, count);
+    copies.put(start, source.values, from, count);
 }
 
 /// Writes the rows of a layer of a part across z.
-fn write_rows(copies: &mut [i64], brick: BrickId, part: &Part, source: Source, z: u32)
+fn write_rows<C: PackedList>(copies: &mut C, brick: BrickId, part: &Part, source: Source, z: u32)
     requires few { brick.0 < 2 ^ 22 }
-    requires room { 729 * brick.0 + 729 ≤ length copies.old }
+    requires room { 729 * brick.0 + 729 ≤ length (C.list copies.old) }
     requires part { IsPart part.now }
     requires rows { HasRows part.now source }
+    requires fits { All C.Fits source.values.now }
     requires z_from { part.now.z ≤ z }
     requires z_to { z < part.now.z_end }
-    ensures { AreRowsPut brick.0 part.now source.entry (one_layer part.now z) copies.old copies.new }
+    ensures { AreRowsPut brick.0 part.now source.entry (one_layer part.now z) (C.list copies.old) (C.list copies.new) }
 {
     for y in part.y..part.y_end {
         write_row(copies, brick, part, source, y, z);
@@ -157,12 +152,13 @@ fn write_rows(copies: &mut [i64], brick: BrickId, part: &Part, source: Source, z
 }
 
 /// Writes the rows of a part of a brick.
-fn write_part(copies: &mut [i64], brick: BrickId, part: &Part, source: Source)
+fn write_part<C: PackedList>(copies: &mut C, brick: BrickId, part: &Part, source: Source)
     requires few { brick.0 < 2 ^ 22 }
-    requires room { 729 * brick.0 + 729 ≤ length copies.old }
+    requires room { 729 * brick.0 + 729 ≤ length (C.list copies.old) }
     requires part { IsPart part.now }
     requires rows { HasRows part.now source }
-    ensures { AreRowsPut brick.0 part.now source.entry part.now copies.old copies.new }
+    requires fits { All C.Fits source.values.now }
+    ensures { AreRowsPut brick.0 part.now source.entry part.now (C.list copies.old) (C.list copies.new) }
 {
     for z in part.z..part.z_end {
         write_rows(copies, brick, part, source, z);
@@ -171,18 +167,19 @@ fn write_part(copies: &mut [i64], brick: BrickId, part: &Part, source: Source)
 
 /// Writes one value as the copies of the points of a box in a brick.
 #[tactic(auto, using(crate::proofs::Standing::few_bricks))]
-fn write_one(
+fn write_one<C: PackedList>(
     sizes: &Sizes,
-    copies: &mut [i64],
+    copies: &mut C,
     area: &FillBox,
     value: i64,
     brick: BrickId,
     part: &Part,
 )
-    requires count { length copies.old ≡ 729 * brick_count sizes.now }
+    requires count { length (C.list copies.old) ≡ 729 * brick_count sizes.now }
     requires brick { brick.0 < brick_count sizes.now }
+    requires fits { C.Fits value }
     requires part { IsPartOf sizes.now area.now brick.0 part.now }
-    ensures { ArePartWritten sizes.now area.now (Values.One value) brick.0 part.now copies.old copies.new }
+    ensures { ArePartWritten sizes.now area.now (Values.One value) brick.0 part.now (C.list copies.old) (C.list copies.new) }
 {
     let _ = sizes.nx();
     let row = nine(&value);
@@ -197,20 +194,21 @@ fn write_one(
 
 /// Writes the values of a box, in the order of their indices, as the copies of its points in a brick.
 #[tactic(auto, using(crate::proofs::Standing::few_bricks))]
-fn write_each(
+fn write_each<C: PackedList>(
     sizes: &Sizes,
-    copies: &mut [i64],
+    copies: &mut C,
     area: &FillBox,
     values: &[i64],
     brick: BrickId,
     part: &Part,
 )
-    requires count { length copies.old ≡ 729 * brick_count sizes.now }
+    requires count { length (C.list copies.old) ≡ 729 * brick_count sizes.now }
     requires brick { brick.0 < brick_count sizes.now }
     requires high { IsPoint sizes.now area.now.high }
     requires values { length values.now ≡ area_count area.now }
+    requires fits { All C.Fits values.now }
     requires part { IsPartOf sizes.now area.now brick.0 part.now }
-    ensures { ArePartWritten sizes.now area.now (Values.Each values.entry) brick.0 part.now copies.old copies.new }
+    ensures { ArePartWritten sizes.now area.now (Values.Each values.entry) brick.0 part.now (C.list copies.old) (C.list copies.new) }
 {
     let (low, high) = (area.low(), area.high());
     let first = first_point(sizes, brick);
@@ -232,18 +230,19 @@ fn write_each(
 }
 
 /// Writes the copies of the points of a box in the brick that stands so many bricks along x, y and z.
-fn write_brick(
+fn write_brick<C: PackedList>(
     sizes: &Sizes,
-    copies: &mut [i64],
+    copies: &mut C,
     area: &FillBox,
     values: Values,
     x: u32,
     y: u32,
     z: u32,
 )
-    requires count { length copies.old ≡ 729 * brick_count sizes.now }
+    requires count { length (C.list copies.old) ≡ 729 * brick_count sizes.now }
     requires high { IsPoint sizes.now area.now.high }
     requires values { AreAsMany area.now values }
+    requires fits { AreFitting C.Fits values }
     requires x { x < bricks_along sizes.now 0 }
     requires y { y < bricks_along sizes.now 1 }
     requires z { z < bricks_along sizes.now 2 }
@@ -253,7 +252,7 @@ fn write_brick(
     requires y_to { 8 * y ≤ area.now.high.y }
     requires z_from { area.now.low.z ≤ 8 * z + 8 }
     requires z_to { 8 * z ≤ area.now.high.z }
-    ensures { AreBoxWritten sizes.now area.now values.entry (brick_zone x y z) copies.old copies.new }
+    ensures { AreBoxWritten sizes.now area.now values.entry (brick_zone x y z) (C.list copies.old) (C.list copies.new) }
 {
     let brick = brick_at(sizes, x, y, z);
     let part = part_in(sizes, area, brick);
@@ -264,17 +263,25 @@ fn write_brick(
 }
 
 /// Writes the copies of the points of a box in the bricks of a line along x.
-fn write_line(sizes: &Sizes, copies: &mut [i64], area: &FillBox, values: Values, y: u32, z: u32)
-    requires count { length copies.old ≡ 729 * brick_count sizes.now }
+fn write_line<C: PackedList>(
+    sizes: &Sizes,
+    copies: &mut C,
+    area: &FillBox,
+    values: Values,
+    y: u32,
+    z: u32,
+)
+    requires count { length (C.list copies.old) ≡ 729 * brick_count sizes.now }
     requires high { IsPoint sizes.now area.now.high }
     requires values { AreAsMany area.now values }
+    requires fits { AreFitting C.Fits values }
     requires y { y < bricks_along sizes.now 1 }
     requires z { z < bricks_along sizes.now 2 }
     requires y_from { area.now.low.y ≤ 8 * y + 8 }
     requires y_to { 8 * y ≤ area.now.high.y }
     requires z_from { area.now.low.z ≤ 8 * z + 8 }
     requires z_to { 8 * z ≤ area.now.high.z }
-    ensures { AreBoxWritten sizes.now area.now values.entry (box_line sizes.now area.now y z) copies.old copies.new }
+    ensures { AreBoxWritten sizes.now area.now values.entry (box_line sizes.now area.now y z) (C.list copies.old) (C.list copies.new) }
 {
     let first = home(area.low().x);
     let end = row_end(sizes.nx(), area.high().x + 1);
@@ -284,14 +291,15 @@ fn write_line(sizes: &Sizes, copies: &mut [i64], area: &FillBox, values: Values,
 }
 
 /// Writes the copies of the points of a box in the bricks of a layer across z.
-fn write_layer(sizes: &Sizes, copies: &mut [i64], area: &FillBox, values: Values, z: u32)
-    requires count { length copies.old ≡ 729 * brick_count sizes.now }
+fn write_layer<C: PackedList>(sizes: &Sizes, copies: &mut C, area: &FillBox, values: Values, z: u32)
+    requires count { length (C.list copies.old) ≡ 729 * brick_count sizes.now }
     requires high { IsPoint sizes.now area.now.high }
     requires values { AreAsMany area.now values }
+    requires fits { AreFitting C.Fits values }
     requires z { z < bricks_along sizes.now 2 }
     requires z_from { area.now.low.z ≤ 8 * z + 8 }
     requires z_to { 8 * z ≤ area.now.high.z }
-    ensures { AreBoxWritten sizes.now area.now values.entry (box_layer sizes.now area.now z) copies.old copies.new }
+    ensures { AreBoxWritten sizes.now area.now values.entry (box_layer sizes.now area.now z) (C.list copies.old) (C.list copies.new) }
 {
     let first = home(area.low().y);
     let end = row_end(sizes.ny(), area.high().y + 1);
@@ -301,12 +309,13 @@ fn write_layer(sizes: &Sizes, copies: &mut [i64], area: &FillBox, values: Values
 }
 
 /// Writes the samples of the points of a box in each brick that holds them.
-pub fn write_box(sizes: &Sizes, copies: &mut [i64], area: &FillBox, values: Values)
-    requires copies { AreCopies sizes.now copies.old }
+pub fn write_box<C: PackedList>(sizes: &Sizes, copies: &mut C, area: &FillBox, values: Values)
+    requires copies { AreCopies sizes.now (C.list copies.old) }
     requires high { IsPoint sizes.now area.now.high }
     requires values { AreAsMany area.now values }
-    ensures copies { AreCopies sizes.now copies.new }
-    ensures samples { samples_of sizes.now copies.new ≡ boxed sizes.now area.now values.entry (samples_of sizes.now copies.old) }
+    requires fits { AreFitting C.Fits values }
+    ensures copies { AreCopies sizes.now (C.list copies.new) }
+    ensures samples { samples_of sizes.now (C.list copies.new) ≡ boxed sizes.now area.now values.entry (samples_of sizes.now (C.list copies.old)) }
 {
     let first = home(area.low().z);
     let end = row_end(sizes.nz(), area.high().z + 1);

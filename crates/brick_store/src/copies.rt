@@ -1,16 +1,17 @@
 //! The copies of samples that the bricks keep, in one list: 729 for each brick, x fastest.
-ghost use Rattle.std.specs.Prelude.{◌≡◌, ℕ, ◌+◌, ◌-◌, ◌*◌, ◌/◌, ◌%◌, ◌<◌, ◌≤◌, ◌^◌, ℤ, All, length, map, slice_set, true};
+ghost use Rattle.std.specs.Prelude.{◌≡◌, ◌+◌, ◌*◌, ◌/◌, ◌%◌, ◌<◌, ◌^◌, length, map, slice_set, true};
 ghost use Rattle.iso_defs.specs.Lists.{below};
 ghost use Rattle.iso_defs.specs.Grid.{is_cell, point_count};
 ghost use Rattle.iso_defs.specs.Cell.{cell_values};
-ghost use Rattle.iso_defs.specs.Bricks.{brick_count, brick_point, in_brick};
+ghost use Rattle.iso_defs.specs.Bricks.{brick_count};
 ghost use Rattle.iso_base.specs.Points.{IsPoint, index_of};
 ghost use Rattle.iso_base.specs.Volume.{sample};
-ghost use Rattle.brick_store.specs.Holding.{holds_point, row_length};
-ghost use Rattle.brick_store.specs.Copies.{AreCopies, AreCopiesOf, copy_place, home_place, own_place, row_rest, samples_of};
+ghost use Rattle.brick_store.specs.Holding.{holds_point};
+ghost use Rattle.brick_store.specs.Copies.{AreCopies, copy_place, home_place, own_place, samples_of};
 
 use crate::numbering::{self, BrickId};
 use iso_base::{CellName, Point, Sizes, point_of};
+use packed_samples::PackedList;
 
 /// The place of the copy at these offsets in a brick.
 pub fn copy_place(brick: BrickId, x: u32, y: u32, z: u32) -> usize
@@ -40,96 +41,70 @@ pub fn home_place(sizes: &Sizes, p: Point) -> usize
     copy_place(brick, p.x - 8 * x, p.y - 8 * y, p.z - 8 * z)
 }
 
+/// The sample of a point: its copy in the first brick that holds it.
+#[inline(always)]
+pub fn get<C: PackedList>(sizes: &Sizes, copies: &C, p: Point) -> i64
+    requires copies { AreCopies sizes.now (C.list copies.now) }
+    requires point { IsPoint sizes.now p }
+    ensures { result ≡ sample (samples_of sizes.now (C.list copies.now)) (index_of sizes.now p) }
+{
+    copies.at(home_place(sizes, p))
+}
+
 /// The samples at the corners of a cell whose lowest copy is at this place.
-fn corners_from(copies: &[i64], low: usize) -> [i64; 8]
-    requires { low + 91 < length copies.now }
-    ensures { result ≡ map (λ c. sample copies.now (low + (c % 2 + 9 * (c / 2 % 2 + 9 * (c / 4))))) (below 8) }
+#[inline(always)]
+fn corners_from<C: PackedList>(copies: &C, low: usize) -> [i64; 8]
+    requires few { low < 2 ^ 32 }
+    requires there { low + 91 < length (C.list copies.now) }
+    ensures { result ≡ map (λ c. sample (C.list copies.now) (low + (c % 2 + 9 * (c / 2 % 2 + 9 * (c / 4))))) (below 8) }
 {
     [
-        copies[low],
-        copies[low + 1],
-        copies[low + 9],
-        copies[low + 10],
-        copies[low + 81],
-        copies[low + 82],
-        copies[low + 90],
-        copies[low + 91],
+        copies.at(low),
+        copies.at(low + 1),
+        copies.at(low + 9),
+        copies.at(low + 10),
+        copies.at(low + 81),
+        copies.at(low + 82),
+        copies.at(low + 90),
+        copies.at(low + 91),
     ]
 }
 
 /// The samples at the corners of a cell, by corner: all in the brick that has the cell.
 #[tactic(auto, using(crate::proofs::Standing::few_bricks))]
-pub fn cell_values(sizes: &Sizes, copies: &[i64], cell: CellName) -> [i64; 8]
-    requires copies { AreCopies sizes.now copies.now }
+pub fn cell_values<C: PackedList>(sizes: &Sizes, copies: &C, cell: CellName) -> [i64; 8]
+    requires copies { AreCopies sizes.now (C.list copies.now) }
     requires index { cell.0 < point_count sizes.now }
     requires cell { is_cell sizes.now cell.0 ≡ true }
-    ensures { result ≡ cell_values sizes.now (sample (samples_of sizes.now copies.now)) cell.0 }
+    ensures { result ≡ cell_values sizes.now (sample (samples_of sizes.now (C.list copies.now))) cell.0 }
 {
     let low = point_of(sizes, cell.0);
     let brick = numbering::brick_of(sizes, cell);
     corners_from(copies, copy_place(brick, low.x % 8, low.y % 8, low.z % 8))
 }
 
-/// The copies of a brick.
-#[tactic(auto, using(crate::proofs::Standing::few_bricks))]
-pub fn brick<'a>(sizes: &Sizes, copies: &'a [i64], brick: BrickId) -> &'a [i64]
-    requires copies { AreCopies sizes.now copies.now }
-    requires brick { brick.0 < brick_count sizes.now }
-    ensures { AreCopiesOf sizes.now (samples_of sizes.now copies.now) brick.0 result.now }
-{
-    let _ = sizes.nx();
-    let start = copy_place(brick, 0, 0, 0);
-    &copies[start..start + 729]
-}
-
-/// The copies of a row of a brick.
-#[tactic(auto, using(crate::proofs::Standing::few_bricks))]
-pub fn row<'a>(sizes: &Sizes, copies: &'a [i64], brick: BrickId, y: u8, z: u8) -> &'a [i64]
-    requires copies { AreCopies sizes.now copies.now }
-    requires brick { brick.0 < brick_count sizes.now }
-    requires y { y < 9 }
-    requires z { z < 9 }
-    requires inside { in_brick sizes.now brick.0 0 y z ≡ true }
-    ensures { result.now ≡ map (λ x. sample (samples_of sizes.now copies.now) (brick_point sizes.now brick.0 x y z)) (below (row_length sizes.now brick.0)) }
-{
-    let length = numbering::row_length(sizes, brick) as usize;
-    let start = copy_place(brick, 0, u32::from(y), u32::from(z));
-    &copies[start..start + length]
-}
-
-/// The copies from a point on along x, as far as the first brick that holds it has them.
-#[tactic(auto, using(crate::proofs::Standing::few_bricks))]
-#[inline(always)]
-pub fn row_from<'a>(sizes: &Sizes, copies: &'a [i64], p: Point) -> &'a [i64]
-    requires copies { AreCopies sizes.now copies.now }
-    requires point { IsPoint sizes.now p }
-    ensures { result.now ≡ map (λ x. sample (samples_of sizes.now copies.now) (index_of sizes.now p + x)) (below (row_rest sizes.now p)) }
-{
-    let points = sizes.nx();
-    let end = points.min(8 * numbering::home(p.x) + 9);
-    let start = home_place(sizes, p);
-    &copies[start..start + (end - p.x) as usize]
-}
-
 /// Writes the copy of a point in one brick that holds it.
 #[tactic(auto, using(crate::proofs::Standing::few_bricks))]
-fn write_copy(sizes: &Sizes, copies: &mut [i64], brick: BrickId, p: Point, value: i64)
-    requires count { length copies.old ≡ 729 * brick_count sizes.now }
+fn write_copy<C: PackedList>(sizes: &Sizes, copies: &mut C, brick: BrickId, p: Point, value: i64)
+    requires count { length (C.list copies.old) ≡ 729 * brick_count sizes.now }
     requires brick { brick.0 < brick_count sizes.now }
     requires holds { holds_point sizes.now p brick.0 ≡ true }
-    ensures { copies.new ≡ slice_set copies.old (own_place sizes.now p brick.0) value }
+    requires fits { C.Fits value }
+    ensures { C.list copies.new ≡ slice_set (C.list copies.old) (own_place sizes.now p brick.0) value }
 {
     let _ = sizes.nx();
     let first = numbering::first_point(sizes, brick);
-    copies[copy_place(brick, p.x - first.x, p.y - first.y, p.z - first.z)] = value;
+    let place = copy_place(brick, p.x - first.x, p.y - first.y, p.z - first.z);
+    copies.set(place, value);
 }
 
 /// Writes the copy of a point in each brick that holds it.
-pub fn set(sizes: &Sizes, copies: &mut [i64], p: Point, value: i64)
-    requires copies { AreCopies sizes.now copies.old }
+pub fn set<C: PackedList>(sizes: &Sizes, copies: &mut C, p: Point, value: i64)
+    requires copies { AreCopies sizes.now (C.list copies.old) }
     requires point { IsPoint sizes.now p }
-    ensures copies { AreCopies sizes.now copies.new }
-    ensures samples { samples_of sizes.now copies.new ≡ slice_set (samples_of sizes.now copies.old) (index_of sizes.now p) value }
+    requires fits { C.Fits value }
+    ensures copies { AreCopies sizes.now (C.list copies.new) }
+    ensures samples { samples_of sizes.now (C.list copies.new) ≡ slice_set (samples_of sizes.now (C.list copies.old)) (index_of sizes.now p) value }
 {
     let _ = sizes.nx();
     let held = numbering::bricks_holding(sizes, p);

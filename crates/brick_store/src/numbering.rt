@@ -9,7 +9,7 @@ ghost use Rattle.iso_base.specs.Points.{IsPoint};
 ghost use Rattle.iso_base.specs.Sizing.{IsGrid};
 ghost use Rattle.brick_store.specs.Copies.{home};
 ghost use Rattle.brick_store.specs.Rows.{reach_end};
-ghost use Rattle.brick_store.specs.Holding.{IsCellOf, brick_at, brick_of, first_holding, local_of, points_along, reaches, row_length};
+ghost use Rattle.brick_store.specs.Holding.{IsCellOf, brick_at, brick_of, first_holding, local_of, points_along, reaches};
 
 use arrayvec::ArrayVec;
 use iso_base::{CellName, Point, Sizes, point_of};
@@ -78,15 +78,6 @@ pub fn first_point(sizes: &Sizes, brick: BrickId) -> Point
         y: 8 * (row % along_y),
         z: 8 * (brick.0 / (along_x * along_y)),
     }
-}
-
-/// How many points a brick has along x, at most nine.
-pub fn row_length(sizes: &Sizes, brick: BrickId) -> u32
-    requires { brick.0 < brick_count sizes.now }
-    ensures value { result ≡ row_length sizes.now brick.0 }
-    ensures grid { IsGrid sizes.now }
-{
-    (sizes.nx() - 8 * (brick.0 % bricks_along(sizes.nx()))).min(9)
 }
 
 /// How many points a brick has along x, y and z, at most nine along each.

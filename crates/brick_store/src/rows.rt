@@ -1,5 +1,5 @@
 //! Samples of a row, along x, written in each brick that holds them.
-ghost use Rattle.std.specs.Prelude.{◌≡◌, ◌+◌, ◌*◌, ◌<◌, ◌≤◌, length};
+ghost use Rattle.std.specs.Prelude.{◌≡◌, ◌+◌, ◌*◌, ◌<◌, ◌≤◌, All, length};
 ghost use Rattle.iso_defs.specs.Bricks.{brick_count, bricks_along};
 ghost use Rattle.iso_base.specs.Points.{IsPoint, index_of};
 ghost use Rattle.brick_store.specs.Copies.{AreCopies, home, samples_of};
@@ -9,30 +9,32 @@ ghost use Rattle.packed_samples.specs.Runs.{row_set};
 use crate::copies::copy_place;
 use crate::numbering::{brick_at, home, reaching, row_end};
 use iso_base::{Point, Sizes};
+use packed_samples::PackedList;
 
 /// Writes the copies that one brick has of the samples of a row from a point on.
 #[tactic(auto, using(crate::proofs::Standing::few_bricks))]
-fn write_in_brick(
+fn write_in_brick<C: PackedList>(
     sizes: &Sizes,
-    copies: &mut [i64],
+    copies: &mut C,
     x: u32,
     y: u32,
     z: u32,
     p: Point,
     values: &[i64],
 )
-    requires count { length copies.old ≡ 729 * brick_count sizes.now }
+    requires count { length (C.list copies.old) ≡ 729 * brick_count sizes.now }
     requires x { x < bricks_along sizes.now 0 }
     requires y { y < bricks_along sizes.now 1 }
     requires z { z < bricks_along sizes.now 2 }
-    requires fits { p.x + length values.now ≤ sizes.now.nx }
+    requires inside { p.x + length values.now ≤ sizes.now.nx }
+    requires fits { All C.Fits values.now }
     requires x_from { p.x ≤ 8 * x + 8 }
     requires x_to { 8 * x < p.x + length values.now }
     requires y_from { 8 * y ≤ p.y }
     requires y_to { p.y ≤ 8 * y + 8 }
     requires z_from { 8 * z ≤ p.z }
     requires z_to { p.z ≤ 8 * z + 8 }
-    ensures { AreRowWritten sizes.now p values.now (brick_zone x y z) copies.old copies.new }
+    ensures { AreRowWritten sizes.now p values.now (brick_zone x y z) (C.list copies.old) (C.list copies.new) }
 {
     let _ = sizes.nx();
     let from = p.x.max(8 * x);
@@ -41,21 +43,29 @@ fn write_in_brick(
     let start = copy_place(brick, from - 8 * x, p.y - 8 * y, p.z - 8 * z);
     let first = (from - p.x) as usize;
     let count = (end - from) as usize;
-    copies[start..start + count].copy_from_slice(&values[first..first + count]);
+    copies.put(start, values, first, count);
 }
 
 /// Writes the copies of a row in the bricks of a line along x.
-fn write_line(sizes: &Sizes, copies: &mut [i64], y: u32, z: u32, p: Point, values: &[i64])
-    requires count { length copies.old ≡ 729 * brick_count sizes.now }
+fn write_line<C: PackedList>(
+    sizes: &Sizes,
+    copies: &mut C,
+    y: u32,
+    z: u32,
+    p: Point,
+    values: &[i64],
+)
+    requires count { length (C.list copies.old) ≡ 729 * brick_count sizes.now }
     requires y { y < bricks_along sizes.now 1 }
     requires z { z < bricks_along sizes.now 2 }
     requires some { 0 < length values.now }
-    requires fits { p.x + length values.now ≤ sizes.now.nx }
+    requires inside { p.x + length values.now ≤ sizes.now.nx }
+    requires fits { All C.Fits values.now }
     requires y_from { 8 * y ≤ p.y }
     requires y_to { p.y ≤ 8 * y + 8 }
     requires z_from { 8 * z ≤ p.z }
     requires z_to { p.z ≤ 8 * z + 8 }
-    ensures { AreRowWritten sizes.now p values.now (line_zone sizes.now p (length values.now) y z) copies.old copies.new }
+    ensures { AreRowWritten sizes.now p values.now (line_zone sizes.now p (length values.now) y z) (C.list copies.old) (C.list copies.new) }
 {
     let first = home(p.x);
     let end = row_end(sizes.nx(), p.x + values.len() as u32);
@@ -65,15 +75,16 @@ fn write_line(sizes: &Sizes, copies: &mut [i64], y: u32, z: u32, p: Point, value
 }
 
 /// Writes the copies of a row in the bricks of a layer across z.
-fn write_layer(sizes: &Sizes, copies: &mut [i64], z: u32, p: Point, values: &[i64])
-    requires count { length copies.old ≡ 729 * brick_count sizes.now }
+fn write_layer<C: PackedList>(sizes: &Sizes, copies: &mut C, z: u32, p: Point, values: &[i64])
+    requires count { length (C.list copies.old) ≡ 729 * brick_count sizes.now }
     requires point { IsPoint sizes.now p }
     requires z { z < bricks_along sizes.now 2 }
     requires some { 0 < length values.now }
-    requires fits { p.x + length values.now ≤ sizes.now.nx }
+    requires inside { p.x + length values.now ≤ sizes.now.nx }
+    requires fits { All C.Fits values.now }
     requires z_from { 8 * z ≤ p.z }
     requires z_to { p.z ≤ 8 * z + 8 }
-    ensures { AreRowWritten sizes.now p values.now (layer_zone sizes.now p (length values.now) z) copies.old copies.new }
+    ensures { AreRowWritten sizes.now p values.now (layer_zone sizes.now p (length values.now) z) (C.list copies.old) (C.list copies.new) }
 {
     let (first, end) = reaching(sizes.ny(), p.y);
     for y in first..end {
@@ -82,13 +93,14 @@ fn write_layer(sizes: &Sizes, copies: &mut [i64], z: u32, p: Point, values: &[i6
 }
 
 /// Writes the samples of a row from a point on in each brick that holds them.
-pub fn write_row(sizes: &Sizes, copies: &mut [i64], p: Point, values: &[i64])
-    requires copies { AreCopies sizes.now copies.old }
+pub fn write_row<C: PackedList>(sizes: &Sizes, copies: &mut C, p: Point, values: &[i64])
+    requires copies { AreCopies sizes.now (C.list copies.old) }
     requires point { IsPoint sizes.now p }
     requires some { 0 < length values.now }
-    requires fits { p.x + length values.now ≤ sizes.now.nx }
-    ensures copies { AreCopies sizes.now copies.new }
-    ensures samples { samples_of sizes.now copies.new ≡ row_set (index_of sizes.now p) values.now (samples_of sizes.now copies.old) }
+    requires inside { p.x + length values.now ≤ sizes.now.nx }
+    requires fits { All C.Fits values.now }
+    ensures copies { AreCopies sizes.now (C.list copies.new) }
+    ensures samples { samples_of sizes.now (C.list copies.new) ≡ row_set (index_of sizes.now p) values.now (samples_of sizes.now (C.list copies.old)) }
 {
     let (first, end) = reaching(sizes.nz(), p.z);
     for z in first..end {

@@ -14,8 +14,9 @@ ghost use Rattle.packed_samples.specs.Runs.{row_set, samples_in};
 ghost use Rattle.brick_store.specs.Boxes.{AreAsMany, AreOfKind, IsInnerArea, boxed};
 
 use crate::boxes::Values;
+use crate::kept::Kept;
 use crate::numbering::{self, BrickId};
-use crate::{boxes, copies, filling, flat, rows, taken};
+use crate::{boxes, copies, flat, rows, taken};
 use arrayvec::ArrayVec;
 use iso_base::{CellName, Memory, Point, SampleKind, Sizes};
 use packed_samples::{Packed, PackedRun, SampleRuns};
@@ -23,25 +24,27 @@ use std::alloc::Global;
 use std::marker::Model;
 use voxel_list::{FillBox, VoxelList};
 
-/// A volume in bricks of 8x8x8 cells, in the order of their numbers. Each has 729 samples of its own, eight bytes each:
-/// those at the corners of its cells, and zeros behind the end of the grid. Contracts see a store as the volume that it stands for.
+/// A volume in bricks of 8x8x8 cells, in the order of their numbers. Each has 729 samples of its own: those at the corners of its
+/// cells, and zeros behind the end of the grid. They are kept in a byte each where the volume is of kind uint8 and its pad, if it has
+/// one, lies from 0 to 255, and otherwise in eight bytes each. Contracts see a store as the volume that it stands for.
 #[derive(Debug, Drop)]
 pub struct BrickStore {
     sizes: Sizes,
     kind: SampleKind,
     pad: Option<i64>,
-    copies: Vec<i64>,
+    copies: Kept,
 }
 
 impl Model for BrickStore {
     ghost use Rattle.iso_base.specs.Volume.{Volume};
-    ghost use Rattle.brick_store.specs.Copies.{AreBricks, volume_of};
+    ghost use Rattle.brick_store.specs.Copies.{volume_of};
+    ghost use Rattle.brick_store.specs.Kept.{IsStored, copies_in};
 
     ghost Value = { Volume };
 
-    ghost view = { λ s. volume_of s.sizes s.kind s.pad s.copies.items };
+    ghost view = { λ s. volume_of s.sizes s.kind s.pad (copies_in s.copies) };
 
-    ghost invariant = { λ s. AreBricks s.sizes s.kind s.pad s.copies.items };
+    ghost invariant = { λ s. IsStored s.sizes s.kind s.pad s.copies };
 }
 
 impl BrickStore {
@@ -65,7 +68,7 @@ impl BrickStore {
         requires { IsVolume (record { grid = sizes; kind = kind; pad = pad; samples = S.list samples.now }) }
         ensures { IfOk result (λ b. b ≡ record { grid = sizes; kind = kind; pad = pad; samples = S.list samples.now }) }
     {
-        let copies = filling::all_copies(alloc, &sizes, samples)?;
+        let copies = Kept::of_samples(alloc, &sizes, kind, pad, samples)?;
         Ok(BrickStore {
             sizes,
             kind,
@@ -111,7 +114,10 @@ impl BrickStore {
         ensures value { result ≡ sample self.now.samples (index_of self.now.grid p) }
         ensures range { IsSample result }
     {
-        self.copies[copies::home_place(&self.sizes, p)]
+        match &self.copies {
+            Kept::Bytes(bytes) => copies::get(&self.sizes, bytes, p),
+            Kept::Numbers(numbers) => copies::get(&self.sizes, numbers, p),
+        }
     }
 
     /// Replaces the sample of a point of the stored grid in each brick that holds it:
@@ -122,7 +128,10 @@ impl BrickStore {
         requires kind { IsInner self.old (index_of self.old.grid p) → IsOfKind self.old.kind value }
         ensures { self.new ≡ record self.old { samples = slice_set self.old.samples (index_of self.old.grid p) value } }
     {
-        copies::set(&self.sizes, &mut self.copies, p, value);
+        match &mut self.copies {
+            Kept::Bytes(bytes) => copies::set(&self.sizes, bytes, p, value),
+            Kept::Numbers(numbers) => copies::set(&self.sizes, numbers, p, value),
+        }
     }
 
     /// Replaces samples of a row, along x from a point of the stored grid on, in each brick that holds them.
@@ -135,7 +144,10 @@ impl BrickStore {
         requires kind { All (IsOfKind self.old.kind) values.now }
         ensures { self.new ≡ record self.old { samples = row_set (index_of self.old.grid p) values.now self.old.samples } }
     {
-        rows::write_row(&self.sizes, &mut self.copies, p, values);
+        match &mut self.copies {
+            Kept::Bytes(bytes) => rows::write_row(&self.sizes, bytes, p, values),
+            Kept::Numbers(numbers) => rows::write_row(&self.sizes, numbers, p, values),
+        }
     }
 
     /// Replaces the samples of a box of the stored grid, which holds no pad: each brick that holds a point of it is written once.
@@ -148,7 +160,10 @@ impl BrickStore {
         ensures { self.new ≡ record self.old { samples = boxed self.old.grid area.now values.entry self.old.samples } }
     {
         let _ = area.low();
-        boxes::write_box(&self.sizes, &mut self.copies, area, values);
+        match &mut self.copies {
+            Kept::Bytes(bytes) => boxes::write_box(&self.sizes, bytes, area, values),
+            Kept::Numbers(numbers) => boxes::write_box(&self.sizes, numbers, area, values),
+        }
     }
 
     /// The samples at the corners of a cell, by corner: corner c lies c % 2 points on along x, c / 2 % 2 along y and c / 4 along z.
@@ -158,7 +173,10 @@ impl BrickStore {
         ensures value { result ≡ cell_values self.now.grid (sample self.now.samples) cell.0 }
         ensures range { All IsSample result }
     {
-        copies::cell_values(&self.sizes, &self.copies, cell)
+        match &self.copies {
+            Kept::Bytes(bytes) => copies::cell_values(&self.sizes, bytes, cell),
+            Kept::Numbers(numbers) => copies::cell_values(&self.sizes, numbers, cell),
+        }
     }
 
     /// The brick that has a cell: each cell is in one brick.
@@ -204,7 +222,7 @@ impl BrickStore {
         ensures { AreAllCopies self.now.grid self.now.samples (samples_in result) }
     {
         let _ = self.sizes.nx();
-        PackedRun::Numbers(&self.copies)
+        self.copies.lent()
     }
 
     /// The copies of a brick among those of all, nine along each axis with x fastest and z slowest: of each of its points that
@@ -227,7 +245,7 @@ impl BrickStore {
         requires { brick.0 < brick_count self.now.grid }
         ensures { AreCopiesOf self.now.grid self.now.samples brick.0 (samples_in result) }
     {
-        PackedRun::Numbers(copies::brick(&self.sizes, &self.copies, brick))
+        self.copies().part(729 * brick.0 as usize, 729)
     }
 
     /// Copies the samples from a point of the stored grid on, along x, so many as there is room for.
@@ -236,14 +254,20 @@ impl BrickStore {
         requires fits { p.x + length into.old ≤ self.now.grid.nx }
         ensures { into.new ≡ map (λ d. sample self.now.samples (index_of self.now.grid p + d)) (below (length into.old)) }
     {
-        taken::copy_row(&self.sizes, &self.copies, p, into);
+        match &self.copies {
+            Kept::Bytes(bytes) => taken::copy_row(&self.sizes, bytes, p, into),
+            Kept::Numbers(numbers) => taken::copy_row(&self.sizes, numbers, p, into),
+        }
     }
 
     /// The volume as one list of samples. The store stays.
     pub fn flat(&self, alloc: Global) -> Result<VoxelList, Memory>
         ensures { IfOk result (λ v. v ≡ self.now) }
     {
-        let samples = flat::all_samples(alloc, &self.sizes, &self.copies)?;
+        let samples = match &self.copies {
+            Kept::Bytes(bytes) => flat::all_samples(alloc, &self.sizes, bytes)?,
+            Kept::Numbers(numbers) => flat::all_samples(alloc, &self.sizes, numbers)?,
+        };
         Ok(VoxelList::new(self.sizes, self.kind, self.pad, samples))
     }
 }

@@ -5,4 +5,4 @@ use Rattle.brick_store.specs.Boxes.{AreBoxWritten}
 use Rattle.brick_store.proofs.boxes.write_box.Given as goal
 
 abbrev pub invariant-loop-z : goal.invariant-loop-z
-invariant-loop-z l = AreBoxWritten l.sizes l.area l.values (record { x = home l.area.low.x; x_end = reach_end l.sizes.nx (l.area.high.x + 1); y = home l.area.low.y; y_end = reach_end l.sizes.ny (l.area.high.y + 1); z = home l.area.low.z; z_end = l.z }) l.fn.copies l.copies
+invariant-loop-z g l = AreBoxWritten l.sizes l.area l.values (record { x = home l.area.low.x; x_end = reach_end l.sizes.nx (l.area.high.x + 1); y = home l.area.low.y; y_end = reach_end l.sizes.ny (l.area.high.y + 1); z = home l.area.low.z; z_end = l.z }) (g.C.PackedList.list l.fn.copies) (g.C.PackedList.list l.copies)

@@ -8,12 +8,24 @@ use Rattle.brick_store.proofs.PartWriting.{each_has_rows, each_value_of, part_wr
 use Rattle.brick_store.proofs.boxes.write_each.Goals as goal
 use Rattle.brick_store.proofs.boxes.write_each.Goals.{After-place_in-from}
 
-box : (c : After-place_in-from) → IsBox c.args.sizes.now c.args.area.now
-box c = record { area = c.place_in-from.ensures.area; high = c.requires.high }
+-- the first point of the part is one of the box
+pub place_in-from-requires-clause-point : goal.place_in-from-requires-clause-point
+place_in-from-requires-clause-point g c =
+    let part = c.args.part.now in
+    let is = c.requires.part in
+    let first = c.first_point-first.ensures in
+    let of = is.each part.x part.y part.z (omega arith) is.x_order (omega arith) is.y_order (omega arith) is.z_order in record {
+      x = omega (arith, of.x_to, first.x, c.requires.high.x);
+      y = omega (arith, of.y_to, first.y, c.requires.high.y);
+      z = omega (arith, of.z_to, first.z, c.requires.high.z);
+    }
+
+box : (g : _) (c : After-place_in-from g) → IsBox c.args.sizes.now c.args.area.now
+box g c = record { area = c.place_in-from.ensures.area; high = c.requires.high }
 
 -- the rows of values that are put into the brick
-source : After-place_in-from → Source
-source c = record {
+source : (g : _) → After-place_in-from g → Source
+source g c = record {
   values = c.args.values;
   from = c.place_in-from.result;
   row = c.high-high.result.x - c.low-low.result.x + 1;
@@ -21,26 +33,26 @@ source c = record {
 }
 
 -- where the first of them begins
-from_is : (c : After-place_in-from)
+from_is : (g : _) (c : After-place_in-from g)
     → c.place_in-from.result ≡ area_place c.args.sizes.now c.args.area.now (brick_point c.args.sizes.now c.args.brick.0 c.args.part.now.x c.args.part.now.y c.args.part.now.z)
-from_is c =
-    first_place c.args.sizes.now c.args.area.now c.args.brick.0 c.args.part.now c.args.part.now.y c.args.part.now.z (box c)
+from_is g c =
+    first_place c.args.sizes.now c.args.area.now c.args.brick.0 c.args.part.now c.args.part.now.y c.args.part.now.z (box g c)
     c.requires.part (omega arith) c.requires.part.y_order (omega arith) c.requires.part.z_order
     c.first_point-first.result.x c.first_point-first.result.y c.first_point-first.result.z c.place_in-from.result
     c.first_point-first.ensures.x c.first_point-first.ensures.y c.first_point-first.ensures.z c.place_in-from.ensures.value
 
 pub write_part-requires-clause-rows : goal.write_part-requires-clause-rows
 unfolding source
-write_part-requires-clause-rows c =
-    let at = (goal.at.write_part-requires-clause-rows c).After-place_in-from in
+write_part-requires-clause-rows g c =
+    let at = (goal.at.write_part-requires-clause-rows g c).After-place_in-from in
     let wide = widths_are c.args.area.now c.low-low.result c.high-high.result c.low-low.ensures.value c.high-high.ensures.value in
-    each_has_rows c.args.sizes.now c.args.area.now c.args.brick.0 c.args.part.now (source at) (box at) c.requires.part (from_is at) wide.0 wide.1 c.requires.values
+    each_has_rows c.args.sizes.now c.args.area.now c.args.brick.0 c.args.part.now (source g at) (box g at) c.requires.part (from_is g at) wide.0 wide.1 c.requires.values
 
 pub returns : goal.returns
 unfolding source
-returns c =
-    let at = (goal.at.returns c).After-place_in-from in
+returns g c =
+    let at = (goal.at.returns g c).After-place_in-from in
     let wide = widths_are c.args.area.now c.low-low.result c.high-high.result c.low-low.ensures.value c.high-high.ensures.value in
-    part_written c.args.sizes.now c.args.area.now (Each c.args.values) c.args.brick.0 c.args.part.now (source at) c.args.copies.now _
-    (each_value_of c.args.sizes.now c.args.area.now c.args.brick.0 c.args.part.now (source at) (box at) c.requires.part (from_is at) wide.0 wide.1)
+    part_written c.args.sizes.now c.args.area.now (Each c.args.values) c.args.brick.0 c.args.part.now (source g at) (g.C.PackedList.list c.args.copies.now) _
+    (each_value_of c.args.sizes.now c.args.area.now c.args.brick.0 c.args.part.now (source g at) (box g at) c.requires.part (from_is g at) wide.0 wide.1)
     c.write_part.ensures

@@ -8,27 +8,27 @@ use Rattle.brick_store.proofs.RowWriting.{joined_y}
 use Rattle.brick_store.proofs.boxes.write_layer.Goals as goal
 
 pub loop-y-init : goal.loop-y-init
-loop-y-init c = no_zone c.args.sizes.now c.args.area.now c.args.values _ c.args.copies.now (λ b s. absurd (omega (arith, s.y_from, s.y_to, c.home-first.ensures, ap (λ (p : Point). p.y) c.low.ensures.value)))
+loop-y-init g c = no_zone c.args.sizes.now c.args.area.now c.args.values _ (g.C.PackedList.list c.args.copies.now) (λ b s. absurd (omega (arith, s.y_from, s.y_to, c.home-first.ensures, ap (λ (p : Point). p.y) c.low.ensures.value)))
 
 pub loop-y-preserved : goal.loop-y-preserved
-loop-y-preserved c =
-    let g = c.args.sizes.now in
+loop-y-preserved g c =
+    let grid = c.args.sizes.now in
     let a = c.args.area.now in
-    zones_at g a c.args.values _ _ _ c.args.copies.now c.loop-y.copies _
-    (joined_y g (home a.low.x) (reach_end g.nx (a.high.x + 1)) (home a.low.y) 0 c.args.z (c.args.z + 1) c.loop-y.y (omega (arith, c.home-first.ensures, ap (λ (p : Point). p.y) c.low.ensures.value, c.loop-y.auto.y)))
+    zones_at grid a c.args.values _ _ _ (g.C.PackedList.list c.args.copies.now) (g.C.PackedList.list c.loop-y.copies) _
+    (joined_y grid (home a.low.x) (reach_end grid.nx (a.high.x + 1)) (home a.low.y) 0 c.args.z (c.args.z + 1) c.loop-y.y (omega (arith, c.home-first.ensures, ap (λ (p : Point). p.y) c.low.ensures.value, c.loop-y.auto.y)))
     c.loop-y.invariant c.write_line.ensures
 
 pub returns : goal.returns
-returns c =
-    let g = c.args.sizes.now in
+returns g c =
+    let grid = c.args.sizes.now in
     let a = c.args.area.now in
-    let all : c.loop-y.y ≡ reach_end g.ny (a.high.y + 1)
+    let all : c.loop-y.y ≡ reach_end grid.ny (a.high.y + 1)
     = omega (arith, c.home-first.ensures, ap (λ (p : Point). p.y) c.low.ensures.value, c.low.ensures.area.y, c.requires.high.y, c.row_end-end.ensures, ap (λ (p : Point). p.y) c.high.ensures.value, c.ny.ensures.value, c.loop-y.auto.y-end, c.loop-y-test.false) in
-    subst (λ y. AreBoxWritten g a c.args.values (record {
+    subst (λ y. AreBoxWritten grid a c.args.values (record {
       x = home a.low.x;
-      x_end = reach_end g.nx (a.high.x + 1);
+      x_end = reach_end grid.nx (a.high.x + 1);
       y = home a.low.y;
       y_end = y;
       z = c.args.z;
       z_end = c.args.z + 1;
-    }) c.args.copies.now c.loop-y.copies) all c.loop-y.invariant
+    }) (g.C.PackedList.list c.args.copies.now) (g.C.PackedList.list c.loop-y.copies)) all c.loop-y.invariant

@@ -4,4 +4,4 @@ use Rattle.brick_store.specs.Boxes.{AreBoxWritten}
 use Rattle.brick_store.proofs.boxes.write_line.Given as goal
 
 abbrev pub invariant-loop-x : goal.invariant-loop-x
-invariant-loop-x l = AreBoxWritten l.sizes l.area l.values (record { x = home l.area.low.x; x_end = l.x; y = l.y; y_end = l.y + 1; z = l.z; z_end = l.z + 1 }) l.fn.copies l.copies
+invariant-loop-x g l = AreBoxWritten l.sizes l.area l.values (record { x = home l.area.low.x; x_end = l.x; y = l.y; y_end = l.y + 1; z = l.z; z_end = l.z + 1 }) (g.C.PackedList.list l.fn.copies) (g.C.PackedList.list l.copies)

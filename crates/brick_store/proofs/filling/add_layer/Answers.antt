@@ -1,11 +1,12 @@
-use Rattle.std.proofs.Common.{◌++◌, ◌∙◌, ap, rules}
-use Rattle.brick_store.proofs.Gathering.{layer_added, zeros_behind}
+use Rattle.std.proofs.Common.{◌≡◌, ◌+◌, ◌*◌, ◌<◌, ◌^◌, length, arith}
+use Rattle.iso_defs.specs.Bricks.{brick_count}
+use Rattle.brick_store.proofs.Gathering.{length-first_copies}
+use Rattle.brick_store.proofs.Standing.{few_bricks}
 use Rattle.brick_store.proofs.filling.add_layer.Goals as goal
 
-pub write_layer-requires-clause-zeros : goal.write_layer-requires-clause-zeros
-write_layer-requires-clause-zeros g c = zeros_behind c.args.copies.now.items c.deref_mut.result.now c.len-start.result (search rules) (search rules)
-
-pub returns : goal.returns
-returns g c =
-    layer_added c.args.copies.now.items c.deref_mut.result.now c.write_layer.new.copies _ _ c.len-start.result c.resize.new.self.len (search rules) (search rules) (search rules) (search rules)
-    ∙ (ap (λ l. l ++ c.write_layer.new.copies) c.requires.before ∙ c.write_layer.ensures)
+pub add_zeros-requires : goal.add_zeros-requires
+add_zeros-requires g c =
+    let few : brick_count c.args.sizes.now < 2 ^ 22 = few_bricks c.args.sizes.now c.nx.ensures.grid in
+    let size : length (g.C.PackedList.list c.args.copies.now) ≡ 729 * c.args.brick.0 + 81 * c.args.layer
+    = length-first_copies c.args.sizes.now (g.S.SampleRuns.list c.args.samples.now) _ _ c.requires.before in
+    omega (arith, few, size, c.requires.brick, c.requires.layer)

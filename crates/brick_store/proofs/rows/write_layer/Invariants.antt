@@ -4,7 +4,7 @@ use Rattle.brick_store.specs.Rows.{AreRowWritten, reach_end}
 use Rattle.brick_store.proofs.rows.write_layer.Given as goal
 
 abbrev pub invariant-loop-y : goal.invariant-loop-y
-invariant-loop-y l =
+invariant-loop-y g l =
     AreRowWritten l.sizes l.p l.values (record {
       x = home l.p.x;
       x_end = reach_end l.sizes.nx (l.p.x + length l.values);
@@ -12,4 +12,4 @@ invariant-loop-y l =
       y_end = l.y;
       z = l.z;
       z_end = l.z + 1;
-    }) l.fn.copies l.copies
+    }) (g.C.PackedList.list l.fn.copies) (g.C.PackedList.list l.copies)

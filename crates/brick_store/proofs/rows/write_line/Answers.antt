@@ -4,7 +4,7 @@ use Rattle.brick_store.proofs.RowWriting.{both_written, joined_x}
 use Rattle.brick_store.proofs.rows.write_line.Goals as goal
 
 pub loop-x-preserved : goal.loop-x-preserved
-loop-x-preserved c =
-    both_written c.args.sizes.now c.args.p c.args.values.now _ _ _ c.args.copies.now c.loop-x.copies _
+loop-x-preserved g c =
+    both_written c.args.sizes.now c.args.p c.args.values.now _ _ _ (g.C.PackedList.list c.args.copies.now) (g.C.PackedList.list c.loop-x.copies) _
     (joined_x c.args.sizes.now (home c.args.p.x) 0 c.args.y (c.args.y + 1) c.args.z (c.args.z + 1) c.loop-x.x (omega (arith, c.home-first.ensures, c.loop-x.auto.x)))
     c.loop-x.invariant c.write_in_brick.ensures

@@ -5,46 +5,46 @@ use Rattle.brick_store.proofs.RowWriting.{both_written, joined_z, row_reaches, r
 use Rattle.brick_store.proofs.rows.write_row.Goals as goal
 
 pub loop-z-preserved : goal.loop-z-preserved
-loop-z-preserved c =
-    let g = c.args.sizes.now in
+loop-z-preserved g c =
+    let grid = c.args.sizes.now in
     let p = c.args.p in
-    both_written g p c.args.values.now _ _ _ c.args.copies.now c.loop-z.copies _
-    (joined_z g (home p.x) (reach_end g.nx (p.x + length c.args.values.now)) (home p.y) (reach_end g.ny (p.y + 1)) (home p.z) 0 c.loop-z.z
+    both_written grid p c.args.values.now _ _ _ (g.C.PackedList.list c.args.copies.now) (g.C.PackedList.list c.loop-z.copies) _
+    (joined_z grid (home p.x) (reach_end grid.nx (p.x + length c.args.values.now)) (home p.y) (reach_end grid.ny (p.y + 1)) (home p.z) 0 c.loop-z.z
     (omega (arith, c.reaching-first.ensures.first, c.loop-z.auto.z)))
     c.loop-z.invariant c.write_layer.ensures
 
 pub returns-clause-copies : goal.returns-clause-copies
-returns-clause-copies c =
-    let g = c.args.sizes.now in
+returns-clause-copies g c =
+    let grid = c.args.sizes.now in
     let p = c.args.p in
     let values : List ℤ = c.args.values.now in
-    let all : c.loop-z.z ≡ reach_end g.nz (p.z + 1) = omega (arith, c.reaching-first.ensures, c.nz.ensures.value, c.loop-z.auto.z-end, c.loop-z-test.false) in
-    let is : AreRowWritten g p values (row_zone g p (length values)) c.args.copies.now c.loop-z.copies
-    = subst (λ z. AreRowWritten g p values (record {
+    let all : c.loop-z.z ≡ reach_end grid.nz (p.z + 1) = omega (arith, c.reaching-first.ensures, c.nz.ensures.value, c.loop-z.auto.z-end, c.loop-z-test.false) in
+    let is : AreRowWritten grid p values (row_zone grid p (length values)) (g.C.PackedList.list c.args.copies.now) (g.C.PackedList.list c.loop-z.copies)
+    = subst (λ z. AreRowWritten grid p values (record {
       x = home p.x;
-      x_end = reach_end g.nx (p.x + length values);
+      x_end = reach_end grid.nx (p.x + length values);
       y = home p.y;
-      y_end = reach_end g.ny (p.y + 1);
+      y_end = reach_end grid.ny (p.y + 1);
       z = home p.z;
       z_end = z;
-    }) c.args.copies.now c.loop-z.copies) all c.loop-z.invariant in
-    (row_stands g p values (row_zone g p (length values)) c.args.copies.now c.loop-z.copies c.nz.ensures.grid c.requires.point c.requires.fits c.requires.copies
-    (λ b x y z o row. row_reaches g p (length values) b x y z c.nz.ensures.grid c.requires.point c.requires.fits o row) is).0
+    }) (g.C.PackedList.list c.args.copies.now) (g.C.PackedList.list c.loop-z.copies)) all c.loop-z.invariant in
+    (row_stands grid p values (row_zone grid p (length values)) (g.C.PackedList.list c.args.copies.now) (g.C.PackedList.list c.loop-z.copies) c.nz.ensures.grid c.requires.point c.requires.inside c.requires.copies
+    (λ b x y z o row. row_reaches grid p (length values) b x y z c.nz.ensures.grid c.requires.point c.requires.inside o row) is).0
 
 pub returns-clause-samples : goal.returns-clause-samples
-returns-clause-samples c =
-    let g = c.args.sizes.now in
+returns-clause-samples g c =
+    let grid = c.args.sizes.now in
     let p = c.args.p in
     let values : List ℤ = c.args.values.now in
-    let all : c.loop-z.z ≡ reach_end g.nz (p.z + 1) = omega (arith, c.reaching-first.ensures, c.nz.ensures.value, c.loop-z.auto.z-end, c.loop-z-test.false) in
-    let is : AreRowWritten g p values (row_zone g p (length values)) c.args.copies.now c.loop-z.copies
-    = subst (λ z. AreRowWritten g p values (record {
+    let all : c.loop-z.z ≡ reach_end grid.nz (p.z + 1) = omega (arith, c.reaching-first.ensures, c.nz.ensures.value, c.loop-z.auto.z-end, c.loop-z-test.false) in
+    let is : AreRowWritten grid p values (row_zone grid p (length values)) (g.C.PackedList.list c.args.copies.now) (g.C.PackedList.list c.loop-z.copies)
+    = subst (λ z. AreRowWritten grid p values (record {
       x = home p.x;
-      x_end = reach_end g.nx (p.x + length values);
+      x_end = reach_end grid.nx (p.x + length values);
       y = home p.y;
-      y_end = reach_end g.ny (p.y + 1);
+      y_end = reach_end grid.ny (p.y + 1);
       z = home p.z;
       z_end = z;
-    }) c.args.copies.now c.loop-z.copies) all c.loop-z.invariant in
-    (row_stands g p values (row_zone g p (length values)) c.args.copies.now c.loop-z.copies c.nz.ensures.grid c.requires.point c.requires.fits c.requires.copies
-    (λ b x y z o row. row_reaches g p (length values) b x y z c.nz.ensures.grid c.requires.point c.requires.fits o row) is).1
+    }) (g.C.PackedList.list c.args.copies.now) (g.C.PackedList.list c.loop-z.copies)) all c.loop-z.invariant in
+    (row_stands grid p values (row_zone grid p (length values)) (g.C.PackedList.list c.args.copies.now) (g.C.PackedList.list c.loop-z.copies) c.nz.ensures.grid c.requires.point c.requires.inside c.requires.copies
+    (λ b x y z o row. row_reaches grid p (length values) b x y z c.nz.ensures.grid c.requires.point c.requires.inside o row) is).1

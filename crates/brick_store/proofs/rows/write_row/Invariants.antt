@@ -4,7 +4,7 @@ use Rattle.brick_store.specs.Rows.{AreRowWritten, reach_end}
 use Rattle.brick_store.proofs.rows.write_row.Given as goal
 
 abbrev pub invariant-loop-z : goal.invariant-loop-z
-invariant-loop-z l =
+invariant-loop-z g l =
     AreRowWritten l.sizes l.p l.values (record {
       x = home l.p.x;
       x_end = reach_end l.sizes.nx (l.p.x + length l.values);
@@ -12,4 +12,4 @@ invariant-loop-z l =
       y_end = reach_end l.sizes.ny (l.p.y + 1);
       z = home l.p.z;
       z_end = l.z;
-    }) l.fn.copies l.copies
+    }) (g.C.PackedList.list l.fn.copies) (g.C.PackedList.list l.copies)

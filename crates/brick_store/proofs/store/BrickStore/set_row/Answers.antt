@@ -1,30 +1,32 @@
-use Rattle.std.proofs.Common.{◌≡◌, ℕ, ◌+◌, ◌≤◌, ◌<◌, List, ap, length, sym, ◌∙◌, subst, ℤ}
+use Rattle.std.proofs.Common.{◌≡◌, ℕ, ◌+◌, ◌≤◌, ◌<◌, ◌∙◌, List, ap, length, sym, subst, ℤ}
 use Rattle.iso_base.specs.Points.{IsPoint, index_of}
 use Rattle.iso_base.specs.Volume.{IsInner, IsVolume, Volume}
-use Rattle.brick_store.specs.Copies.{samples_of, volume_of}
 use Rattle.packed_samples.specs.Runs.{row_set}
+use Rattle.brick_store.specs.Copies.{samples_of, volume_of}
+use Rattle.brick_store.specs.Kept.{HasRoom, copies_in}
 use Rattle.brick_store.proofs.RowVolumes.{row_set_at}
 use Rattle.brick_store.proofs.RowWriting.{row_in}
-use Rattle.brick_store.proofs.Writing.{whole_put}
+use Rattle.brick_store.proofs.Keeping.{stored_again}
 use Rattle.brick_store.proofs.store.BrickStore.set_row.Goals as goal
+use Rattle.brick_store.proofs.store.BrickStore.set_row.Goals.{in-Bytes, in-Numbers}
 
 pub invariant_of-self : goal.invariant_of-self
 invariant_of-self c =
-    let g = c.self.inside.sizes in
+    let s = c.self.inside in
+    let g = s.sizes in
     let p = c.args.p in
     let values : List ℤ = c.args.values.now in
-    let old : List ℤ = c.self.inside.copies.items in
-    let new : List ℤ = c.write_row.new.copies in
-    let v : Volume = volume_of g c.self.inside.kind c.self.inside.pad old in
+    let v : Volume = volume_of g s.kind s.pad (copies_in s.copies) in
     let grid : g ≡ c.args.self.now.grid = ap (λ (v : Volume). v.grid) c.self.view_is in
     let at : IsPoint g p = subst (λ (v : Volume). IsPoint v.grid p) (sym c.self.view_is) c.requires.point in
     let fits : p.x + length values ≤ g.nx = subst (λ (v : Volume). p.x + length values ≤ v.grid.nx) (sym c.self.view_is) c.requires.fits in
     let kept : IsVolume (record v { samples = row_set (index_of g p) values v.samples })
-    = row_set_at v c.args.self.now (index_of g p) values c.self.view_is c.self.invariant.volume (row_in g p at (length values) fits)
+    = row_set_at v c.args.self.now (index_of g p) values c.self.view_is c.self.invariant.bricks.volume (row_in g p at (length values) fits)
     (subst (λ h. (k : ℕ) → k < length values → IsInner c.args.self.now (index_of h p + k)) (sym grid) c.requires.inner) c.requires.kind in
-    let samples : samples_of g new ≡ row_set (index_of g p) values (samples_of g old)
-    = c.write_row.ensures.samples ∙ ap (λ l. row_set (index_of g p) values (samples_of g l)) c.deref_mut.ensures.value in
-    let count : length old ≡ c.self.inside.copies.len = ap length (sym c.deref_mut.ensures.value) ∙ c.deref_mut.ensures.len in
-    let whole = whole_put old new c.self.inside.copies.len
-    (c.write_row.ensures.copies.count ∙ (sym c.self.invariant.copies_are.count ∙ count)) count in
-    rw whole (record { volume = subst (λ (l : List ℤ). IsVolume (record v { samples = l })) (sym samples) kept; copies_are = c.write_row.ensures.copies })
+    elim c.match-self.branch [
+      | in-Bytes w ↦ rw w.self-inside-is (stored_again g s.kind s.pad _ (row_set (index_of g p) values v.samples) kept
+          (subst (HasRoom s.kind s.pad) w.in-Bytes.is c.self.invariant.room) w.write_row.ensures.copies
+          (w.write_row.ensures.samples ∙ ap (λ k. row_set (index_of g p) values (samples_of g (copies_in k))) (sym w.in-Bytes.is)))
+      | in-Numbers w ↦ rw w.self-inside-is (stored_again g s.kind s.pad _ (row_set (index_of g p) values v.samples) kept tt w.write_row-in-Numbers.ensures.copies
+          (w.write_row-in-Numbers.ensures.samples ∙ ap (λ k. row_set (index_of g p) values (samples_of g (copies_in k))) (sym w.in-Numbers.is)))
+    ]

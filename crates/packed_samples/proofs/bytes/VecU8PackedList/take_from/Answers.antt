@@ -1,0 +1,23 @@
+use Rattle.std.proofs.Common.{rules, arith, ◌≡◌, ◌+◌, ◌-◌, ◌∙◌, ap, map, take, drop, pos}
+use Rattle.std.proofs.lemmas.List.{length-map}
+use Rattle.packed_samples.specs.Runs.{row_set}
+use Rattle.packed_samples.proofs.ByteLists.{map-written}
+use Rattle.packed_samples.proofs.bytes.VecU8PackedList.take_from.Goals as goal
+
+pub returns-then-count-eq9 : goal.returns-then-count-eq9
+returns-then-count-eq9 g c =
+    let before = c.args.self.now.items in
+    let bytes = c.copy_bytes.new.into in
+    let room = length-map before pos in
+    let values : map pos bytes ≡ take c.args.count (drop c.args.start (g.S.SampleRuns.list c.args.samples.now)) = search rules in
+    map-written c.args.place (c.args.place + 9 - c.args.place) c.args.self.now.len bytes before c.deref_mut.result.now c.deref_mut.ensures.value (search rules) (omega arith) (search rules)
+    ∙ ap (λ l. row_set c.args.place l (map pos before)) values
+
+pub returns-else-count-eq9 : goal.returns-else-count-eq9
+returns-else-count-eq9 g c =
+    let before = c.args.self.now.items in
+    let bytes = c.copy_bytes-else-count-eq9.new.into in
+    let room = length-map before pos in
+    let values : map pos bytes ≡ take c.args.count (drop c.args.start (g.S.SampleRuns.list c.args.samples.now)) = search rules in
+    map-written c.args.place (c.args.place + c.args.count - c.args.place) c.args.self.now.len bytes before c.deref_mut-else-count-eq9.result.now c.deref_mut-else-count-eq9.ensures.value (search rules) (omega arith) (search rules)
+    ∙ ap (λ l. row_set c.args.place l (map pos before)) values
