@@ -1,12 +1,14 @@
 //! The bricks of a volume in its file.
-ghost use Rattle.std.specs.Prelude.{◌≡◌, IfOk, IfErr};
+ghost use Rattle.std.specs.Prelude.{◌≡◌, ◌+◌, ◌≤◌, All, IfOk, IfErr, drop, length, map, pos, take};
 ghost use Rattle.iso_base.specs.Volume.{unpadded};
+ghost use Rattle.packed_samples.specs.Runs.{IsByte};
 ghost use Rattle.nrrd.specs.Files.{file_voxels, IsRead};
 ghost use Rattle.nrrd.specs.Nrrd.{Fails, nrrd_of};
 
-use brick_store::{BrickStore, SampleRuns};
-use iso_base::Memory;
+use brick_store::BrickStore;
+use iso_base::{Memory, SampleKind};
 use nrrd::{FileVolume, NrrdFault, RawVolume, read_file_volume};
+use packed_samples::SampleRuns;
 use std::alloc::Global;
 use voxel_list::VoxelList;
 
@@ -16,12 +18,34 @@ struct RawSamples<'a> {
     volume: &'a RawVolume<'a>,
 }
 
+/// Writes samples from an index on over bytes, one by one.
+fn put_samples(volume: &RawVolume<'_>, start: u32, into: &mut [u8])
+    requires room { start + length into.old ≤ length volume.now.samples }
+    requires fits { All IsByte volume.now.samples }
+    ensures { map pos into.new ≡ take (length into.old) (drop start volume.now.samples) }
+{
+    let _ = volume.sizes().nx();
+    for k in 0..into.len() {
+        into[k] = volume.at(start + k as u32) as u8;
+    }
+}
+
 impl<'a> SampleRuns for RawSamples<'a> {
     ghost list = { λ s. s.volume.now.samples };
 
     #[inline(always)]
     fn copy_run(&self, start: u32, into: &mut [i64]) {
         self.volume.copy_run(start, into);
+    }
+
+    #[inline(always)]
+    fn copy_bytes(&self, start: u32, into: &mut [u8]) {
+        if self.volume.kind() == SampleKind::U8 {
+            let start = start as usize;
+            into.copy_from_slice(&self.volume.bytes()[start..start + into.len()]);
+        } else {
+            put_samples(self.volume, start, into);
+        }
     }
 }
 
