@@ -1,5 +1,6 @@
 -- Pieces of bricks that are put into rows of samples.
-use Rattle.std.proofs.Common.{◌≡◌, ℕ, ◌+◌, ◌-◌, ◌*◌, ◌<◌, ◌≤◌, List, length, take, drop, sym, ap, ◌∙◌, arith, rules, inl, inr, eq-zero-or-pos, ℤ, pos}
+use Rattle.std.proofs.Common.{◌≡◌, ℕ, ◌+◌, ◌-◌, ◌*◌, ◌<◌, ◌≤◌, List, length, map, take, drop, sym, ap, ◌∙◌, arith, rules, inl, inr, eq-zero-or-pos, ℤ, pos}
+use Rattle.std.specs.List.{drop-map, take-map}
 use Rattle.std.proofs.lemmas.List.{places, get_or-take, get_or-drop, length-take-le, length-drop}
 use borrow.Rule.Slice.PartMut.{put_mid}
 use Rattle.std.proofs.Math.Nat.{mul-le-mul_left}
@@ -14,6 +15,10 @@ put_at a k xs ys j le lt = search (rules, places)
 
 put_past : (a k : ℕ) (xs ys : List ℤ) (j : ℕ) → a ≤ length xs → length ys ≡ k → a + k ≤ j → sample (put_mid a k xs ys) j ≡ sample xs j
 put_past a k xs ys j le size lt = search (rules, places)
+
+-- the samples of a piece are a piece of the samples
+pub piece_is : {T : Type 0} (value : T → ℤ) (packed : List T) (from n : ℕ) → map value (take n (drop from packed)) ≡ take n (drop from (map value packed))
+piece_is value packed from n = sym (take-map value n (drop from packed)) ∙ ap (take n) (sym (drop-map value from packed))
 
 -- a row ends before the next one begins
 pub row_end : (width r rows : ℕ) → r < rows → width * r + width ≤ width * rows

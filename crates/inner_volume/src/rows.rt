@@ -1,15 +1,17 @@
 //! Rows of samples off the pad's layer, copied out of the bricks: all that a line of bricks has of a plane at once, since the
 //! copies of a brick lie together in memory and those of the next brick do not.
 
-ghost use Rattle.std.specs.Prelude.{◌≡◌, ℕ, ◌+◌, ◌-◌, ◌*◌, ◌%◌, ◌<◌, ◌≤◌, length};
+ghost use Rattle.std.specs.Prelude.{◌≡◌, ℕ, ◌+◌, ◌-◌, ◌*◌, ◌%◌, ◌<◌, ◌≤◌, length, map};
 ghost use Rattle.iso_defs.specs.Bricks.{bricks_along};
 ghost use Rattle.iso_base.specs.Volume.{inner_grid};
+ghost use Rattle.brick_store.specs.Copies.{AreAllCopies};
 ghost use Rattle.inner_volume.specs.Rows.{ArePieces, AreRowsOf, AreSamples, HasColumns};
 ghost use Rattle.inner_volume.specs.Unpadded.{inner_samples};
 
 use crate::places::layer_of;
 use brick_store::{BrickId, BrickStore};
 use iso_base::Sizes;
+use packed_samples::{Packed, PackedRun, unpack};
 
 /// Rows off the pad's layer that the same bricks have: the number of the first row and how many they are, the first brick
 /// that they go through, and where they begin in it. The offsets across and up are the same in each brick behind.
@@ -47,10 +49,34 @@ fn brick_rows(store: &BrickStore, sizes: &Sizes, row: u32) -> BrickRows
     }
 }
 
+/// The samples of eight numbers. All of them are read before one is written where they go, so that they are widened at once.
+#[inline(always)]
+fn eight_samples<T: Packed>(eight: &[T]) -> [i64; 8]
+    requires { length eight.now ≡ 8 }
+    ensures { result ≡ map T.value eight.now }
+{
+    let mut samples = [0; 8];
+    unpack(eight, &mut samples);
+    samples
+}
+
+/// Writes the samples of a piece over as many. Most pieces have eight.
+#[inline(always)]
+fn copy_piece<T: Packed>(piece: &[T], into: &mut [i64])
+    requires { length piece.now ≡ length into.old }
+    ensures { into.new ≡ map T.value piece.now }
+{
+    if piece.len() == 8 {
+        *into.as_mut_array::<8>().unwrap() = eight_samples(piece);
+    } else {
+        unpack(piece, into);
+    }
+}
+
 /// Copies so many samples of each of some rows of a brick, from a place of its copies on, into rows of samples from a column on.
 #[inline(always)]
-fn copy_pieces(
-    copies: &[i64],
+fn copy_pieces<T: Packed>(
+    copies: &[T],
     from: usize,
     count: usize,
     rows: usize,
@@ -63,19 +89,23 @@ fn copy_pieces(
     requires inside { from + 9 * rows + count ≤ 738 }
     requires fits { at + count ≤ width }
     requires room { width * rows ≤ length samples.old }
-    ensures { ArePieces copies.now samples.old samples.new from count rows at width }
+    ensures { ArePieces (map T.value copies.now) samples.old samples.new from count rows at width }
 {
     for row in 0..rows {
         let source = from + 9 * row;
         let target = width * row + at;
-        samples[target..target + count].copy_from_slice(&copies[source..source + count]);
+        copy_piece(
+            &copies[source..source + count],
+            &mut samples[target..target + count],
+        );
     }
 }
 
 /// Copies so many samples that a brick has of each of some rows, from an offset along x on.
 #[inline(always)]
-fn copy_from_brick(
+fn copy_from_brick<T: Packed>(
     store: &BrickStore,
+    copies: &[T],
     sizes: &Sizes,
     rows: &BrickRows,
     brick: u32,
@@ -84,6 +114,7 @@ fn copy_from_brick(
     samples: &mut [i64],
     at: usize,
 )
+    requires copies { AreAllCopies store.now.grid store.now.samples (map T.value copies.now) }
     requires sizes { sizes.now ≡ inner_grid store.now }
     requires rows { AreRowsOf store.now rows.now }
     requires brick { brick < bricks_along store.now.grid 0 }
@@ -95,10 +126,9 @@ fn copy_from_brick(
     ensures { HasColumns store.now rows.now (at + count) samples.new }
 {
     let _ = store.sizes();
-    let copies = store.brick(BrickId(rows.first + brick));
     let from = offset + (9 * (rows.y + 9 * rows.z)) as usize;
     copy_pieces(
-        copies,
+        store.brick_in(copies, BrickId(rows.first + brick)),
         from,
         count,
         rows.count as usize,
@@ -109,7 +139,15 @@ fn copy_from_brick(
 }
 
 /// Copies eight samples of each of some rows from each brick, as far as eight are left, and says how many of a row these are.
-fn copy_eights(store: &BrickStore, sizes: &Sizes, rows: &BrickRows, samples: &mut [i64]) -> usize
+#[inline(always)]
+fn copy_eights<T: Packed>(
+    store: &BrickStore,
+    copies: &[T],
+    sizes: &Sizes,
+    rows: &BrickRows,
+    samples: &mut [i64],
+) -> usize
+    requires copies { AreAllCopies store.now.grid store.now.samples (map T.value copies.now) }
     requires sizes { sizes.now ≡ inner_grid store.now }
     requires rows { AreRowsOf store.now rows.now }
     requires room { sizes.now.nx * rows.now.count ≤ length samples.old }
@@ -123,14 +161,32 @@ fn copy_eights(store: &BrickStore, sizes: &Sizes, rows: &BrickRows, samples: &mu
     let mut x = 0;
     while x + 8 <= width {
         let brick = (x / 8) as u32;
-        copy_from_brick(store, sizes, rows, brick, rows.x as usize, 8, samples, x);
+        copy_from_brick(
+            store,
+            copies,
+            sizes,
+            rows,
+            brick,
+            rows.x as usize,
+            8,
+            samples,
+            x,
+        );
         x += 8;
     }
     x
 }
 
 /// Copies what is left of each of some rows behind the eights: one brick has it, the last or the one before.
-fn copy_rest(store: &BrickStore, sizes: &Sizes, rows: &BrickRows, x: usize, samples: &mut [i64])
+fn copy_rest<T: Packed>(
+    store: &BrickStore,
+    copies: &[T],
+    sizes: &Sizes,
+    rows: &BrickRows,
+    x: usize,
+    samples: &mut [i64],
+)
+    requires copies { AreAllCopies store.now.grid store.now.samples (map T.value copies.now) }
     requires sizes { sizes.now ≡ inner_grid store.now }
     requires rows { AreRowsOf store.now rows.now }
     requires eights { x % 8 ≡ 0 }
@@ -147,7 +203,25 @@ fn copy_rest(store: &BrickStore, sizes: &Sizes, rows: &BrickRows, x: usize, samp
     }
     let brick = (x as u32 / 8).min((stored.nx() + 6) / 8 - 1);
     let offset = (x as u32 + rows.x - 8 * brick) as usize;
-    copy_from_brick(store, sizes, rows, brick, offset, count, samples, x);
+    copy_from_brick(store, copies, sizes, rows, brick, offset, count, samples, x);
+}
+
+/// Copies the samples of rows off the pad's layer that the same bricks have, one row behind another.
+fn copy_brick_rows<T: Packed>(
+    store: &BrickStore,
+    copies: &[T],
+    sizes: &Sizes,
+    rows: &BrickRows,
+    samples: &mut [i64],
+)
+    requires copies { AreAllCopies store.now.grid store.now.samples (map T.value copies.now) }
+    requires sizes { sizes.now ≡ inner_grid store.now }
+    requires rows { AreRowsOf store.now rows.now }
+    requires room { sizes.now.nx * rows.now.count ≤ length samples.old }
+    ensures { HasColumns store.now rows.now sizes.now.nx samples.new }
+{
+    let x = copy_eights(store, copies, sizes, rows, samples);
+    copy_rest(store, copies, sizes, rows, x, samples);
 }
 
 /// Copies the samples of rows off the pad's layer, from a row on, one row behind another, as many as the same bricks have of
@@ -163,7 +237,9 @@ pub(crate) fn copy_rows(store: &BrickStore, sizes: &Sizes, row: u32, samples: &m
 {
     let _ = (store.sizes(), sizes.nx());
     let rows = brick_rows(store, sizes, row);
-    let x = copy_eights(store, sizes, &rows, samples);
-    copy_rest(store, sizes, &rows, x, samples);
+    match store.copies() {
+        PackedRun::Bytes(copies) => copy_brick_rows(store, copies, sizes, &rows, samples),
+        PackedRun::Numbers(copies) => copy_brick_rows(store, copies, sizes, &rows, samples),
+    }
     rows.row + rows.count
 }
