@@ -11,7 +11,7 @@ ghost use Rattle.inner_volume.specs.Unpadded.{inner_samples};
 use crate::places::layer_of;
 use brick_store::{BrickId, BrickStore};
 use iso_base::Sizes;
-use packed_samples::{Packed, PackedRun, unpack};
+use packed_samples::Packed;
 
 /// Rows off the pad's layer that the same bricks have: the number of the first row and how many they are, the first brick
 /// that they go through, and where they begin in it. The offsets across and up are the same in each brick behind.
@@ -49,30 +49,6 @@ fn brick_rows(store: &BrickStore, sizes: &Sizes, row: u32) -> BrickRows
     }
 }
 
-/// The samples of eight numbers. All of them are read before one is written where they go, so that they are widened at once.
-#[inline(always)]
-fn eight_samples<T: Packed>(eight: &[T]) -> [i64; 8]
-    requires { length eight.now ≡ 8 }
-    ensures { result ≡ map T.value eight.now }
-{
-    let mut samples = [0; 8];
-    unpack(eight, &mut samples);
-    samples
-}
-
-/// Writes the samples of a piece over as many. Most pieces have eight.
-#[inline(always)]
-fn copy_piece<T: Packed>(piece: &[T], into: &mut [i64])
-    requires { length piece.now ≡ length into.old }
-    ensures { into.new ≡ map T.value piece.now }
-{
-    if piece.len() == 8 {
-        *into.as_mut_array::<8>().unwrap() = eight_samples(piece);
-    } else {
-        unpack(piece, into);
-    }
-}
-
 /// Copies so many samples of each of some rows of a brick, from a place of its copies on, into rows of samples from a column on.
 #[inline(always)]
 fn copy_pieces<T: Packed>(
@@ -80,7 +56,7 @@ fn copy_pieces<T: Packed>(
     from: usize,
     count: usize,
     rows: usize,
-    samples: &mut [i64],
+    samples: &mut [T],
     at: usize,
     width: usize,
 )
@@ -89,15 +65,12 @@ fn copy_pieces<T: Packed>(
     requires inside { from + 9 * rows + count ≤ 738 }
     requires fits { at + count ≤ width }
     requires room { width * rows ≤ length samples.old }
-    ensures { ArePieces (map T.value copies.now) samples.old samples.new from count rows at width }
+    ensures { ArePieces (map T.value copies.now) (map T.value samples.old) (map T.value samples.new) from count rows at width }
 {
     for row in 0..rows {
         let source = from + 9 * row;
         let target = width * row + at;
-        copy_piece(
-            &copies[source..source + count],
-            &mut samples[target..target + count],
-        );
+        samples[target..target + count].copy_from_slice(&copies[source..source + count]);
     }
 }
 
@@ -111,7 +84,7 @@ fn copy_from_brick<T: Packed>(
     brick: u32,
     offset: usize,
     count: usize,
-    samples: &mut [i64],
+    samples: &mut [T],
     at: usize,
 )
     requires copies { AreAllCopies store.now.grid store.now.samples (map T.value copies.now) }
@@ -122,8 +95,8 @@ fn copy_from_brick<T: Packed>(
     requires inside { offset + count ≤ 9 }
     requires fits { at + count ≤ sizes.now.nx }
     requires room { sizes.now.nx * rows.now.count ≤ length samples.old }
-    requires before { HasColumns store.now rows.now at samples.old }
-    ensures { HasColumns store.now rows.now (at + count) samples.new }
+    requires before { HasColumns store.now rows.now at (map T.value samples.old) }
+    ensures { HasColumns store.now rows.now (at + count) (map T.value samples.new) }
 {
     let _ = store.sizes();
     let from = offset + (9 * (rows.y + 9 * rows.z)) as usize;
@@ -145,13 +118,13 @@ fn copy_eights<T: Packed>(
     copies: &[T],
     sizes: &Sizes,
     rows: &BrickRows,
-    samples: &mut [i64],
+    samples: &mut [T],
 ) -> usize
     requires copies { AreAllCopies store.now.grid store.now.samples (map T.value copies.now) }
     requires sizes { sizes.now ≡ inner_grid store.now }
     requires rows { AreRowsOf store.now rows.now }
     requires room { sizes.now.nx * rows.now.count ≤ length samples.old }
-    ensures columns { HasColumns store.now rows.now result samples.new }
+    ensures columns { HasColumns store.now rows.now result (map T.value samples.new) }
     ensures eights { result % 8 ≡ 0 }
     ensures within { result ≤ sizes.now.nx }
     ensures few { sizes.now.nx < result + 8 }
@@ -184,7 +157,7 @@ fn copy_rest<T: Packed>(
     sizes: &Sizes,
     rows: &BrickRows,
     x: usize,
-    samples: &mut [i64],
+    samples: &mut [T],
 )
     requires copies { AreAllCopies store.now.grid store.now.samples (map T.value copies.now) }
     requires sizes { sizes.now ≡ inner_grid store.now }
@@ -193,8 +166,8 @@ fn copy_rest<T: Packed>(
     requires within { x ≤ sizes.now.nx }
     requires few { sizes.now.nx < x + 8 }
     requires room { sizes.now.nx * rows.now.count ≤ length samples.old }
-    requires before { HasColumns store.now rows.now x samples.old }
-    ensures { HasColumns store.now rows.now sizes.now.nx samples.new }
+    requires before { HasColumns store.now rows.now x (map T.value samples.old) }
+    ensures { HasColumns store.now rows.now sizes.now.nx (map T.value samples.new) }
 {
     let stored = store.sizes();
     let count = sizes.nx() as usize - x;
@@ -206,40 +179,27 @@ fn copy_rest<T: Packed>(
     copy_from_brick(store, copies, sizes, rows, brick, offset, count, samples, x);
 }
 
-/// Copies the samples of rows off the pad's layer that the same bricks have, one row behind another.
-fn copy_brick_rows<T: Packed>(
+/// Copies the samples of rows off the pad's layer, from a row on, one row behind another, as many as the same bricks have of
+/// them, and says before which row they end.
+pub(crate) fn copy_rows<T: Packed>(
     store: &BrickStore,
     copies: &[T],
     sizes: &Sizes,
-    rows: &BrickRows,
-    samples: &mut [i64],
-)
+    row: u32,
+    samples: &mut [T],
+) -> u32
     requires copies { AreAllCopies store.now.grid store.now.samples (map T.value copies.now) }
-    requires sizes { sizes.now ≡ inner_grid store.now }
-    requires rows { AreRowsOf store.now rows.now }
-    requires room { sizes.now.nx * rows.now.count ≤ length samples.old }
-    ensures { HasColumns store.now rows.now sizes.now.nx samples.new }
-{
-    let x = copy_eights(store, copies, sizes, rows, samples);
-    copy_rest(store, copies, sizes, rows, x, samples);
-}
-
-/// Copies the samples of rows off the pad's layer, from a row on, one row behind another, as many as the same bricks have of
-/// them, and says before which row they end.
-pub(crate) fn copy_rows(store: &BrickStore, sizes: &Sizes, row: u32, samples: &mut [i64]) -> u32
     requires sizes { sizes.now ≡ inner_grid store.now }
     requires row { row < sizes.now.ny * sizes.now.nz }
     requires room { sizes.now.nx * 9 ≤ length samples.old }
     ensures some { row < result }
     ensures within { result ≤ sizes.now.ny * sizes.now.nz }
     ensures few { result ≤ row + 9 }
-    ensures value { AreSamples (inner_samples store.now) (row * sizes.now.nx) ((result - row) * sizes.now.nx) samples.new }
+    ensures value { AreSamples (inner_samples store.now) (row * sizes.now.nx) ((result - row) * sizes.now.nx) (map T.value samples.new) }
 {
     let _ = (store.sizes(), sizes.nx());
     let rows = brick_rows(store, sizes, row);
-    match store.copies() {
-        PackedRun::Bytes(copies) => copy_brick_rows(store, copies, sizes, &rows, samples),
-        PackedRun::Numbers(copies) => copy_brick_rows(store, copies, sizes, &rows, samples),
-    }
+    let x = copy_eights(store, copies, sizes, &rows, samples);
+    copy_rest(store, copies, sizes, &rows, x, samples);
     rows.row + rows.count
 }

@@ -31,7 +31,7 @@ impl Packed for i64 {
 
 /// The sample at a place.
 #[inline(always)]
-pub(crate) fn sample_at<T: Packed>(packed: &[T], place: usize) -> i64
+pub fn sample_at<T: Packed>(packed: &[T], place: usize) -> i64
     requires { place < length packed.now }
     ensures { result ≡ sample (map T.value packed.now) place }
 {
@@ -40,7 +40,7 @@ pub(crate) fn sample_at<T: Packed>(packed: &[T], place: usize) -> i64
 
 /// Writes the samples that some numbers stand for over as many.
 #[inline(always)]
-pub fn unpack<T: Packed>(packed: &[T], into: &mut [i64])
+pub(crate) fn unpack<T: Packed>(packed: &[T], into: &mut [i64])
     requires { length packed.now ≡ length into.old }
     ensures { into.new ≡ map T.value packed.now }
 {

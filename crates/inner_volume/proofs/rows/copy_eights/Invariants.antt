@@ -1,10 +1,10 @@
-use Rattle.std.proofs.Common.{◌≡◌, ◌+◌, ◌-◌, ◌%◌, ◌≤◌}
+use Rattle.std.proofs.Common.{◌≡◌, ◌+◌, ◌-◌, ◌%◌, ◌≤◌, map}
 use Rattle.inner_volume.specs.Rows.{HasColumns}
 use Rattle.inner_volume.proofs.rows.copy_eights.Given as goal
 
 abbrev pub invariant-loop-x : goal.invariant-loop-x
 invariant-loop-x g l = record {
-  columns : HasColumns l.store l.rows l.x l.samples;
+  columns : HasColumns l.store l.rows l.x (map g.T.Packed.value l.samples);
   eights : l.x % 8 ≡ 0;
   within : l.x ≤ l.width;
 }

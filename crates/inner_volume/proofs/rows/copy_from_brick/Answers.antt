@@ -11,5 +11,5 @@ overflow_add-rows g c = omega (arith, c.requires.rows.bricks c.args.brick c.requ
 
 pub returns : goal.returns
 returns g c =
-    columns_more c.args.store.now c.args.sizes.now c.args.rows.now c.args.brick c.args.offset c.args.count c.args.at (map g.T.Packed.value c.brick_in.result.now) c.args.samples.now c.copy_pieces.new.samples _ _
+    columns_more c.args.store.now c.args.sizes.now c.args.rows.now c.args.brick c.args.offset c.args.count c.args.at (map g.T.Packed.value c.brick_in.result.now) (map g.T.Packed.value c.args.samples.now) (map g.T.Packed.value c.copy_pieces.new.samples) _ _
     c.requires.sizes c.requires.rows c.requires.brick c.requires.place c.requires.inside c.requires.fits c.brick_in.ensures refl c.nx.ensures.value c.copy_pieces.ensures c.requires.before
