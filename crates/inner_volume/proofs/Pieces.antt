@@ -1,6 +1,7 @@
 -- Pieces of bricks that are put into rows of samples.
-use Rattle.std.proofs.Common.{◌≡◌, ℕ, ◌+◌, ◌-◌, ◌*◌, ◌<◌, ◌≤◌, List, length, take, drop, sym, ap, ◌∙◌, arith, rules, inl, inr, eq-zero-or-pos, ℤ, pos}
-use Rattle.std.proofs.lemmas.List.{places, get_or-take, get_or-drop, length-take-le, length-drop}
+use Rattle.std.proofs.Common.{◌≡◌, ℕ, ◌+◌, ◌-◌, ◌*◌, ◌<◌, ◌≤◌, List, ◌++◌, length, map, take, drop, sym, ap, ◌∙◌, arith, rules, inl, inr, eq-zero-or-pos, ℤ, pos}
+use Rattle.std.specs.List.{drop-map, take-map}
+use Rattle.std.proofs.lemmas.List.{map-append, places, get_or-take, get_or-drop, length-take-le, length-drop}
 use borrow.Rule.Slice.PartMut.{put_mid}
 use Rattle.std.proofs.Math.Nat.{mul-le-mul_left}
 use Rattle.iso_base.specs.Volume.{sample}
@@ -14,6 +15,18 @@ put_at a k xs ys j le lt = search (rules, places)
 
 put_past : (a k : ℕ) (xs ys : List ℤ) (j : ℕ) → a ≤ length xs → length ys ≡ k → a + k ≤ j → sample (put_mid a k xs ys) j ≡ sample xs j
 put_past a k xs ys j le size lt = search (rules, places)
+
+-- the samples of a piece are a piece of the samples
+pub piece_is : {T : Type 0} (value : T → ℤ) (packed : List T) (from n : ℕ) → map value (take n (drop from packed)) ≡ take n (drop from (map value packed))
+piece_is value packed from n = sym (take-map value n (drop from packed)) ∙ ap (take n) (sym (drop-map value from packed))
+
+-- the samples of a list in which a piece was put
+pub map_put : {T : Type 0} (value : T → ℤ) (a k : ℕ) (xs ys : List T) → map value (put_mid a k xs ys) ≡ put_mid a k (map value xs) (map value ys)
+map_put value a k xs ys =
+    map-append value (take a xs) (ys ++ drop k (drop a xs))
+    ∙ (ap (λ l. l ++ map value (ys ++ drop k (drop a xs))) (sym (take-map value a xs))
+    ∙ ap (λ l. take a (map value xs) ++ l)
+    (map-append value ys (drop k (drop a xs)) ∙ ap (λ l. map value ys ++ l) (sym (drop-map value k (drop a xs)) ∙ ap (drop k) (sym (drop-map value a xs)))))
 
 -- a row ends before the next one begins
 pub row_end : (width r rows : ℕ) → r < rows → width * r + width ≤ width * rows

@@ -1,12 +1,13 @@
 //! A volume without its pad in print, as a file of a shelf: a row of samples in a line.
 
-ghost use Rattle.std.specs.Prelude.{◌≡◌, ◌+◌, ◌*◌, ◌<◌, ◌≤◌, length, take, drop, flat_map, All, Ok, IfOk};
+ghost use Rattle.std.specs.Prelude.{◌≡◌, ◌+◌, ◌*◌, ◌<◌, ◌≤◌, length, map, take, drop, flat_map, All, Ok, IfOk};
 ghost use Rattle.iso_base.specs.Volume.{inner_grid};
 ghost use Rattle.iso_base.specs.Samples.{IsOfKind};
 ghost use Rattle.iso_io.specs.Seen.{Puts, Stages};
 ghost use Rattle.iso_io.specs.Shelves.{Stores, file_tape};
 ghost use Rattle.nrrd.specs.Nrrd.{nrrd_of};
 ghost use Rattle.nrrd.specs.Writing.{coded_line, rows_of};
+ghost use Rattle.brick_store.specs.Copies.{AreAllCopies};
 ghost use Rattle.inner_volume.specs.Held.{AreHeld};
 ghost use Rattle.inner_volume.specs.Unpadded.{inner_samples, inner_voxels, saved_as_hex, saved_as_text, saved_in_print};
 
@@ -18,6 +19,7 @@ use iso_io::{Failed, Shelf, ShelfFile, Sink, write_all_of};
 use mesh_text::{Counted, Digits, Fours};
 use nrrd::{coded_head_bytes, put_coded_head};
 use nrrd_text::{SampleLines, gather_hex, gather_text};
+use packed_samples::{Packed, PackedRun};
 
 /// The most samples in the rows that bricks have of a plane: nine rows of 1,026.
 const MOST: usize = 9_234;
@@ -30,14 +32,22 @@ struct Held {
 }
 
 /// Sees to it that a block holds a row, which comes behind those that it held.
-fn hold_row(store: &BrickStore, sizes: &Sizes, number: u32, held: Held, block: &mut [i64]) -> Held
+fn hold_row<T: Packed>(
+    store: &BrickStore,
+    copies: &[T],
+    sizes: &Sizes,
+    number: u32,
+    held: Held,
+    block: &mut [T],
+) -> Held
+    requires copies { AreAllCopies store.now.grid store.now.samples (map T.value copies.now) }
     requires sizes { sizes.now ≡ inner_grid store.now }
     requires number { number < sizes.now.ny * sizes.now.nz }
     requires room { length block.old ≡ 9234 }
-    requires held { AreHeld store.now held block.old }
+    requires held { AreHeld store.now held (map T.value block.old) }
     requires first { held.first ≤ number }
     requires next { number ≤ held.end }
-    ensures held { AreHeld store.now result block.new }
+    ensures held { AreHeld store.now result (map T.value block.new) }
     ensures first { result.first ≤ number }
     ensures holds { number < result.end }
 {
@@ -47,26 +57,26 @@ fn hold_row(store: &BrickStore, sizes: &Sizes, number: u32, held: Held, block: &
     }
     Held {
         first: number,
-        end: copy_rows(store, sizes, number, block),
+        end: copy_rows(store, copies, sizes, number, block),
     }
 }
 
 /// A row that a block holds.
-fn held_row<'a>(
+fn held_row<'a, T: Packed>(
     store: &BrickStore,
     sizes: &Sizes,
     number: u32,
     held: Held,
-    block: &'a [i64],
-) -> &'a [i64]
+    block: &'a [T],
+) -> &'a [T]
     requires sizes { sizes.now ≡ inner_grid store.now }
     requires number { number < sizes.now.ny * sizes.now.nz }
     requires room { length block.now ≡ 9234 }
-    requires held { AreHeld store.now held block.now }
+    requires held { AreHeld store.now held (map T.value block.now) }
     requires first { held.first ≤ number }
     requires holds { number < held.end }
-    ensures value { result.now ≡ take sizes.now.nx (drop (number * sizes.now.nx) (inner_samples store.now)) }
-    ensures each { All (IsOfKind store.now.kind) result.now }
+    ensures value { map T.value result.now ≡ take sizes.now.nx (drop (number * sizes.now.nx) (inner_samples store.now)) }
+    ensures each { All (IsOfKind store.now.kind) (map T.value result.now) }
 {
     let _ = store.sizes();
     let width = sizes.nx() as usize;
@@ -75,18 +85,18 @@ fn held_row<'a>(
 }
 
 /// Puts the line of a row behind what waits, and says how many bytes it has.
-fn gather_row<K: Sink, D: Digits>(
+fn gather_row<K: Sink, D: Digits, T: Packed>(
     sink: &mut K,
     waiting: &mut SampleLines,
     digits: &D,
     kind: SampleKind,
     hex: bool,
-    row: &[i64],
+    row: &[T],
 ) -> Result<u64, Failed>
-    requires each { All (IsOfKind kind) row.now }
+    requires each { All (IsOfKind kind) (map T.value row.now) }
     requires few { length row.now ≤ 1026 }
-    ensures line { Stages (K.seen sink.old) (K.seen sink.new) waiting.old waiting.new result (coded_line hex kind row.now) }
-    ensures bytes { IfOk result (λ n. n ≡ length (coded_line hex kind row.now)) }
+    ensures line { Stages (K.seen sink.old) (K.seen sink.new) waiting.old waiting.new result (coded_line hex kind (map T.value row.now)) }
+    ensures bytes { IfOk result (λ n. n ≡ length (coded_line hex kind (map T.value row.now))) }
     ensures bound { IfOk result (λ n. n ≤ 25000) }
 {
     if hex {
@@ -97,15 +107,17 @@ fn gather_row<K: Sink, D: Digits>(
 }
 
 /// Puts the lines of all rows off the pad's layer behind what waits, and says how many bytes they have.
-fn gather_rows<K: Sink, D: Digits>(
+fn gather_rows<K: Sink, D: Digits, T: Packed>(
     sink: &mut K,
     waiting: &mut SampleLines,
     digits: &D,
     store: &BrickStore,
+    copies: &[T],
     sizes: &Sizes,
     hex: bool,
-    block: &mut [i64],
+    block: &mut [T],
 ) -> Result<u64, Failed>
+    requires copies { AreAllCopies store.now.grid store.now.samples (map T.value copies.now) }
     requires sizes { sizes.now ≡ inner_grid store.now }
     requires room { length block.old ≡ 9234 }
     ensures lines { Stages (K.seen sink.old) (K.seen sink.new) waiting.old waiting.new result
@@ -117,14 +129,38 @@ fn gather_rows<K: Sink, D: Digits>(
     let mut bytes = 0u64;
     let mut held = Held { first: 0, end: 0 };
     for number in 0..sizes.ny() * sizes.nz() {
-        held = hold_row(store, sizes, number, held, block);
+        held = hold_row(store, copies, sizes, number, held, block);
         let row = held_row(store, sizes, number, held, block);
         bytes += gather_row(sink, waiting, digits, kind, hex, row)?;
     }
     Ok(bytes)
 }
 
-/// Writes the lines of all rows off the pad's layer, and says how many bytes they have.
+/// Writes the lines of all rows off the pad's layer, by way of a block, and says how many bytes they have.
+fn put_packed<K: Sink, D: Digits, T: Packed>(
+    sink: &mut K,
+    digits: &D,
+    store: &BrickStore,
+    copies: &[T],
+    sizes: &Sizes,
+    hex: bool,
+    block: &mut [T],
+) -> Result<u64, Failed>
+    requires copies { AreAllCopies store.now.grid store.now.samples (map T.value copies.now) }
+    requires sizes { sizes.now ≡ inner_grid store.now }
+    requires room { length block.old ≡ 9234 }
+    ensures lines { Puts (K.seen sink.old) (K.seen sink.new) result (flat_map (coded_line hex store.now.kind) (rows_of (inner_voxels store.now))) }
+    ensures bytes { IfOk result (λ n. n ≡ length (flat_map (coded_line hex store.now.kind) (rows_of (inner_voxels store.now)))) }
+    ensures bound { IfOk result (λ n. n ≤ 25000 * (sizes.now.ny * sizes.now.nz)) }
+{
+    let mut waiting = SampleLines::new();
+    let bytes = gather_rows(sink, &mut waiting, digits, store, copies, sizes, hex, block)?;
+    write_all_of(sink, waiting.as_bytes())?;
+    Ok(bytes)
+}
+
+/// Writes the lines of all rows off the pad's layer, and says how many bytes they have. Rows stay packed until they are
+/// printed.
 fn put_rows<K: Sink, D: Digits>(
     sink: &mut K,
     digits: &D,
@@ -137,11 +173,14 @@ fn put_rows<K: Sink, D: Digits>(
     ensures bytes { IfOk result (λ n. n ≡ length (flat_map (coded_line hex store.now.kind) (rows_of (inner_voxels store.now)))) }
     ensures bound { IfOk result (λ n. n ≤ 25000 * (sizes.now.ny * sizes.now.nz)) }
 {
-    let mut block = [0; MOST];
-    let mut waiting = SampleLines::new();
-    let bytes = gather_rows(sink, &mut waiting, digits, store, sizes, hex, &mut block)?;
-    write_all_of(sink, waiting.as_bytes())?;
-    Ok(bytes)
+    match store.copies() {
+        PackedRun::Bytes(copies) => {
+            put_packed(sink, digits, store, copies, sizes, hex, &mut [0u8; MOST])
+        }
+        PackedRun::Numbers(copies) => {
+            put_packed(sink, digits, store, copies, sizes, hex, &mut [0i64; MOST])
+        }
+    }
 }
 
 /// The same. A table of the digits of numbers is made only where there are numbers.

@@ -1,15 +1,17 @@
 //! Rows of samples off the pad's layer, copied out of the bricks: all that a line of bricks has of a plane at once, since the
 //! copies of a brick lie together in memory and those of the next brick do not.
 
-ghost use Rattle.std.specs.Prelude.{◌≡◌, ℕ, ◌+◌, ◌-◌, ◌*◌, ◌%◌, ◌<◌, ◌≤◌, length};
+ghost use Rattle.std.specs.Prelude.{◌≡◌, ℕ, ◌+◌, ◌-◌, ◌*◌, ◌%◌, ◌<◌, ◌≤◌, length, map};
 ghost use Rattle.iso_defs.specs.Bricks.{bricks_along};
 ghost use Rattle.iso_base.specs.Volume.{inner_grid};
+ghost use Rattle.brick_store.specs.Copies.{AreAllCopies};
 ghost use Rattle.inner_volume.specs.Rows.{ArePieces, AreRowsOf, AreSamples, HasColumns};
 ghost use Rattle.inner_volume.specs.Unpadded.{inner_samples};
 
 use crate::places::layer_of;
 use brick_store::{BrickId, BrickStore};
 use iso_base::Sizes;
+use packed_samples::Packed;
 
 /// Rows off the pad's layer that the same bricks have: the number of the first row and how many they are, the first brick
 /// that they go through, and where they begin in it. The offsets across and up are the same in each brick behind.
@@ -49,12 +51,12 @@ fn brick_rows(store: &BrickStore, sizes: &Sizes, row: u32) -> BrickRows
 
 /// Copies so many samples of each of some rows of a brick, from a place of its copies on, into rows of samples from a column on.
 #[inline(always)]
-fn copy_pieces(
-    copies: &[i64],
+fn copy_pieces<T: Packed>(
+    copies: &[T],
     from: usize,
     count: usize,
     rows: usize,
-    samples: &mut [i64],
+    samples: &mut [T],
     at: usize,
     width: usize,
 )
@@ -63,7 +65,7 @@ fn copy_pieces(
     requires inside { from + 9 * rows + count ≤ 738 }
     requires fits { at + count ≤ width }
     requires room { width * rows ≤ length samples.old }
-    ensures { ArePieces copies.now samples.old samples.new from count rows at width }
+    ensures { ArePieces (map T.value copies.now) (map T.value samples.old) (map T.value samples.new) from count rows at width }
 {
     for row in 0..rows {
         let source = from + 9 * row;
@@ -74,16 +76,18 @@ fn copy_pieces(
 
 /// Copies so many samples that a brick has of each of some rows, from an offset along x on.
 #[inline(always)]
-fn copy_from_brick(
+fn copy_from_brick<T: Packed>(
     store: &BrickStore,
+    copies: &[T],
     sizes: &Sizes,
     rows: &BrickRows,
     brick: u32,
     offset: usize,
     count: usize,
-    samples: &mut [i64],
+    samples: &mut [T],
     at: usize,
 )
+    requires copies { AreAllCopies store.now.grid store.now.samples (map T.value copies.now) }
     requires sizes { sizes.now ≡ inner_grid store.now }
     requires rows { AreRowsOf store.now rows.now }
     requires brick { brick < bricks_along store.now.grid 0 }
@@ -91,14 +95,13 @@ fn copy_from_brick(
     requires inside { offset + count ≤ 9 }
     requires fits { at + count ≤ sizes.now.nx }
     requires room { sizes.now.nx * rows.now.count ≤ length samples.old }
-    requires before { HasColumns store.now rows.now at samples.old }
-    ensures { HasColumns store.now rows.now (at + count) samples.new }
+    requires before { HasColumns store.now rows.now at (map T.value samples.old) }
+    ensures { HasColumns store.now rows.now (at + count) (map T.value samples.new) }
 {
     let _ = store.sizes();
-    let copies = store.brick(BrickId(rows.first + brick));
     let from = offset + (9 * (rows.y + 9 * rows.z)) as usize;
     copy_pieces(
-        copies,
+        store.brick_in(copies, BrickId(rows.first + brick)),
         from,
         count,
         rows.count as usize,
@@ -109,11 +112,19 @@ fn copy_from_brick(
 }
 
 /// Copies eight samples of each of some rows from each brick, as far as eight are left, and says how many of a row these are.
-fn copy_eights(store: &BrickStore, sizes: &Sizes, rows: &BrickRows, samples: &mut [i64]) -> usize
+#[inline(always)]
+fn copy_eights<T: Packed>(
+    store: &BrickStore,
+    copies: &[T],
+    sizes: &Sizes,
+    rows: &BrickRows,
+    samples: &mut [T],
+) -> usize
+    requires copies { AreAllCopies store.now.grid store.now.samples (map T.value copies.now) }
     requires sizes { sizes.now ≡ inner_grid store.now }
     requires rows { AreRowsOf store.now rows.now }
     requires room { sizes.now.nx * rows.now.count ≤ length samples.old }
-    ensures columns { HasColumns store.now rows.now result samples.new }
+    ensures columns { HasColumns store.now rows.now result (map T.value samples.new) }
     ensures eights { result % 8 ≡ 0 }
     ensures within { result ≤ sizes.now.nx }
     ensures few { sizes.now.nx < result + 8 }
@@ -123,22 +134,40 @@ fn copy_eights(store: &BrickStore, sizes: &Sizes, rows: &BrickRows, samples: &mu
     let mut x = 0;
     while x + 8 <= width {
         let brick = (x / 8) as u32;
-        copy_from_brick(store, sizes, rows, brick, rows.x as usize, 8, samples, x);
+        copy_from_brick(
+            store,
+            copies,
+            sizes,
+            rows,
+            brick,
+            rows.x as usize,
+            8,
+            samples,
+            x,
+        );
         x += 8;
     }
     x
 }
 
 /// Copies what is left of each of some rows behind the eights: one brick has it, the last or the one before.
-fn copy_rest(store: &BrickStore, sizes: &Sizes, rows: &BrickRows, x: usize, samples: &mut [i64])
+fn copy_rest<T: Packed>(
+    store: &BrickStore,
+    copies: &[T],
+    sizes: &Sizes,
+    rows: &BrickRows,
+    x: usize,
+    samples: &mut [T],
+)
+    requires copies { AreAllCopies store.now.grid store.now.samples (map T.value copies.now) }
     requires sizes { sizes.now ≡ inner_grid store.now }
     requires rows { AreRowsOf store.now rows.now }
     requires eights { x % 8 ≡ 0 }
     requires within { x ≤ sizes.now.nx }
     requires few { sizes.now.nx < x + 8 }
     requires room { sizes.now.nx * rows.now.count ≤ length samples.old }
-    requires before { HasColumns store.now rows.now x samples.old }
-    ensures { HasColumns store.now rows.now sizes.now.nx samples.new }
+    requires before { HasColumns store.now rows.now x (map T.value samples.old) }
+    ensures { HasColumns store.now rows.now sizes.now.nx (map T.value samples.new) }
 {
     let stored = store.sizes();
     let count = sizes.nx() as usize - x;
@@ -147,23 +176,30 @@ fn copy_rest(store: &BrickStore, sizes: &Sizes, rows: &BrickRows, x: usize, samp
     }
     let brick = (x as u32 / 8).min((stored.nx() + 6) / 8 - 1);
     let offset = (x as u32 + rows.x - 8 * brick) as usize;
-    copy_from_brick(store, sizes, rows, brick, offset, count, samples, x);
+    copy_from_brick(store, copies, sizes, rows, brick, offset, count, samples, x);
 }
 
 /// Copies the samples of rows off the pad's layer, from a row on, one row behind another, as many as the same bricks have of
 /// them, and says before which row they end.
-pub(crate) fn copy_rows(store: &BrickStore, sizes: &Sizes, row: u32, samples: &mut [i64]) -> u32
+pub(crate) fn copy_rows<T: Packed>(
+    store: &BrickStore,
+    copies: &[T],
+    sizes: &Sizes,
+    row: u32,
+    samples: &mut [T],
+) -> u32
+    requires copies { AreAllCopies store.now.grid store.now.samples (map T.value copies.now) }
     requires sizes { sizes.now ≡ inner_grid store.now }
     requires row { row < sizes.now.ny * sizes.now.nz }
     requires room { sizes.now.nx * 9 ≤ length samples.old }
     ensures some { row < result }
     ensures within { result ≤ sizes.now.ny * sizes.now.nz }
     ensures few { result ≤ row + 9 }
-    ensures value { AreSamples (inner_samples store.now) (row * sizes.now.nx) ((result - row) * sizes.now.nx) samples.new }
+    ensures value { AreSamples (inner_samples store.now) (row * sizes.now.nx) ((result - row) * sizes.now.nx) (map T.value samples.new) }
 {
     let _ = (store.sizes(), sizes.nx());
     let rows = brick_rows(store, sizes, row);
-    let x = copy_eights(store, sizes, &rows, samples);
-    copy_rest(store, sizes, &rows, x, samples);
+    let x = copy_eights(store, copies, sizes, &rows, samples);
+    copy_rest(store, copies, sizes, &rows, x, samples);
     rows.row + rows.count
 }

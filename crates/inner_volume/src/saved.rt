@@ -1,12 +1,13 @@
 //! A volume without its pad, as a file of a shelf.
 
-ghost use Rattle.std.specs.Prelude.{◌≡◌, ◌⊎◌, ◌+◌, ◌-◌, ◌≤◌, length, take, All, Ok, IfOk, OnErr};
+ghost use Rattle.std.specs.Prelude.{◌≡◌, ◌⊎◌, ◌+◌, ◌-◌, ◌≤◌, length, map, take, All, Ok, IfOk, OnErr};
 ghost use Rattle.iso_base.specs.Volume.{inner_grid};
 ghost use Rattle.iso_base.specs.Samples.{IsOfKind};
 ghost use Rattle.iso_io.specs.Seen.{Puts};
 ghost use Rattle.iso_io.specs.Shelves.{Stores, file_tape};
 ghost use Rattle.nrrd.specs.Nrrd.{nrrd_of};
 ghost use Rattle.nrrd.specs.Writing.{samples_text};
+ghost use Rattle.brick_store.specs.Copies.{AreAllCopies};
 ghost use Rattle.inner_volume.specs.Unpadded.{inner_samples, inner_voxels, saved_text};
 
 use crate::places::inner_sizes;
@@ -15,25 +16,26 @@ use brick_store::BrickStore;
 use iso_base::{SampleKind, Sizes};
 use iso_io::{Failed, Shelf, ShelfFile, Sink};
 use nrrd::{put_nrrd_head, put_samples, volume_bytes};
+use packed_samples::{Packed, PackedRun};
 
 /// So many samples are gathered from rows before they are written.
 const BLOCK: usize = 16_384;
 
 /// Writes what a block holds where so many more have no room in it, and says how many it then holds.
-fn make_room<K: Sink>(
+fn make_room<K: Sink, T: Packed>(
     sink: &mut K,
     kind: SampleKind,
-    block: &[i64],
+    block: &[T],
     held: usize,
     more: usize,
 ) -> Result<usize, Failed>
     requires held { held ≤ length block.now }
     requires more { more ≤ length block.now }
-    requires each { All (IsOfKind kind) (take held block.now) }
+    requires each { All (IsOfKind kind) (map T.value (take held block.now)) }
     ensures room { IfOk result (λ n. n + more ≤ length block.now) }
     ensures held { IfOk result (λ n. (n ≡ 0) ⊎ (n ≡ held)) }
-    ensures put { IfOk result (λ n. Puts (K.seen sink.old) (K.seen sink.new) result (samples_text kind (take (held - n) block.now))) }
-    ensures failed { OnErr result (Puts (K.seen sink.old) (K.seen sink.new) result (samples_text kind (take held block.now))) }
+    ensures put { IfOk result (λ n. Puts (K.seen sink.old) (K.seen sink.new) result (samples_text kind (map T.value (take (held - n) block.now)))) }
+    ensures failed { OnErr result (Puts (K.seen sink.old) (K.seen sink.new) result (samples_text kind (map T.value (take held block.now)))) }
 {
     if more <= block.len() - held {
         return Ok(held);
@@ -42,13 +44,15 @@ fn make_room<K: Sink>(
     Ok(0)
 }
 
-/// Writes the samples off the pad's layer, row by row, in blocks.
-fn put_rows<K: Sink>(
+/// Writes the samples off the pad's layer, row by row, in blocks. They stay packed until they are written.
+fn put_rows<K: Sink, T: Packed>(
     sink: &mut K,
     store: &BrickStore,
+    copies: &[T],
     sizes: &Sizes,
-    block: &mut [i64],
+    block: &mut [T],
 ) -> Result<(), Failed>
+    requires copies { AreAllCopies store.now.grid store.now.samples (map T.value copies.now) }
     requires sizes { sizes.now ≡ inner_grid store.now }
     requires room { length block.old ≡ 16384 }
     ensures { Puts (K.seen sink.old) (K.seen sink.new) result (samples_text store.now.kind (inner_samples store.now)) }
@@ -59,7 +63,13 @@ fn put_rows<K: Sink>(
     let (mut held, mut row) = (0, 0);
     while row < sizes.ny() * sizes.nz() {
         held = make_room(sink, kind, block, held, width * 9)?;
-        let end = copy_rows(store, sizes, row, &mut block[held..held + width * 9]);
+        let end = copy_rows(
+            store,
+            copies,
+            sizes,
+            row,
+            &mut block[held..held + width * 9],
+        );
         held += (end - row) as usize * width;
         row = end;
     }
@@ -71,8 +81,10 @@ fn put_inner_samples<K: Sink>(sink: &mut K, store: &BrickStore, sizes: &Sizes) -
     requires { sizes.now ≡ inner_grid store.now }
     ensures { Puts (K.seen sink.old) (K.seen sink.new) result (samples_text store.now.kind (inner_samples store.now)) }
 {
-    let mut block = [0; BLOCK];
-    put_rows(sink, store, sizes, &mut block)
+    match store.copies() {
+        PackedRun::Bytes(copies) => put_rows(sink, store, copies, sizes, &mut [0u8; BLOCK]),
+        PackedRun::Numbers(copies) => put_rows(sink, store, copies, sizes, &mut [0i64; BLOCK]),
+    }
 }
 
 /// Writes the volume without its pad: a head, and the samples.

@@ -1,5 +1,5 @@
 //! Volumes in print.
-ghost use Rattle.std.specs.Prelude.{◌≡◌, ◌+◌, ◌*◌, ◌<◌, ◌≤◌, ◌++◌, length, take, All, List, [], decimal, pos, ℤ};
+ghost use Rattle.std.specs.Prelude.{◌≡◌, ◌+◌, ◌*◌, ◌<◌, ◌≤◌, ◌++◌, length, take, All, List, [], decimal, map, pos, ℤ};
 ghost use Rattle.arrayvec.specs.ArrayString.{array_string_len};
 ghost use Rattle.iso_io.specs.Seen.{Puts};
 ghost use Rattle.iso_defs.specs.Grid.{point_count};
@@ -11,6 +11,7 @@ use arrayvec::ArrayString;
 use byteorder::{ByteOrder, LittleEndian};
 use iso_base::{SampleKind, Sizes, put_number};
 use iso_io::{Failed, Sink, write_all_of};
+use packed_samples::{Packed, sample_at};
 
 /// The name of a kind in print.
 #[tactic(auto, unfolding(crate::specs::Writing::kind_text))]
@@ -169,71 +170,71 @@ fn as_u32(value: i64) -> u32
     value as u32
 }
 
-fn fill_i8(piece: &[i64], room: &mut [u8])
-    requires each { All (IsOfKind SampleKind.I8) piece.now }
+fn fill_i8<T: Packed>(piece: &[T], room: &mut [u8])
+    requires each { All (IsOfKind SampleKind.I8) (map T.value piece.now) }
     requires room { 1 * length piece.now ≤ length room.old }
-    ensures { take (1 * length piece.now) room.new ≡ samples_text SampleKind.I8 piece.now }
+    ensures { take (1 * length piece.now) room.new ≡ samples_text SampleKind.I8 (map T.value piece.now) }
 {
     for i in 0..piece.len() {
-        room[i] = as_i8(piece[i]).cast_unsigned();
+        room[i] = as_i8(sample_at(piece, i)).cast_unsigned();
     }
 }
 
-fn fill_u8(piece: &[i64], room: &mut [u8])
-    requires each { All (IsOfKind SampleKind.U8) piece.now }
+fn fill_u8<T: Packed>(piece: &[T], room: &mut [u8])
+    requires each { All (IsOfKind SampleKind.U8) (map T.value piece.now) }
     requires room { 1 * length piece.now ≤ length room.old }
-    ensures { take (1 * length piece.now) room.new ≡ samples_text SampleKind.U8 piece.now }
+    ensures { take (1 * length piece.now) room.new ≡ samples_text SampleKind.U8 (map T.value piece.now) }
 {
     for i in 0..piece.len() {
-        room[i] = as_u8(piece[i]);
+        room[i] = as_u8(sample_at(piece, i));
     }
 }
 
-fn fill_i16(piece: &[i64], room: &mut [u8])
-    requires each { All (IsOfKind SampleKind.I16) piece.now }
+fn fill_i16<T: Packed>(piece: &[T], room: &mut [u8])
+    requires each { All (IsOfKind SampleKind.I16) (map T.value piece.now) }
     requires room { 2 * length piece.now ≤ length room.old }
-    ensures { take (2 * length piece.now) room.new ≡ samples_text SampleKind.I16 piece.now }
+    ensures { take (2 * length piece.now) room.new ≡ samples_text SampleKind.I16 (map T.value piece.now) }
 {
     for i in 0..piece.len() {
-        LittleEndian::write_i16(&mut room[2 * i..], as_i16(piece[i]));
+        LittleEndian::write_i16(&mut room[2 * i..], as_i16(sample_at(piece, i)));
     }
 }
 
-fn fill_u16(piece: &[i64], room: &mut [u8])
-    requires each { All (IsOfKind SampleKind.U16) piece.now }
+fn fill_u16<T: Packed>(piece: &[T], room: &mut [u8])
+    requires each { All (IsOfKind SampleKind.U16) (map T.value piece.now) }
     requires room { 2 * length piece.now ≤ length room.old }
-    ensures { take (2 * length piece.now) room.new ≡ samples_text SampleKind.U16 piece.now }
+    ensures { take (2 * length piece.now) room.new ≡ samples_text SampleKind.U16 (map T.value piece.now) }
 {
     for i in 0..piece.len() {
-        LittleEndian::write_u16(&mut room[2 * i..], as_u16(piece[i]));
+        LittleEndian::write_u16(&mut room[2 * i..], as_u16(sample_at(piece, i)));
     }
 }
 
-fn fill_i32(piece: &[i64], room: &mut [u8])
-    requires each { All (IsOfKind SampleKind.I32) piece.now }
+fn fill_i32<T: Packed>(piece: &[T], room: &mut [u8])
+    requires each { All (IsOfKind SampleKind.I32) (map T.value piece.now) }
     requires room { 4 * length piece.now ≤ length room.old }
-    ensures { take (4 * length piece.now) room.new ≡ samples_text SampleKind.I32 piece.now }
+    ensures { take (4 * length piece.now) room.new ≡ samples_text SampleKind.I32 (map T.value piece.now) }
 {
     for i in 0..piece.len() {
-        LittleEndian::write_i32(&mut room[4 * i..], as_i32(piece[i]));
+        LittleEndian::write_i32(&mut room[4 * i..], as_i32(sample_at(piece, i)));
     }
 }
 
-fn fill_u32(piece: &[i64], room: &mut [u8])
-    requires each { All (IsOfKind SampleKind.U32) piece.now }
+fn fill_u32<T: Packed>(piece: &[T], room: &mut [u8])
+    requires each { All (IsOfKind SampleKind.U32) (map T.value piece.now) }
     requires room { 4 * length piece.now ≤ length room.old }
-    ensures { take (4 * length piece.now) room.new ≡ samples_text SampleKind.U32 piece.now }
+    ensures { take (4 * length piece.now) room.new ≡ samples_text SampleKind.U32 (map T.value piece.now) }
 {
     for i in 0..piece.len() {
-        LittleEndian::write_u32(&mut room[4 * i..], as_u32(piece[i]));
+        LittleEndian::write_u32(&mut room[4 * i..], as_u32(sample_at(piece, i)));
     }
 }
 
 /// Fills the front of the room with the bytes of samples.
-fn fill(kind: SampleKind, piece: &[i64], room: &mut [u8])
-    requires each { All (IsOfKind kind) piece.now }
+fn fill<T: Packed>(kind: SampleKind, piece: &[T], room: &mut [u8])
+    requires each { All (IsOfKind kind) (map T.value piece.now) }
     requires room { width_of kind * length piece.now ≤ length room.old }
-    ensures { take (width_of kind * length piece.now) room.new ≡ samples_text kind piece.now }
+    ensures { take (width_of kind * length piece.now) room.new ≡ samples_text kind (map T.value piece.now) }
 {
     match kind {
         SampleKind::I8 => fill_i8(piece, room),
@@ -257,30 +258,30 @@ fn samples_in_block(kind: SampleKind) -> usize
 }
 
 /// Writes samples that fit into the room, by way of the room.
-fn put_piece<K: Sink>(
+fn put_piece<K: Sink, T: Packed>(
     sink: &mut K,
     kind: SampleKind,
-    piece: &[i64],
+    piece: &[T],
     room: &mut [u8],
 ) -> Result<(), Failed>
-    requires each { All (IsOfKind kind) piece.now }
+    requires each { All (IsOfKind kind) (map T.value piece.now) }
     requires room { width_of kind * length piece.now ≤ length room.old }
-    ensures { Puts (K.seen sink.old) (K.seen sink.new) result (samples_text kind piece.now) }
+    ensures { Puts (K.seen sink.old) (K.seen sink.new) result (samples_text kind (map T.value piece.now)) }
 {
     fill(kind, piece, room);
     write_all_of(sink, &room[..kind.width() as usize * piece.len()])
 }
 
 /// Writes samples, a block at a time.
-fn put_pieces<K: Sink>(
+fn put_pieces<K: Sink, T: Packed>(
     sink: &mut K,
     kind: SampleKind,
-    values: &[i64],
+    values: &[T],
     room: &mut [u8],
 ) -> Result<(), Failed>
-    requires each { All (IsOfKind kind) values.now }
+    requires each { All (IsOfKind kind) (map T.value values.now) }
     requires room { length room.old ≡ 32768 }
-    ensures { Puts (K.seen sink.old) (K.seen sink.new) result (samples_text kind values.now) }
+    ensures { Puts (K.seen sink.old) (K.seen sink.new) result (samples_text kind (map T.value values.now)) }
 {
     let most = samples_in_block(kind);
     let mut rest = values;
@@ -294,9 +295,13 @@ fn put_pieces<K: Sink>(
 
 /// Appends samples to a sink, each in as many bytes as its kind has, in little order. The values lie in the kind's range.
 /// `Failed` comes only where the sink's count of faults rose; a front of the bytes was then taken. No memory is taken.
-pub fn put_samples<K: Sink>(sink: &mut K, kind: SampleKind, values: &[i64]) -> Result<(), Failed>
-    requires { All (IsOfKind kind) values.now }
-    ensures { Puts (K.seen sink.old) (K.seen sink.new) result (samples_text kind values.now) }
+pub fn put_samples<K: Sink, T: Packed>(
+    sink: &mut K,
+    kind: SampleKind,
+    values: &[T],
+) -> Result<(), Failed>
+    requires { All (IsOfKind kind) (map T.value values.now) }
+    ensures { Puts (K.seen sink.old) (K.seen sink.new) result (samples_text kind (map T.value values.now)) }
 {
     let mut room = [0u8; BLOCK];
     put_pieces(sink, kind, values, &mut room)

@@ -1,6 +1,6 @@
 //! The numbers that a byte can be, each behind a space, out of a table.
 
-ghost use Rattle.std.specs.Prelude.{◌≡◌, ◌+◌, ◌*◌, ◌≤◌, ◌++◌, take, length, flat_map, pos, All};
+ghost use Rattle.std.specs.Prelude.{◌≡◌, ◌+◌, ◌*◌, ◌≤◌, ◌++◌, take, length, flat_map, map, pos, All};
 ghost use Rattle.iso_base.specs.Samples.{IsOfKind};
 ghost use Rattle.iso_base.specs.declared.kind.SampleKind.TheVariants.{U8};
 ghost use Rattle.nrrd_text.specs.ByteNumbers.{AreByteNumbers, IsEntry};
@@ -8,6 +8,7 @@ ghost use Rattle.nrrd_text.specs.Writing.{next_number};
 
 use crate::numbers::put_next;
 use mesh_text::Counted;
+use packed_samples::{Packed, sample_at};
 use std::marker::Model;
 
 /// The entry of a byte: its number behind a space, and behind these four bytes how many of them count.
@@ -84,29 +85,29 @@ impl ByteNumbers {
 
     /// Writes numbers that a byte can be, each behind a space.
     #[inline(always)]
-    pub(crate) fn put_bytes(&self, values: &[i64], room: &mut [u8], at: usize) -> usize
-        requires kind { All (IsOfKind U8) values.now }
+    pub(crate) fn put_bytes<T: Packed>(&self, values: &[T], room: &mut [u8], at: usize) -> usize
+        requires kind { All (IsOfKind U8) (map T.value values.now) }
         requires space { at + 24 * length values.now ≤ length room.old }
         ensures end { result ≤ at + 24 * length values.now }
         ensures behind { at ≤ result }
-        ensures written { take result room.new ≡ take at room.old ++ flat_map next_number values.now }
+        ensures written { take result room.new ≡ take at room.old ++ flat_map next_number (map T.value values.now) }
     {
         put_bytes(&self.entries, values, room, at)
     }
 }
 
 /// Writes numbers that a byte can be, each behind a space.
-fn put_bytes(entries: &[[u8; 8]], values: &[i64], room: &mut [u8], at: usize) -> usize
+fn put_bytes<T: Packed>(entries: &[[u8; 8]], values: &[T], room: &mut [u8], at: usize) -> usize
     requires table { AreByteNumbers entries.now }
-    requires kind { All (IsOfKind U8) values.now }
+    requires kind { All (IsOfKind U8) (map T.value values.now) }
     requires space { at + 24 * length values.now ≤ length room.old }
     ensures end { result ≤ at + 24 * length values.now }
     ensures behind { at ≤ result }
-    ensures written { take result room.new ≡ take at room.old ++ flat_map next_number values.now }
+    ensures written { take result room.new ≡ take at room.old ++ flat_map next_number (map T.value values.now) }
 {
     let mut end = at;
-    for value in values {
-        end = put_byte_number(entries, *value as u8, room, end);
+    for k in 0..values.len() {
+        end = put_byte_number(entries, sample_at(values, k) as u8, room, end);
     }
     end
 }

@@ -1,6 +1,6 @@
 //! Samples put behind what waits, which is written where there is no room for them.
 
-ghost use Rattle.std.specs.Prelude.{◌≡◌, ◌+◌, ◌*◌, ◌^◌, ◌<◌, ◌≤◌, ◌⊎◌, ◌∷◌, ◌++◌, [], All, IfOk, flat_map, length};
+ghost use Rattle.std.specs.Prelude.{◌≡◌, ◌+◌, ◌*◌, ◌^◌, ◌<◌, ◌≤◌, ◌⊎◌, ◌∷◌, ◌++◌, [], All, IfOk, flat_map, length, map};
 ghost use Rattle.std.specs.Fmt.{signed_decimal};
 ghost use Rattle.iso_io.specs.Seen.{Stages};
 ghost use Rattle.nrrd_text.specs.Forms.{IsOfForm, printed};
@@ -9,12 +9,13 @@ use crate::forms::Form;
 use crate::sample_lines::SampleLines;
 use iso_io::{Failed, Sink, write_all_of};
 use mesh_text::Digits;
+use packed_samples::Packed;
 
 /// So many samples are put at once: whether there is room is asked for all of them, and not for each.
 const PIECE: usize = 256;
 
 /// The first samples of a row, and the others.
-fn next_piece(values: &[i64]) -> (&[i64], &[i64])
+fn next_piece<T: Packed>(values: &[T]) -> (&[T], &[T])
     ensures parts { values.now ≡ result.0.now ++ result.1.now }
     ensures few { length result.0.now ≤ 256 }
     ensures fewer { (values.now ≡ []) ⊎ (length result.1.now < length values.now) }
@@ -71,17 +72,17 @@ pub(crate) fn gather_first<K: Sink, D: Digits>(
 }
 
 /// Puts some samples in print behind what waits, and says how many bytes they have.
-fn gather_piece<K: Sink, D: Digits>(
+fn gather_piece<K: Sink, D: Digits, T: Packed>(
     sink: &mut K,
     waiting: &mut SampleLines,
     digits: &D,
     form: Form,
-    values: &[i64],
+    values: &[T],
 ) -> Result<u64, Failed>
-    requires form { All (IsOfForm form) values.now }
+    requires form { All (IsOfForm form) (map T.value values.now) }
     requires room { length values.now ≤ 256 }
-    ensures staged { Stages (K.seen sink.old) (K.seen sink.new) waiting.old waiting.new result (flat_map (printed form) values.now) }
-    ensures bytes { IfOk result (λ n. n ≡ length (flat_map (printed form) values.now)) }
+    ensures staged { Stages (K.seen sink.old) (K.seen sink.new) waiting.old waiting.new result (flat_map (printed form) (map T.value values.now)) }
+    ensures bytes { IfOk result (λ n. n ≡ length (flat_map (printed form) (map T.value values.now))) }
     ensures few { IfOk result (λ n. n ≤ 24 * length values.now) }
 {
     make_room(sink, waiting, values.len())?;
@@ -91,15 +92,15 @@ fn gather_piece<K: Sink, D: Digits>(
 }
 
 /// Puts samples in print behind what waits.
-pub(crate) fn gather_samples<K: Sink, D: Digits>(
+pub(crate) fn gather_samples<K: Sink, D: Digits, T: Packed>(
     sink: &mut K,
     waiting: &mut SampleLines,
     digits: &D,
     form: Form,
-    values: &[i64],
+    values: &[T],
 ) -> Result<(), Failed>
-    requires { All (IsOfForm form) values.now }
-    ensures { Stages (K.seen sink.old) (K.seen sink.new) waiting.old waiting.new result (flat_map (printed form) values.now) }
+    requires { All (IsOfForm form) (map T.value values.now) }
+    ensures { Stages (K.seen sink.old) (K.seen sink.new) waiting.old waiting.new result (flat_map (printed form) (map T.value values.now)) }
 {
     let mut rest = values;
     while !rest.is_empty() {
@@ -111,17 +112,17 @@ pub(crate) fn gather_samples<K: Sink, D: Digits>(
 }
 
 /// The same, and says how many bytes they have.
-pub(crate) fn gather_counted<K: Sink, D: Digits>(
+pub(crate) fn gather_counted<K: Sink, D: Digits, T: Packed>(
     sink: &mut K,
     waiting: &mut SampleLines,
     digits: &D,
     form: Form,
-    values: &[i64],
+    values: &[T],
 ) -> Result<u64, Failed>
-    requires form { All (IsOfForm form) values.now }
+    requires form { All (IsOfForm form) (map T.value values.now) }
     requires few { length values.now ≤ 2 ^ 32 }
-    ensures samples { Stages (K.seen sink.old) (K.seen sink.new) waiting.old waiting.new result (flat_map (printed form) values.now) }
-    ensures bytes { IfOk result (λ n. n ≡ length (flat_map (printed form) values.now)) }
+    ensures samples { Stages (K.seen sink.old) (K.seen sink.new) waiting.old waiting.new result (flat_map (printed form) (map T.value values.now)) }
+    ensures bytes { IfOk result (λ n. n ≡ length (flat_map (printed form) (map T.value values.now))) }
     ensures bound { IfOk result (λ n. n ≤ 24 * length values.now) }
 {
     let mut bytes = 0u64;

@@ -1,12 +1,13 @@
 //! The hex digits of samples, written from a place of a text on: each call gives the place behind what it wrote.
 
-ghost use Rattle.std.specs.Prelude.{◌≡◌, ◌+◌, ◌*◌, ◌≤◌, ◌<◌, ◌++◌, take, length, All};
+ghost use Rattle.std.specs.Prelude.{◌≡◌, ◌+◌, ◌*◌, ◌≤◌, ◌<◌, ◌++◌, take, length, map, All};
 ghost use Rattle.iso_base.specs.Samples.{IsOfKind};
 ghost use Rattle.nrrd_text.specs.Pairs.{ArePairs};
 ghost use Rattle.nrrd_text.specs.Samples.{bits_of};
 ghost use Rattle.nrrd_text.specs.Writing.{byte_digits, hex_digit, sample_digits, samples_digits};
 
 use iso_base::SampleKind;
+use packed_samples::{Packed, sample_at};
 use std::marker::Model;
 
 /// A small hex digit.
@@ -62,18 +63,18 @@ impl Pairs {
 
     /// Writes the digits of samples. What a kind asks for is asked once, and not for each of them.
     #[inline(always)]
-    pub(crate) fn put_samples(
+    pub(crate) fn put_samples<T: Packed>(
         &self,
         kind: SampleKind,
-        values: &[i64],
+        values: &[T],
         room: &mut [u8],
         at: usize,
     ) -> usize
-        requires kind { All (IsOfKind kind) values.now }
+        requires kind { All (IsOfKind kind) (map T.value values.now) }
         requires space { at + 24 * length values.now ≤ length room.old }
         ensures end { result ≤ at + 24 * length values.now }
         ensures behind { at ≤ result }
-        ensures written { take result room.new ≡ take at room.old ++ samples_digits kind values.now }
+        ensures written { take result room.new ≡ take at room.old ++ samples_digits kind (map T.value values.now) }
     {
         put_samples(&self.pairs, kind, values, room, at)
     }
@@ -134,41 +135,41 @@ fn put_sample(pairs: &[[u8; 2]], kind: SampleKind, value: i64, room: &mut [u8], 
 
 /// Writes the digits of samples.
 #[inline(always)]
-fn put_each(
+fn put_each<T: Packed>(
     pairs: &[[u8; 2]],
     kind: SampleKind,
-    values: &[i64],
+    values: &[T],
     room: &mut [u8],
     at: usize,
 ) -> usize
     requires table { ArePairs pairs.now }
-    requires kind { All (IsOfKind kind) values.now }
+    requires kind { All (IsOfKind kind) (map T.value values.now) }
     requires space { at + 24 * length values.now ≤ length room.old }
     ensures end { result ≤ at + 24 * length values.now }
     ensures behind { at ≤ result }
-    ensures written { take result room.new ≡ take at room.old ++ samples_digits kind values.now }
+    ensures written { take result room.new ≡ take at room.old ++ samples_digits kind (map T.value values.now) }
 {
     let mut end = at;
-    for value in values {
-        end = put_sample(pairs, kind, *value, room, end);
+    for k in 0..values.len() {
+        end = put_sample(pairs, kind, sample_at(values, k), room, end);
     }
     end
 }
 
 /// Writes the digits of samples. What a kind asks for is asked once, and not for each of them.
-fn put_samples(
+fn put_samples<T: Packed>(
     pairs: &[[u8; 2]],
     kind: SampleKind,
-    values: &[i64],
+    values: &[T],
     room: &mut [u8],
     at: usize,
 ) -> usize
     requires table { ArePairs pairs.now }
-    requires kind { All (IsOfKind kind) values.now }
+    requires kind { All (IsOfKind kind) (map T.value values.now) }
     requires space { at + 24 * length values.now ≤ length room.old }
     ensures end { result ≤ at + 24 * length values.now }
     ensures behind { at ≤ result }
-    ensures written { take result room.new ≡ take at room.old ++ samples_digits kind values.now }
+    ensures written { take result room.new ≡ take at room.old ++ samples_digits kind (map T.value values.now) }
 {
     match kind {
         SampleKind::I8 => put_each(pairs, SampleKind::I8, values, room, at),

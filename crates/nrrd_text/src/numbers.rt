@@ -1,11 +1,12 @@
 //! Numbers, written from a place of a text on: each call gives the place behind what it wrote.
 
-ghost use Rattle.std.specs.Prelude.{◌≡◌, ◌+◌, ◌*◌, ◌≤◌, ◌<◌, ◌++◌, take, length, decimal, flat_map, unsigned_abs};
+ghost use Rattle.std.specs.Prelude.{◌≡◌, ◌+◌, ◌*◌, ◌≤◌, ◌<◌, ◌++◌, take, length, decimal, flat_map, map, unsigned_abs};
 ghost use Rattle.std.specs.Fmt.{signed_decimal};
 ghost use Rattle.nrrd_text.specs.Writing.{next_number};
 
 use itoa::Buffer;
 use mesh_text::Digits;
+use packed_samples::{Packed, sample_at};
 
 /// The numbers from here on have more digits than those of a volume.
 const LONG: u64 = 100_000_000_000;
@@ -66,15 +67,20 @@ pub(crate) fn put_next<D: Digits>(digits: &D, value: i64, room: &mut [u8], at: u
 }
 
 /// Writes numbers, each behind a space.
-pub(crate) fn put_others<D: Digits>(digits: &D, values: &[i64], room: &mut [u8], at: usize) -> usize
+pub(crate) fn put_others<D: Digits, T: Packed>(
+    digits: &D,
+    values: &[T],
+    room: &mut [u8],
+    at: usize,
+) -> usize
     requires { at + 24 * length values.now ≤ length room.old }
     ensures end { result ≤ at + 24 * length values.now }
     ensures behind { at ≤ result }
-    ensures written { take result room.new ≡ take at room.old ++ flat_map next_number values.now }
+    ensures written { take result room.new ≡ take at room.old ++ flat_map next_number (map T.value values.now) }
 {
     let mut end = at;
-    for value in values {
-        end = put_next(digits, *value, room, end);
+    for k in 0..values.len() {
+        end = put_next(digits, sample_at(values, k), room, end);
     }
     end
 }

@@ -1,6 +1,6 @@
 //! Lines of samples that wait until they are written.
 
-ghost use Rattle.std.specs.Prelude.{◌≡◌, ◌+◌, ◌*◌, ◌<◌, ◌≤◌, ◌∷◌, ◌++◌, [], IsTrue, All, length, flat_map};
+ghost use Rattle.std.specs.Prelude.{◌≡◌, ◌+◌, ◌*◌, ◌<◌, ◌≤◌, ◌∷◌, ◌++◌, [], IsTrue, All, length, flat_map, map};
 ghost use Rattle.std.specs.Fmt.{signed_decimal};
 ghost use Rattle.nrrd_text.specs.Forms.{IsOfForm, printed};
 
@@ -9,6 +9,7 @@ use crate::forms::Form;
 use crate::hex_digits::Pairs;
 use crate::numbers::{put_number, put_others};
 use mesh_text::Digits;
+use packed_samples::Packed;
 use std::marker::Model;
 
 /// So many bytes wait at most: a write of the system costs as much as thousands of bytes.
@@ -103,10 +104,10 @@ impl SampleLines {
 
     /// Puts samples in print behind the others.
     #[inline(always)]
-    pub(crate) fn push<D: Digits>(&mut self, digits: &D, form: Form, values: &[i64])
-        requires form { All (IsOfForm form) values.now }
+    pub(crate) fn push<D: Digits, T: Packed>(&mut self, digits: &D, form: Form, values: &[T])
+        requires form { All (IsOfForm form) (map T.value values.now) }
         requires room { length self.old + 24 * length values.now ≤ 32768 }
-        ensures samples { self.new ≡ self.old ++ flat_map (printed form) values.now }
+        ensures samples { self.new ≡ self.old ++ flat_map (printed form) (map T.value values.now) }
         ensures few { length self.new ≤ length self.old + 24 * length values.now }
     {
         let (room, at) = (&mut self.bytes, self.end);

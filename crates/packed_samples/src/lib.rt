@@ -9,6 +9,6 @@ mod run;
 mod source;
 
 pub use list::PackedList;
-pub use number::{Packed, sample_at, unpack};
+pub use number::{Packed, sample_at};
 pub use run::PackedRun;
 pub use source::SampleRuns;

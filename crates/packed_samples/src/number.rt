@@ -69,7 +69,7 @@ pub fn sample_at<T: Packed>(packed: &[T], place: usize) -> i64
 
 /// Writes the samples that some numbers stand for over as many.
 #[inline(always)]
-pub fn unpack<T: Packed>(packed: &[T], into: &mut [i64])
+pub(crate) fn unpack<T: Packed>(packed: &[T], into: &mut [i64])
     requires { length packed.now ≡ length into.old }
     ensures { into.new ≡ map T.value packed.now }
 {

@@ -1,17 +1,32 @@
-use Rattle.std.proofs.Common.{◌≡◌, ◌+◌, ◌∙◌, [], length, get_or, sym, ap, subst, arith}
+use Rattle.std.proofs.Common.{◌≡◌, ◌+◌, ◌*◌, ◌∙◌, [], length, map, drop, get_or, sym, ap, subst, arith}
 use Rattle.std.specs.Prelude.{flat_map}
+use Rattle.std.proofs.lemmas.List.{length-map, length-take}
 use Rattle.std.proofs.lemmas.Result.{err_from_is_err_and}
 use Rattle.iso_io.proofs.Staging.{HasStaged, staged_front, staged_whole}
 use Rattle.nrrd.specs.Writing.{coded_line, rows_of}
-use Rattle.nrrd_text.proofs.Lines.{HasPieces, next_first, pieces_more}
-use Rattle.inner_volume.specs.Unpadded.{inner_voxels}
+use Rattle.nrrd_text.proofs.Lines.{HasPieces, next_first, pieces_more, pieces_none}
+use Rattle.inner_volume.specs.Unpadded.{inner_samples, inner_voxels}
 use Rattle.inner_volume.proofs.RowLines.{no_rows, row_among, row_printed}
 use Rattle.inner_volume.proofs.printed.gather_rows.Goals as goal
+
+pub loop-number-init : goal.loop-number-init
+loop-number-init g c = record {
+  pieces = pieces_none _ _ _ _ _;
+  held = record { few = omega arith; samples = λ i low. absurd (omega (arith, low)) };
+  first = omega arith;
+  next = omega arith;
+}
+
+pub gather_row-requires-clause-few : goal.gather_row-requires-clause-few
+gather_row-requires-clause-few g c =
+    let row = c.held_row-row.result.now in
+    let text = drop (c.loop-number.number * c.args.sizes.now.nx) (inner_samples c.args.store.now) in
+    omega (arith, length-map row g.T.Packed.value, ap length c.held_row-row.ensures.value, length-take c.args.sizes.now.nx text, c.ny.ensures.grid.x.most)
 
 pub returns-in_err-bytes-clause-lines : goal.returns-in_err-bytes-clause-lines
 returns-in_err-bytes-clause-lines g c =
     let v = c.args.store.now in
-    let row = c.held_row-row.result.now in
+    let row = map g.T.Packed.value c.held_row-row.result.now in
     let low = rw (c.ny.ensures.value, c.nz.ensures.value) at c.loop-number-test.true in
     let is : coded_line c.args.hex c.kind-kind.result row ≡ coded_line c.args.hex v.kind (get_or (rows_of (inner_voxels v)) c.loop-number.number [])
     = ap (λ k. coded_line c.args.hex k row) c.kind-kind.ensures
@@ -25,7 +40,7 @@ returns-in_err-bytes-clause-lines g c =
 pub loop-number-preserved : goal.loop-number-preserved
 loop-number-preserved g c =
     let v = c.args.store.now in
-    let row = c.held_row-row.result.now in
+    let row = map g.T.Packed.value c.held_row-row.result.now in
     let low = rw (c.ny.ensures.value, c.nz.ensures.value) at c.loop-number-test.true in
     let is : coded_line c.args.hex c.kind-kind.result row ≡ coded_line c.args.hex v.kind (get_or (rows_of (inner_voxels v)) c.loop-number.number [])
     = ap (λ k. coded_line c.args.hex k row) c.kind-kind.ensures

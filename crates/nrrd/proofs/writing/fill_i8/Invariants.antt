@@ -1,7 +1,7 @@
-use Rattle.std.proofs.Common.{◌≡◌, ◌*◌, take}
+use Rattle.std.proofs.Common.{◌≡◌, ◌*◌, take, map}
 use Rattle.iso_base.specs.declared.kind.SampleKind.TheVariants.{I8}
 use Rattle.nrrd.specs.Writing.{samples_text}
 use Rattle.nrrd.proofs.writing.fill_i8.Given as goal
 
 abbrev pub invariant-loop-i : goal.invariant-loop-i
-invariant-loop-i l = take (1 * l.i) l.room ≡ samples_text I8 (take l.i l.piece)
+invariant-loop-i g l = take (1 * l.i) l.room ≡ samples_text I8 (take l.i (map g.T.Packed.value l.piece))

@@ -1,11 +1,16 @@
-use Rattle.std.proofs.Common.{◌≡◌, ◌+◌, ◌*◌, get_or, ℤ, pos, arith, ◌∙◌}
+use Rattle.std.proofs.Common.{◌≡◌, ◌+◌, ◌*◌, ◌<◌, get_or, length, map, sym, subst, ℤ, pos, arith, ◌∙◌}
+use Rattle.std.proofs.lemmas.List.{length-map}
+use Rattle.iso_base.specs.Samples.{IsOfKind}
 use Rattle.iso_base.specs.declared.kind.SampleKind.TheVariants.{U32}
 use Rattle.nrrd.proofs.Texts.{stepped, wide}
 use Rattle.nrrd.proofs.writing.fill_u32.Goals as goal
 
 pub loop-i-preserved : goal.loop-i-preserved
-loop-i-preserved c =
-    let z = get_or c.args.piece.now c.loop-i.i (pos 0) in
+loop-i-preserved g c =
+    let piece = map g.T.Packed.value c.args.piece.now in
+    let low : c.loop-i.i < length piece = omega (arith, length-map c.args.piece.now g.T.Packed.value) in
+    let z = c.sample_at.result in
+    let fits : IsOfKind U32 z = subst (IsOfKind U32) (sym c.sample_at.ensures) (c.requires.each c.loop-i.i (pos 0) low) in
     let r : ℤ = pos c.as_u32.result in
-    let here : r ≡ z = c.as_u32.ensures ∙ wide U32 z (c.requires.each c.loop-i.i (pos 0) c.loop-i-test.true) in
-    stepped U32 c.args.piece.now c.loop-i.room c.write_u32.new.buf _ _ c.loop-i.i (4 * (c.loop-i.i + 1)) (4 * c.loop-i.i) r c.loop-i-test.true here (omega arith) (omega arith) (c.write_u32.ensures) c.loop-i.invariant
+    let here : r ≡ get_or piece c.loop-i.i (pos 0) = c.as_u32.ensures ∙ (wide U32 z fits ∙ c.sample_at.ensures) in
+    stepped U32 piece c.loop-i.room c.write_u32.new.buf _ _ c.loop-i.i (4 * (c.loop-i.i + 1)) (4 * c.loop-i.i) r low here (omega arith) (omega arith) (c.write_u32.ensures) c.loop-i.invariant

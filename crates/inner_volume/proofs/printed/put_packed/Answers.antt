@@ -1,6 +1,6 @@
 use Rattle.std.proofs.lemmas.Result.{err_from_is_err_and}
 use Rattle.inner_volume.proofs.RowLines.{rows_unwritten}
-use Rattle.inner_volume.proofs.printed.put_rows.Goals as goal
+use Rattle.inner_volume.proofs.printed.put_packed.Goals as goal
 
 pub returns-in_err-write_all_of-clause-lines : goal.returns-in_err-write_all_of-clause-lines
 returns-in_err-write_all_of-clause-lines g c =
