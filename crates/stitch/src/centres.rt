@@ -170,7 +170,8 @@ fn write_cell<H: Heights, K: Sink>(
 ) -> Result<(), Failed>
     requires cell { IsCellAt (H.leveled field.now).grid cell }
     requires case { IsCaseOf (H.leveled field.now) cell.index case }
-    ensures adds { Adds (K.seen sink.old) (K.seen sink.new) block.old block.new result (centres_text style.format style.padded (H.leveled field.now) cell.index 1) }
+    ensures adds { Adds (K.seen sink.old) (K.seen sink.new) block.old block.new result
+        (centres_text style.format style.padded (H.leveled field.now) cell.index 1) }
     ensures bytes { IfOk result (λ _. block.new.total ≤ block.old.total + 256) }
 {
     let case = CaseRow::of(case);

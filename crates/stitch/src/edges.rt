@@ -114,7 +114,8 @@ fn put_edge<H: Heights>(
     requires low_bound { unsigned_abs low < 2 ^ 44 }
     requires high_bound { unsigned_abs high < 2 ^ 44 }
     requires room { block.old.page + 64 ≤ 4096 }
-    ensures put { IsBehind block.old block.new (edge_line style.format style.padded (H.leveled field.now) (3 * index_of (H.leveled field.now).grid point + axis)) }
+    ensures put { IsBehind block.old block.new
+        (edge_line style.format style.padded (H.leveled field.now) (3 * index_of (H.leveled field.now).grid point + axis)) }
     ensures few { block.new.page ≤ block.old.page + 64 }
     ensures bytes { block.new.total ≤ block.old.total + 64 }
 {
@@ -143,7 +144,8 @@ fn put_if_crossing<H: Heights>(
     requires low_bound { unsigned_abs low < 2 ^ 44 }
     requires high_bound { unsigned_abs high < 2 ^ 44 }
     requires room { block.old.page + 64 ≤ 4096 }
-    ensures put { IsBehind block.old block.new (edges_text style.format style.padded (H.leveled field.now) (3 * index_of (H.leveled field.now).grid point + axis) 1) }
+    ensures put { IsBehind block.old block.new
+        (edges_text style.format style.padded (H.leveled field.now) (3 * index_of (H.leveled field.now).grid point + axis) 1) }
     ensures few { block.new.page ≤ block.old.page + 64 }
     ensures bytes { block.new.total ≤ block.old.total + 64 }
 {

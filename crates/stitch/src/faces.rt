@@ -123,7 +123,8 @@ fn write_cell<H: Heights, K: Sink>(
     requires cell { IsCellAt (H.leveled field.now).grid cell }
     requires case { IsCaseOf (H.leveled field.now) cell.index case }
     requires corners { AreCorners (H.leveled field.now) cell.low.y cell.low.z corners.now }
-    requires total { total ≡ rank (H.leveled field.now).grid (heights (H.leveled field.now)) (3 * ((H.leveled field.now).grid.nx * row_count (H.leveled field.now).grid)) }
+    requires total { total ≡ rank (H.leveled field.now).grid (heights (H.leveled field.now))
+        (3 * ((H.leveled field.now).grid.nx * row_count (H.leveled field.now).grid)) }
     requires next { HasNumber (H.leveled field.now) total cell.index next }
     ensures adds { Adds (K.seen sink.old) (K.seen sink.new) block.old block.new result (faces_text style.format (H.leveled field.now) cell.index 1) }
     ensures next { IfOk result (λ n. HasNumber (H.leveled field.now) total (cell.index + 1) n) }
@@ -167,7 +168,8 @@ fn write_run<H: Heights, K: Sink>(
     requires count { length cases.now ≡ (H.leveled field.now).grid.nx }
     requires cases { IsCaseRow (H.leveled field.now) row cases.now }
     requires corners { AreCorners (H.leveled field.now) (row % (H.leveled field.now).grid.ny) (row / (H.leveled field.now).grid.ny) corners.now }
-    requires total { total ≡ rank (H.leveled field.now).grid (heights (H.leveled field.now)) (3 * ((H.leveled field.now).grid.nx * row_count (H.leveled field.now).grid)) }
+    requires total { total ≡ rank (H.leveled field.now).grid (heights (H.leveled field.now))
+        (3 * ((H.leveled field.now).grid.nx * row_count (H.leveled field.now).grid)) }
     requires next { HasNumber (H.leveled field.now) total ((H.leveled field.now).grid.nx * row + from) next }
     ensures adds { Adds (K.seen sink.old) (K.seen sink.new) block.old block.new result
         (faces_text style.format (H.leveled field.now) ((H.leveled field.now).grid.nx * row + from) (end - from)) }
@@ -216,7 +218,8 @@ pub fn write_cells<H: Heights, K: Sink>(
     requires count { length cases.now ≡ (H.leveled field.now).grid.nx }
     requires cases { IsCaseRow (H.leveled field.now) row cases.now }
     requires corners { AreCorners (H.leveled field.now) (row % (H.leveled field.now).grid.ny) (row / (H.leveled field.now).grid.ny) corners.now }
-    requires total { total ≡ rank (H.leveled field.now).grid (heights (H.leveled field.now)) (3 * ((H.leveled field.now).grid.nx * row_count (H.leveled field.now).grid)) }
+    requires total { total ≡ rank (H.leveled field.now).grid (heights (H.leveled field.now))
+        (3 * ((H.leveled field.now).grid.nx * row_count (H.leveled field.now).grid)) }
     requires next { HasNumber (H.leveled field.now) total ((H.leveled field.now).grid.nx * row) next }
     ensures adds { Adds (K.seen sink.old) (K.seen sink.new) block.old block.new result (row_faces_text style (H.leveled field.now) row) }
     ensures next { IfOk result (λ n. HasNumber (H.leveled field.now) total ((H.leveled field.now).grid.nx * (row + 1)) n) }

@@ -2,7 +2,7 @@
 ghost use Rattle.std.specs.Prelude.{◌≡◌, ℕ, ◌+◌, ◌-◌, ◌<◌, ◌≤◌, cond, int_le, length, map, min, slice_index};
 ghost use Rattle.iso_base.specs.Volume.{sample};
 ghost use Rattle.crossing_edges.specs.Signs.{flag_of};
-ghost use Rattle.stitch_rows.specs.Rows.{run_flags};
+ghost use Rattle.stitch_rows.specs.Rows.{AreZerosFrom, run_flags};
 
 use crate::lanes::flag_bytes;
 use packed_samples::Packed;
@@ -100,8 +100,8 @@ pub(crate) fn put_flags<T: Flagged>(
 }
 
 /// Writes 0 throughout.
-fn put_none(flags: &mut [u8])
-    ensures { (i : ℕ) → i < length flags.new → slice_index flags.new i ≡ 0 }
+pub(crate) fn put_zeros(flags: &mut [u8])
+    ensures { AreZerosFrom 0 flags.new }
 {
     flags.fill(0);
 }
@@ -112,7 +112,7 @@ impl Flagged for u8 {
     fn flag_eight(here: &[u8], up: &[u8], far: &[u8], least: i64, out: &mut [u8]) {
         match u8::try_from(least) {
             Ok(least) => flag_bytes(here, up, far, least, out),
-            Err(_) => put_none(out),
+            Err(_) => put_zeros(out),
         }
     }
 }

@@ -12,7 +12,7 @@ ghost use Rattle.stitch_rows.specs.Rows.{AreFirst, AreFlags, AreFlagsTo, AreRuns
 use crate::active::ActiveRow;
 use crate::bricks::{BrickRow, count_along};
 use crate::field::Field;
-use crate::flags::{Flagged, put_flags};
+use crate::flags::{Flagged, put_flags, put_zeros};
 use flat_mesh::{Heights, rank_points};
 use iso_base::Sizes;
 use packed_samples::{Packed, PackedRun};
@@ -117,13 +117,6 @@ fn active_flags<T: Flagged>(
     let runs = point_runs(field, copies, rows, x, y, z);
     let start = 8 * x as usize;
     put_flags(runs.here, runs.up, runs.far, least, start, flags);
-}
-
-/// Writes 0 throughout.
-fn put_zeros(flags: &mut [u8])
-    ensures { AreZerosFrom 0 flags.new }
-{
-    flags.fill(0);
 }
 
 /// Writes the flags of the points of a row that a brick holds: those from 8 * x on, where zeros stand. From the points of a brick
