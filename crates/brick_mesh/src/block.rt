@@ -137,20 +137,14 @@ impl<'a> Block<'a> {
         self.store.brick(self.brick)
     }
 
-    /// The shifted values at the corners of a cell of the brick.
+    /// The shifted values at the corners of a cell of the brick, from the brick's copies.
     #[inline(always)]
-    pub fn values(&self, cell: u32) -> [i64; 8]
-        requires { IsCell self.now cell }
+    pub fn values<T: Packed>(&self, copies: &[T], cell: u32) -> [i64; 8]
+        requires copies { AreCopiesOf self.now.grid self.now.samples self.now.brick (map T.value copies.now) }
+        requires cell { IsCell self.now cell }
         ensures value { result ≡ cell_values self.now.grid (heights self.now) (brick_cell self.now.grid self.now.brick cell) }
         ensures bound { All (λ v. unsigned_abs v < 2 ^ 44) result }
     {
-        match self.copies() {
-            PackedRun::Bytes(copies) => {
-                values_among(self.store, self.brick, self.level, copies, cell)
-            }
-            PackedRun::Numbers(copies) => {
-                values_among(self.store, self.brick, self.level, copies, cell)
-            }
-        }
+        values_among(self.store, self.brick, self.level, copies, cell)
     }
 }

@@ -1,5 +1,5 @@
 //! Entries of the cells of a brick that have a crossing edge, and the cases of its rows of cells.
-ghost use Rattle.std.specs.Prelude.{◌≡◌, ◌+◌, ◌*◌, ◌/◌, ◌%◌, ◌<◌, ◌≤◌, ◌++◌, length, true};
+ghost use Rattle.std.specs.Prelude.{◌≡◌, ◌+◌, ◌*◌, ◌/◌, ◌%◌, ◌<◌, ◌≤◌, ◌++◌, [], length, map, true};
 ghost use Rattle.arrayvec.specs.ArrayVec.{array_vec_len};
 ghost use Rattle.iso_defs.specs.Bricks.{brick_cell, brick_count, entries as entries_of, in_brick, is_mixed, row_cases};
 ghost use Rattle.iso_defs.specs.Cell.{cell_signs};
@@ -7,6 +7,7 @@ ghost use Rattle.iso_base.specs.Shifted.{field};
 ghost use Rattle.brick_mesh.specs.Block.{IsCell, IsCellRow, heights};
 ghost use Rattle.brick_mesh.specs.Entries.{case_of, entries_from};
 ghost use Rattle.brick_mesh.specs.Signs.{AreRows};
+ghost use Rattle.brick_store.specs.Copies.{AreCopiesOf};
 
 use crate::block::Block;
 use crate::signs::{SignRows, are_alike, columns, is_mixed, sign_rows};
@@ -14,26 +15,35 @@ use arrayvec::ArrayVec;
 use brick_store::{BrickId, BrickStore};
 use case_table::classify;
 use iso_base::{Level, Steps};
+use packed_samples::{Packed, PackedRun};
 use std::sync::ledger::Ledger;
 
 /// The number of the case of a cell, which is classified.
-fn case_number<L: Ledger>(block: &Block<'_>, cell: u32, steps: &mut Steps<L>) -> u16
+fn case_number<T: Packed, L: Ledger>(
+    block: &Block<'_>,
+    copies: &[T],
+    cell: u32,
+    steps: &mut Steps<L>,
+) -> u16
+    requires copies { AreCopiesOf block.now.grid block.now.samples block.now.brick (map T.value copies.now) }
     requires cell { IsCell block.now cell }
     ensures value { result ≡ case_of block.now.grid (heights block.now) (brick_cell block.now.grid block.now.brick cell) }
     ensures bound { result < 656 }
     ensures counted { steps.new ≡ steps.old + 1 }
 {
-    classify(&block.values(cell), steps).number()
+    classify(&block.values(copies, cell), steps).number()
 }
 
 /// Puts the entry of a cell behind the others, if the cell has a crossing edge.
-fn add_cell<L: Ledger>(
+fn add_cell<T: Packed, L: Ledger>(
     block: &Block<'_>,
+    copies: &[T],
     cell: u32,
     mixed: bool,
     entries: &mut ArrayVec<u32, 512>,
     steps: &mut Steps<L>,
 )
+    requires copies { AreCopiesOf block.now.grid block.now.samples block.now.brick (map T.value copies.now) }
     requires cell { IsCell block.now cell }
     requires mixed { mixed ≡ is_mixed (cell_signs block.now.grid (heights block.now) (brick_cell block.now.grid block.now.brick cell)) }
     requires room { array_vec_len entries.old < 512 }
@@ -41,19 +51,21 @@ fn add_cell<L: Ledger>(
     ensures counted { steps.new ≡ steps.old + length (entries_from block.now cell 1) }
 {
     if mixed {
-        let case = case_number(block, cell, steps);
+        let case = case_number(block, copies, cell, steps);
         entries.push(1024 * cell + u32::from(case));
     }
 }
 
 /// Puts the entries of a row of cells behind those of the rows before it.
-fn add_row<L: Ledger>(
+fn add_row<T: Packed, L: Ledger>(
     block: &Block<'_>,
+    copies: &[T],
     signs: &SignRows,
     row: u8,
     entries: &mut ArrayVec<u32, 512>,
     steps: &mut Steps<L>,
 )
+    requires copies { AreCopiesOf block.now.grid block.now.samples block.now.brick (map T.value copies.now) }
     requires row { row < 64 }
     requires signs { AreRows block.now 81 signs.now }
     requires entries { entries.old.items ≡ entries_from block.now 0 (8 * row) }
@@ -74,7 +86,27 @@ fn add_row<L: Ledger>(
     for x in 0..block.cells_along_x() {
         let mixed = is_mixed(above[x as usize], above[x as usize + 1]);
         let cell = 8 * u32::from(row) + u32::from(x);
-        add_cell(block, cell, mixed, entries, steps);
+        add_cell(block, copies, cell, mixed, entries, steps);
+    }
+}
+
+/// Puts the entries of a brick into an empty list.
+fn add_rows<T: Packed, L: Ledger>(
+    block: &Block<'_>,
+    copies: &[T],
+    signs: &SignRows,
+    entries: &mut ArrayVec<u32, 512>,
+    steps: &mut Steps<L>,
+)
+    requires copies { AreCopiesOf block.now.grid block.now.samples block.now.brick (map T.value copies.now) }
+    requires signs { AreRows block.now 81 signs.now }
+    requires none { entries.old.items ≡ [] }
+    ensures entries { entries.new.items ≡ entries_of block.now.grid (heights block.now) block.now.brick }
+    ensures counted { steps.new ≡ steps.old + length entries.new.items }
+    ensures bound { steps.new ≤ steps.old + 512 }
+{
+    for row in 0..64 {
+        add_row(block, copies, signs, row, entries, steps);
     }
 }
 
@@ -98,20 +130,23 @@ pub fn extract_brick<L: Ledger>(
     if are_alike(&signs) {
         return;
     }
-    for row in 0..64 {
-        add_row(&block, &signs, row, entries, steps);
+    match block.copies() {
+        PackedRun::Bytes(copies) => add_rows(&block, copies, &signs, entries, steps),
+        PackedRun::Numbers(copies) => add_rows(&block, copies, &signs, entries, steps),
     }
 }
 
 /// Replaces the rows by the numbers of the cases of a row of cells.
-fn put_row<L: Ledger>(
+fn put_row<T: Packed, L: Ledger>(
     block: &Block<'_>,
+    copies: &[T],
     y: u8,
     z: u8,
     rows: &mut ArrayVec<u16, 8>,
     steps: &mut Steps<L>,
 )
-    requires { IsCellRow block.now y z }
+    requires copies { AreCopiesOf block.now.grid block.now.samples block.now.brick (map T.value copies.now) }
+    requires row { IsCellRow block.now y z }
     ensures cases { rows.new.items ≡ row_cases block.now.grid (heights block.now) block.now.brick y z }
     ensures counted { steps.new ≡ steps.old + length rows.new.items }
     ensures bound { steps.new ≤ steps.old + 8 }
@@ -119,7 +154,7 @@ fn put_row<L: Ledger>(
     rows.clear();
     for x in 0..block.cells_along_x() {
         let cell = u32::from(x) + 8 * (u32::from(y) + 8 * u32::from(z));
-        rows.push(case_number(block, cell, steps));
+        rows.push(case_number(block, copies, cell, steps));
     }
 }
 
@@ -143,5 +178,8 @@ pub fn extract_row<L: Ledger>(
     ensures bound { steps.new ≤ steps.old + 8 }
 {
     let block = Block::of(store, brick, level);
-    put_row(&block, y, z, rows, steps);
+    match block.copies() {
+        PackedRun::Bytes(copies) => put_row(&block, copies, y, z, rows, steps),
+        PackedRun::Numbers(copies) => put_row(&block, copies, y, z, rows, steps),
+    }
 }

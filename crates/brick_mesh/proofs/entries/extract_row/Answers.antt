@@ -1,16 +1,26 @@
-use Rattle.std.proofs.Common.{◌≡◌, ◌∙◌, ◌+◌, true, ap, arith}
+use Rattle.std.proofs.Common.{◌≡◌, ◌∙◌, ◌+◌, ◌<◌, ℕ, ℤ, true, ap, arith}
+use Rattle.iso_base.specs.Volume.{Volume}
+use Rattle.brick_mesh.specs.Block.{block_of}
 use Rattle.iso_defs.specs.Bricks.{in_brick, row_cases}
-use Rattle.brick_mesh.specs.Block.{BrickAt, heights}
+use Rattle.brick_mesh.specs.Block.{BrickAt, IsCellRow, heights}
 use Rattle.brick_mesh.proofs.Spans.{inside, offsets}
 use Rattle.brick_mesh.proofs.entries.extract_row.Goals as goal
 
-pub put_row-requires : goal.put_row-requires
-put_row-requires g c =
-    let g0 = c.args.store.now.grid in
-    let o = offsets g0 c.args.brick.0 1 (c.args.y + 1) (c.args.z + 1) (omega arith) (omega arith) (omega arith) c.requires.there in
-    let last : in_brick g0 c.args.brick.0 0 (c.args.y + 1) (c.args.z + 1) ≡ true
-    = inside g0 c.args.brick.0 0 (c.args.y + 1) (c.args.z + 1) (record { x-in = omega (arith, o.x-in); y-in = o.y-in; z-in = o.z-in }) (omega arith) (omega arith) (omega arith) in
-    rw c.of-block.ensures (record { y_low = c.requires.y; z_low = c.requires.z; last = last })
+row_there : (v : Volume) (brick y z : ℕ) (level : ℤ) → y < 8 → z < 8 → in_brick v.grid brick 1 (y + 1) (z + 1) ≡ true → IsCellRow (block_of v brick level) y z
+row_there v brick y z level y_low z_low there =
+    let o = offsets v.grid brick 1 (y + 1) (z + 1) (omega arith) (omega arith) (omega arith) there in
+    let last : in_brick v.grid brick 0 (y + 1) (z + 1) ≡ true
+    = inside v.grid brick 0 (y + 1) (z + 1) (record { x-in = omega (arith, o.x-in); y-in = o.y-in; z-in = o.z-in }) (omega arith) (omega arith) (omega arith) in
+    record { y_low = y_low; z_low = z_low; last = last }
 
-pub returns-clause-cases : goal.returns-clause-cases
-returns-clause-cases g c = c.put_row.ensures.cases ∙ ap (λ (b : BrickAt). row_cases b.grid (heights b) b.brick c.args.y c.args.z) c.of-block.ensures
+pub put_row-requires-clause-row : goal.put_row-requires-clause-row
+put_row-requires-clause-row g c = rw c.of-block.ensures (row_there c.args.store.now c.args.brick.0 c.args.y c.args.z c.args.level c.requires.y c.requires.z c.requires.there)
+
+pub put_row-requires-in-Numbers-clause-row : goal.put_row-requires-in-Numbers-clause-row
+put_row-requires-in-Numbers-clause-row g c = rw c.of-block.ensures (row_there c.args.store.now c.args.brick.0 c.args.y c.args.z c.args.level c.requires.y c.requires.z c.requires.there)
+
+pub returns-in-Bytes-clause-cases : goal.returns-in-Bytes-clause-cases
+returns-in-Bytes-clause-cases g c = c.put_row.ensures.cases ∙ ap (λ (b : BrickAt). row_cases b.grid (heights b) b.brick c.args.y c.args.z) c.of-block.ensures
+
+pub returns-in-Numbers-clause-cases : goal.returns-in-Numbers-clause-cases
+returns-in-Numbers-clause-cases g c = c.put_row-in-Numbers.ensures.cases ∙ ap (λ (b : BrickAt). row_cases b.grid (heights b) b.brick c.args.y c.args.z) c.of-block.ensures

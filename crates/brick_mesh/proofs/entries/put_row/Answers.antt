@@ -17,7 +17,7 @@ loop-x-preserved g c =
     let at : cell ≡ c.loop-x.x + 8 * (c.args.y + 8 * c.args.z) = omega arith in
     record {
       cases = c.push.ensures.items ∙ ap₂ (λ l case. l ++ case ∷ []) c.loop-x.invariant.cases c.case_number.ensures.value
-          ∙ sym (first_more c.args.block.now c.args.y c.args.z c.loop-x.x cell (omega arith) c.requires.y_low at);
+          ∙ sym (first_more c.args.block.now c.args.y c.args.z c.loop-x.x cell (omega arith) c.requires.row.y_low at);
       counted = omega (arith, c.case_number.ensures.counted, c.loop-x.invariant.counted, ap length c.push.ensures.items ∙ length-append c.loop-x.rows.items (c.case_number.result ∷ []));
     }
 
