@@ -18,8 +18,8 @@ struct RawSamples<'a> {
     volume: &'a RawVolume<'a>,
 }
 
-/// Writes samples from an index on over bytes, one by one.
-fn put_samples(volume: &RawVolume<'_>, start: u32, into: &mut [u8])
+/// Copies samples from an index on over bytes, one by one.
+fn copy_each(volume: &RawVolume<'_>, start: u32, into: &mut [u8])
     requires room { start + length into.old ≤ length volume.now.samples }
     requires fits { All IsByte volume.now.samples }
     ensures { map pos into.new ≡ take (length into.old) (drop start volume.now.samples) }
@@ -44,7 +44,7 @@ impl<'a> SampleRuns for RawSamples<'a> {
             let start = start as usize;
             into.copy_from_slice(&self.volume.bytes()[start..start + into.len()]);
         } else {
-            put_samples(self.volume, start, into);
+            copy_each(self.volume, start, into);
         }
     }
 }

@@ -15,7 +15,7 @@ use crate::rows::copy_rows;
 use brick_store::BrickStore;
 use iso_base::{SampleKind, Sizes};
 use iso_io::{Failed, Shelf, ShelfFile, Sink};
-use nrrd::{put_nrrd_head, put_samples, volume_bytes};
+use nrrd::{put_nrrd_head, put_packed_samples, volume_bytes};
 use packed_samples::{Packed, PackedRun};
 
 /// So many samples are gathered from rows before they are written.
@@ -40,7 +40,7 @@ fn make_room<K: Sink, T: Packed>(
     if more <= block.len() - held {
         return Ok(held);
     }
-    put_samples(sink, kind, &block[..held])?;
+    put_packed_samples(sink, kind, &block[..held])?;
     Ok(0)
 }
 
@@ -73,7 +73,7 @@ fn put_rows<K: Sink, T: Packed>(
         held += (end - row) as usize * width;
         row = end;
     }
-    put_samples(sink, kind, &block[..held])
+    put_packed_samples(sink, kind, &block[..held])
 }
 
 /// Writes the samples off the pad's layer.

@@ -293,9 +293,10 @@ fn put_pieces<K: Sink, T: Packed>(
     Ok(())
 }
 
-/// Appends samples to a sink, each in as many bytes as its kind has, in little order. The values lie in the kind's range.
-/// `Failed` comes only where the sink's count of faults rose; a front of the bytes was then taken. No memory is taken.
-pub fn put_samples<K: Sink, T: Packed>(
+/// Appends samples to a sink, in whichever width they are packed, each in as many bytes as its kind has, in little order. The values
+/// lie in the kind's range. `Failed` comes only where the sink's count of faults rose; a front of the bytes was then taken. No
+/// memory is taken.
+pub fn put_packed_samples<K: Sink, T: Packed>(
     sink: &mut K,
     kind: SampleKind,
     values: &[T],
@@ -305,6 +306,14 @@ pub fn put_samples<K: Sink, T: Packed>(
 {
     let mut room = [0u8; BLOCK];
     put_pieces(sink, kind, values, &mut room)
+}
+
+/// Appends samples to a sink as `put_packed_samples` does.
+pub fn put_samples<K: Sink>(sink: &mut K, kind: SampleKind, values: &[i64]) -> Result<(), Failed>
+    requires { All (IsOfKind kind) values.now }
+    ensures { Puts (K.seen sink.old) (K.seen sink.new) result (samples_text kind values.now) }
+{
+    put_packed_samples(sink, kind, values)
 }
 
 /// The number of bytes of a volume in print, its head and its samples.

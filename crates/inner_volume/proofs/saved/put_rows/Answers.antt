@@ -21,8 +21,8 @@ pub make_room-requires-clause-each : goal.make_room-requires-clause-each
 make_room-requires-clause-each g c =
     subst (All (IsOfKind c.kind-kind.result)) (take-map g.T.Packed.value c.loop-row.held c.loop-row.block) c.loop-row.invariant.each
 
-pub put_samples-requires : goal.put_samples-requires
-put_samples-requires g c =
+pub put_packed_samples-requires : goal.put_packed_samples-requires
+put_packed_samples-requires g c =
     subst (All (IsOfKind c.kind-kind.result)) (take-map g.T.Packed.value c.loop-row.held c.loop-row.block) c.loop-row.invariant.each
 
 pub returns-in_err-held : goal.returns-in_err-held
@@ -60,4 +60,4 @@ returns g c =
     let past = rw (c.ny.ensures.value, c.nz.ensures.value) at c.loop-row-test.false in
     let le : length (inner_samples v) ≤ c.loop-row.row * c.args.sizes.now.nx
     = omega (arith, length-inner_samples v, ap point_count c.requires.sizes, rows_end c.args.sizes.now.nx c.args.sizes.now.ny c.args.sizes.now.nz c.loop-row.row past) in
-    same_kind _ _ _ _ _ _ c.kind-kind.ensures (rows_all _ _ _ _ _ _ _ _ _ c.loop-row.invariant le (rw (← take-map g.T.Packed.value c.loop-row.held c.loop-row.block) at c.put_samples.ensures))
+    same_kind _ _ _ _ _ _ c.kind-kind.ensures (rows_all _ _ _ _ _ _ _ _ _ c.loop-row.invariant le (rw (← take-map g.T.Packed.value c.loop-row.held c.loop-row.block) at c.put_packed_samples.ensures))

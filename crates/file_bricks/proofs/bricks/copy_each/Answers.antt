@@ -1,6 +1,6 @@
 use Rattle.std.proofs.Common.{◌<◌, ◌≤◌, ◌∙◌, sym, arith, drop, length, map, pos, take}
 use Rattle.std.proofs.lemmas.List.{ext_get_or, get_or-drop, get_or-map, get_or-take, length-drop, length-map, length-take-le}
-use Rattle.file_bricks.proofs.bricks.put_samples.Goals as goal
+use Rattle.file_bricks.proofs.bricks.copy_each.Goals as goal
 
 pub returns : goal.returns
 returns c =
