@@ -60,6 +60,26 @@ pub enum BenchFault {
     NoSuchPlane { k: i64 },
 }
 
+impl From<Memory> for BenchFault {
+    ghost use Rattle.iso_base.specs.declared.fault.BenchFault.TheVariants.{Memory};
+
+    ghost from_gives = { λ _ fault. fault ≡ Memory };
+
+    fn from(_: Memory) -> BenchFault {
+        BenchFault::Memory
+    }
+}
+
+impl From<AllocError> for BenchFault {
+    ghost use Rattle.iso_base.specs.declared.fault.BenchFault.TheVariants.{Memory};
+
+    ghost from_gives = { λ _ fault. fault ≡ Memory };
+
+    fn from(_: AllocError) -> BenchFault {
+        BenchFault::Memory
+    }
+}
+
 /// What was written: the numbers of vertices, of faces, and of bytes.
 #[derive(Clone, Copy, Debug, PartialEq, Eq)]
 pub struct Written {

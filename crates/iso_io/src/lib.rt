@@ -26,9 +26,21 @@ pub use sink::{Sink, write_all_of};
 pub use source::{ReadFault, Source, read_all_of};
 pub use staged::{LINES, gather, stage};
 pub use standard::{StdSink, StdSource};
+use iso_base::BenchFault;
 use thiserror::Error;
 
 /// A call of the outside failed, and its count of faults rose.
 #[derive(Clone, Copy, Debug, PartialEq, Eq, Error)]
 #[error("failed")]
 pub struct Failed;
+
+impl From<Failed> for BenchFault {
+    ghost use Rattle.std.specs.Prelude.{◌≡◌};
+    ghost use Rattle.iso_base.specs.declared.fault.BenchFault.TheVariants.{ShelfFailed};
+
+    ghost from_gives = { λ _ fault. fault ≡ ShelfFailed };
+
+    fn from(_: Failed) -> BenchFault {
+        BenchFault::ShelfFailed
+    }
+}
