@@ -12,11 +12,6 @@ use Rattle.brick_mesh.specs.Block.{IsCell, block_of, corner_place, corner_values
 use Rattle.brick_mesh.proofs.Spans.{Offsets, cell_offsets, inside}
 use Rattle.brick_mesh.proofs.Values.{same_list}
 
--- the value at a place that is that of a corner
-pub at_corner : (copies : List ℤ) (level : ℤ) (low place corner : ℕ) (value : ℤ) → place ≡ low + corner_place corner → value ≡ shifted (sample copies place) level
-    → value ≡ shifted (sample copies (low + corner_place corner)) level
-at_corner copies level low place corner value at is = is ∙ ap (λ p. shifted (sample copies p) level) at
-
 module _ (v : Volume) (brick : ℕ) (level : ℤ) (copies : List ℤ) (cell : ℕ) (is : IsVolume v) (low : brick < brick_count v.grid)
     (are : AreCopiesOf v.grid v.samples brick copies) (there : IsCell (block_of v brick level) cell) where
   abbrev lowest : ℕ

@@ -26,6 +26,19 @@ fn height<T: Packed>(copies: &[T], place: usize, level: Level) -> i64
     level.shifted(copies[place].sample())
 }
 
+/// The shifted value at a corner of the cell whose lowest copy is at this place.
+#[inline(always)]
+fn corner_value<T: Packed>(copies: &[T], low: usize, corner: usize, level: Level) -> i64
+    requires corner { corner < 8 }
+    requires inside { low + 91 < length copies.now }
+    requires range { (corner : ℕ) → corner < 8 → IsSample (sample (map T.value copies.now) (low + corner_place corner)) }
+    ensures value { result ≡ shifted (sample (map T.value copies.now) (low + corner_place corner)) level }
+    ensures bound { unsigned_abs result < 2 ^ 44 }
+{
+    let place = low + (corner % 2 + 9 * (corner / 2 % 2 + 9 * (corner / 4)));
+    height(copies, place, level)
+}
+
 /// The shifted values at the corners of the cell whose lowest copy is at this place.
 #[inline(always)]
 fn corner_values<T: Packed>(copies: &[T], low: usize, level: Level) -> [i64; 8]
@@ -35,14 +48,14 @@ fn corner_values<T: Packed>(copies: &[T], low: usize, level: Level) -> [i64; 8]
     ensures bound { All (λ v. unsigned_abs v < 2 ^ 44) result }
 {
     [
-        height(copies, low, level),
-        height(copies, low + 1, level),
-        height(copies, low + 9, level),
-        height(copies, low + 10, level),
-        height(copies, low + 81, level),
-        height(copies, low + 82, level),
-        height(copies, low + 90, level),
-        height(copies, low + 91, level),
+        corner_value(copies, low, 0, level),
+        corner_value(copies, low, 1, level),
+        corner_value(copies, low, 2, level),
+        corner_value(copies, low, 3, level),
+        corner_value(copies, low, 4, level),
+        corner_value(copies, low, 5, level),
+        corner_value(copies, low, 6, level),
+        corner_value(copies, low, 7, level),
     ]
 }
 
