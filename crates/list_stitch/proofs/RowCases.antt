@@ -1,17 +1,18 @@
 -- The cases of a row of cells, one after the other.
-use Rattle.std.proofs.Common.{◌≡◌, ℕ, ◌+◌, ◌-◌, ◌*◌, ◌/◌, ◌%◌, ◌<◌, ◌≤◌, List, [], length, get_or, set, sym, ◌∙◌, ap, subst, arith, inl, inr}
+use Rattle.std.proofs.Common.{◌≡◌, ℕ, ◌+◌, ◌-◌, ◌*◌, ◌<◌, ◌≤◌, List, [], length, get_or, set, sym, subst, arith, inl, inr}
 use Rattle.std.proofs.lemmas.Bool.{cases_lt}
 use Rattle.std.proofs.lemmas.List.{get_or-set_other, get_or-set_same}
-use Rattle.std.proofs.Math.Nat.{div-add-mod}
+use Rattle.iso_defs.specs.Bricks.{bits_of}
 use Rattle.iso_defs.specs.Grid.{index}
-use Rattle.flat_mesh.specs.declared.centres.Cell.{Cell}
 use Rattle.flat_mesh.specs.Faces.{loops_at}
 use Rattle.flat_mesh.specs.Lattice.{Leveled}
-use Rattle.flat_mesh.proofs.CellPlaces.{cell_placed}
-use Rattle.stitch_rows.specs.Rows.{AreCases, AreCasesTo, AreZerosFrom, IsCaseOf}
+use Rattle.flat_mesh.specs.Cases.{signs_at}
+use Rattle.flat_mesh.specs.Rows.{AreSigns, byte_of}
+use Rattle.flat_mesh.proofs.Quiet.{all_above, none_above}
+use Rattle.flat_mesh.proofs.SignBytes.{byte_is}
+use Rattle.stitch_rows.specs.Rows.{AreCases, AreCasesTo, IsCaseOf}
 use Rattle.stitch_rows.proofs.CellCases.{quiet_case}
-use Rattle.stitch.specs.Numbers.{AreQuiet}
-use Rattle.list_stitch.specs.Cases.{HaveRowCases}
+use Rattle.list_stitch.specs.Cases.{HasNoLoops}
 
 -- one case more
 pub set_case : (v : Leveled) (y z x case : ℕ) (old : List ℕ) → x < length old → IsCaseOf v (index v.grid x y z) case → AreCasesTo v y z x old → AreCasesTo v y z (x + 1) (set old x case)
@@ -39,21 +40,30 @@ eight_more v y z from old new none zeros same before x in_row below = elim (case
       subst (IsCaseOf v (index v.grid x y z)) (sym (zeros x late below)) (quiet_case v (index v.grid x y z) empty))
 ]
 
--- a row whose cells have no loops
-pub quiet_cases : (v : Leveled) (row : ℕ) (cases : List ℕ) → AreQuiet v (v.grid.nx * row) v.grid.nx → AreZerosFrom 0 cases → length cases ≡ v.grid.nx → HaveRowCases v (row % v.grid.ny) (row / v.grid.ny) cases
-quiet_cases v row cases quiet zeros count = record {
-  count = count;
-  each = λ hy hz x in_row below.
-      (let y : ℕ = row % v.grid.ny in
-      let z : ℕ = row / v.grid.ny in
-      let split : y + v.grid.ny * z ≡ row = omega (arith, div-add-mod row v.grid.ny) in
-      let place : index v.grid x y z ≡ v.grid.nx * row + x = ap (λ n. x + v.grid.nx * n) split ∙ omega arith in
-      let cell : Cell = record { index = index v.grid x y z; low = record { x = x; y = y; z = z } } in
-      let placed = cell_placed v.grid cell (record { index = refl_at x y z; x = in_row; y = hy; z = hz }) in
-      let none = quiet.none (index v.grid x y z) (omega (arith, place)) (omega (arith, place)) placed.tested in
-      let zero : get_or cases x 0 ≡ 0 = zeros x (omega arith) (omega (arith, count)) in
-      subst (IsCaseOf v (index v.grid x y z)) (sym zero) (quiet_case v (index v.grid x y z) none));
-}
-  where
-    refl_at : (x y z : ℕ) → index v.grid x y z ≡ index v.grid x y z
-    refl_at x y z = omega arith
+-- cells between four rows of signs that are all alike have no loops
+module _ (v : Leveled) (y z sign : ℕ) (near up far both : List ℕ) (n : AreSigns v y z near) (u : AreSigns v (y + 1) z up) (f : AreSigns v y (z + 1) far)
+    (b : AreSigns v (y + 1) (z + 1) both) (near_all : (x : ℕ) → x < length near → get_or near x 0 ≡ sign) (up_all : (x : ℕ) → x < length up → get_or up x 0 ≡ sign)
+    (far_all : (x : ℕ) → x < length far → get_or far x 0 ≡ sign) (both_all : (x : ℕ) → x < length both → get_or both x 0 ≡ sign) where
+  byte_alike : (x : ℕ) → x + 1 < v.grid.nx → byte_of near up far both x ≡ 255 * sign
+  byte_alike x h =
+      let s0 : get_or near x 0 ≡ sign = near_all x (omega (arith, n.count)) in
+      let s1 : get_or near (x + 1) 0 ≡ sign = near_all (x + 1) (omega (arith, n.count)) in
+      let s2 : get_or up x 0 ≡ sign = up_all x (omega (arith, u.count)) in
+      let s3 : get_or up (x + 1) 0 ≡ sign = up_all (x + 1) (omega (arith, u.count)) in
+      let s4 : get_or far x 0 ≡ sign = far_all x (omega (arith, f.count)) in
+      let s5 : get_or far (x + 1) 0 ≡ sign = far_all (x + 1) (omega (arith, f.count)) in
+      let s6 : get_or both x 0 ≡ sign = both_all x (omega (arith, b.count)) in
+      let s7 : get_or both (x + 1) 0 ≡ sign = both_all (x + 1) (omega (arith, b.count)) in
+      omega arith
+
+  pub alike_rows : sign ≤ 1 → HasNoLoops v y z
+  alike_rows small = record {
+    none = λ x h hy hz.
+        (let q : ℕ = index v.grid x y z in
+        let e : byte_of near up far both x ≡ 255 * sign = byte_alike x h in
+        let same : bits_of 8 (255 * sign) ≡ signs_at v q = byte_is v y z near up far both n u f b x (255 * sign) h (sym e) in
+        elim (cases_lt sign 1) [
+          | inl less ↦ none_above v q (255 * sign) same (omega arith)
+          | inr one ↦ all_above v q (255 * sign) same (omega arith)
+        ]);
+  }

@@ -1,20 +1,24 @@
 -- Rows of the lists of all points.
-use Rattle.std.proofs.Common.{◌≡◌, ℕ, suc, ◌+◌, ◌-◌, ◌*◌, ◌/◌, ◌%◌, ◌<◌, ◌≤◌, List, ◌++◌, length, map, take, drop, get_or, refl, sym, ◌∙◌, ap, subst, arith, zero-add, inl, inr, length-append}
+use Rattle.std.proofs.Common.{◌≡◌, ℕ, suc, ◌+◌, ◌-◌, ◌*◌, ◌/◌, ◌%◌, ◌<◌, ◌≤◌, List, [], ◌∷◌, ◌++◌, length, map, take, drop, replicate, get_or, refl, sym, ◌∙◌, ap, subst, arith, zero-add, inl, inr, append-nil, length-append}
 use Rattle.std.proofs.lemmas.Bool.{cases_lt}
-use Rattle.std.proofs.lemmas.List.{get_or_append_left, get_or-append_right}
+use Rattle.std.proofs.lemmas.List.{get_or_append_left, get_or-append_right, get_or-replicate, length-replicate, take_at}
+use Rattle.std.specs.List.{range_with_len}
 use Rattle.std.proofs.Math.Nat.{div-add-mod, mul-le-mul_left}
 use Rattle.iso_defs.specs.Grid.{Grid, index, point_count}
 use Rattle.iso_defs.specs.Rows.{row_count}
-use Rattle.crossing_edges.specs.Signs.{sign_of}
+use Rattle.crossing_edges.specs.Signs.{sign_flags, sign_of}
 use Rattle.crossing_edges.specs.Flags.{crossing_places, flags_at, flags_from}
 use Rattle.crossing_edges.proofs.Counting.{flag_here, length-flags_from}
+use Rattle.crossing_edges.proofs.SignFlags.{all_flags}
 use Rattle.flat_mesh.specs.Lattice.{AreKnown, IsLeveled, Leveled, heights}
 use Rattle.flat_mesh.specs.Rows.{AreSigns, row_start}
 use Rattle.flat_mesh.proofs.Parts.{part_at, part_length, row_fits, row_signs}
 use Rattle.stitch_rows.specs.Rows.{AreFlags, IsCaseOf}
+use Rattle.stitch_rows.proofs.CellCases.{quiet_case}
 use Rattle.stitch.specs.Numbers.{IsCaseRow}
 use Rattle.stitch.proofs.CornerRows.{row_behind, slice_of}
-use Rattle.list_stitch.specs.Cases.{HaveCases, HaveRowCases}
+use Rattle.list_stitch.specs.declared.cases.CellCases.{CellCases}
+use Rattle.list_stitch.specs.Cases.{HasNoLoops, HaveCases, HaveFirstCases}
 use Rattle.list_stitch.specs.Kept.{AreAllFlags}
 
 -- the flags of a row
@@ -24,6 +28,14 @@ pub record HasRowFlags (v : Leveled) (y z : ℕ) (flags : List ℕ) : Type 0 whe
 
 pub flags_length : (v : Leveled) (flags : List ℕ) → AreAllFlags v flags → length flags ≡ point_count v.grid
 flags_length v flags all = ap length all.list ∙ length-flags_from v.grid (heights v) 0 (point_count v.grid)
+
+-- those that were written over the signs
+pub flags_kept : (v w : Leveled) (signs flags rest : List ℕ) (n : ℕ) → w ≡ v → length v.samples ≡ point_count v.grid → signs ≡ map (sign_of v.level) v.samples
+    → flags ≡ map (sign_flags v.grid signs) (range_with_len 0 (point_count v.grid)) → length flags ≡ n → AreAllFlags w (take n (flags ++ rest))
+flags_kept v w signs flags rest n same count signs_are made len =
+    let all : flags ≡ flags_from v.grid (heights v) 0 (point_count v.grid)
+    = made ∙ (ap (λ signs. map (sign_flags v.grid signs) (range_with_len 0 (point_count v.grid))) signs_are ∙ all_flags v.grid v.samples v.level count) in
+    subst (λ (v : Leveled). AreAllFlags v (take n (flags ++ rest))) (sym same) (record { list = take_at flags rest n len ∙ all })
 
 pub row_flags : (v : Leveled) (flags : List ℕ) (y z a e : ℕ) → AreAllFlags v flags → 0 < v.grid.nx → y < v.grid.ny → z < v.grid.nz → a ≡ row_start v.grid y z → e ≡ a + v.grid.nx
     → HasRowFlags v y z (take (e - a) (drop a flags))
@@ -62,61 +74,111 @@ pub record HasRowCases (v : Leveled) (row : ℕ) (cases : List ℕ) : Type 0 whe
   pub count : length cases ≡ v.grid.nx
   pub each : IsCaseRow v row cases
 
-pub row_cases : (v : Leveled) (cases : List ℕ) (row a e : ℕ) → HaveCases v (row_count v.grid) cases → row < row_count v.grid → row % v.grid.ny + 1 < v.grid.ny → row / v.grid.ny + 1 < v.grid.nz
-    → a ≡ v.grid.nx * row → e ≡ a + v.grid.nx → HasRowCases v row (take (e - a) (drop a cases))
+pub row_cases : (v : Leveled) (cases : CellCases) (row a e : ℕ) → HaveCases v (row_count v.grid) cases → row < row_count v.grid → row % v.grid.ny + 1 < v.grid.ny → row / v.grid.ny + 1 < v.grid.nz
+    → a ≡ get_or cases.starts.items row 0 → e ≡ a + v.grid.nx → HasRowCases v row (take (e - a) (drop a cases.list.items))
 row_cases v cases row a e all low hy hz start end =
+    let list : List ℕ = cases.list.items in
     let y : ℕ = row % v.grid.ny in
     let z : ℕ = row / v.grid.ny in
-    let within : e ≤ length cases = omega (arith, all.count, row_fits_in v.grid row low) in
+    let within : e ≤ length list = omega (arith, all.within row low, start) in
     let split : y + v.grid.ny * z ≡ row = omega (arith, div-add-mod row v.grid.ny) in
-    let first : a ≡ v.grid.nx * (y + v.grid.ny * z) = start ∙ ap (λ n. v.grid.nx * n) (sym split) in
+    let first : a ≡ get_or cases.starts.items (y + v.grid.ny * z) 0 = start ∙ ap (λ r. get_or cases.starts.items r 0) (sym split) in
     record {
-      count = part_length a v.grid.nx e cases end within;
+      count = part_length a v.grid.nx e list end within;
       each = record {
         y = hy;
         z = hz;
         each = λ x in_row below.
-            (let at : a + x ≡ index v.grid x y z = omega (arith, first) in
-            let same : get_or (take (e - a) (drop a cases)) x 0 ≡ get_or cases (index v.grid x y z) 0 = part_at a v.grid.nx e cases end within x 0 below ∙ ap (λ p. get_or cases p 0) at in
+            (let same : get_or (take (e - a) (drop a list)) x 0 ≡ get_or list (get_or cases.starts.items (y + v.grid.ny * z) 0 + x) 0
+            = part_at a v.grid.nx e list end within x 0 below ∙ ap (λ a. get_or list (a + x) 0) first in
             let earlier : y + v.grid.ny * z < row_count v.grid = omega arith in
             subst (IsCaseOf v (index v.grid x y z)) (sym same) (all.each x y z in_row hy hz earlier));
       };
     }
 
 -- one row more
-pub no_cases : (v : Leveled) (cases : List ℕ) → length cases ≡ 0 → HaveCases v 0 cases
-no_cases v cases none = record { count = let z : v.grid.nx * 0 ≡ 0 = omega arith in omega arith; each = λ x y z hx hy hz low. absurd (omega arith) }
-
-pub more_cases : (v : Leveled) (rows : ℕ) (old row new : List ℕ) → 0 < v.grid.ny → HaveCases v rows old → HaveRowCases v (rows % v.grid.ny) (rows / v.grid.ny) row → new ≡ old ++ row → HaveCases v (rows + 1) new
-more_cases v rows old row new some before here made =
+more_cases : (v : Leveled) (rows start : ℕ) (old new : CellCases) (tail : List ℕ) → 0 < v.grid.ny → HaveCases v rows old
+    → new.list.items ≡ old.list.items ++ tail → new.starts.items ≡ old.starts.items ++ (start ∷ []) → start + v.grid.nx ≤ length new.list.items
+    → ((x : ℕ) → x + 1 < v.grid.nx → rows % v.grid.ny + 1 < v.grid.ny → rows / v.grid.ny + 1 < v.grid.nz → IsCaseOf v (index v.grid x (rows % v.grid.ny) (rows / v.grid.ny)) (get_or new.list.items (start + x) 0))
+    → HaveCases v (rows + 1) new
+more_cases v rows start old new tail some before listed started room here =
     let split : rows % v.grid.ny + v.grid.ny * (rows / v.grid.ny) ≡ rows = omega (arith, div-add-mod rows v.grid.ny) in
+    let length_is : length new.list.items ≡ length old.list.items + length tail = ap length listed ∙ length-append old.list.items tail in
+    let kept : (r : ℕ) → r < rows → get_or new.starts.items r 0 ≡ get_or old.starts.items r 0
+    = λ r low. ap (λ l. get_or l r 0) started ∙ get_or_append_left old.starts.items (start ∷ []) 0 r (omega (arith, before.count)) in
+    let zero : rows - rows ≡ 0 = omega arith in
+    let last : get_or new.starts.items rows 0 ≡ start
+    = ap (λ l. get_or l rows 0) started ∙ (get_or-append_right old.starts.items (start ∷ []) rows rows 0 before.count (omega arith) ∙ ap (λ i. get_or (start ∷ []) i 0) zero) in
     record {
-      count = ap length made ∙ (length-append old row ∙ omega (arith, before.count, here.count));
-      each = λ x y z hx hy hz low.
-          (let first : index v.grid x y z ≡ x + v.grid.nx * (y + v.grid.ny * z) = refl in
-          elim (cases_lt (y + v.grid.ny * z) rows) [
-            | inl earlier ↦ (
-                let within : index v.grid x y z < length old = omega (arith, before.count, row_within v.grid.nx (y + v.grid.ny * z) rows x earlier (omega arith)) in
-                subst (IsCaseOf v (index v.grid x y z)) (sym (ap (λ l. get_or l (index v.grid x y z) 0) made ∙ get_or_append_left old row 0 (index v.grid x y z) within))
-                (before.each x y z hx hy hz earlier))
-            | inr last ↦ (
-                let at : y + v.grid.ny * z ≡ rows = omega arith in
-                let parts = row_parts v.grid.ny y z rows (omega arith) at in
-                let place : index v.grid x y z ≡ v.grid.nx * rows + x = ap (λ n. x + v.grid.nx * n) at ∙ omega arith in
-                let rest : index v.grid x y z - v.grid.nx * rows ≡ x = omega (arith, place) in
-                let same : get_or new (index v.grid x y z) 0 ≡ get_or row x 0
-                = ap (λ l. get_or l (index v.grid x y z) 0) made ∙ (get_or-append_right old row (v.grid.nx * rows) (index v.grid x y z) 0 before.count (omega (arith, place)) ∙ ap (λ i. get_or row i 0) rest) in
-                let are : IsCaseOf v (index v.grid x (rows % v.grid.ny) (rows / v.grid.ny)) (get_or row x 0) = here.each (omega (arith, parts.0)) (omega (arith, parts.1)) x hx (omega arith) in
-                subst (IsCaseOf v (index v.grid x y z)) (sym same)
-                (subst (λ z. IsCaseOf v (index v.grid x y z) (get_or row x 0)) parts.1 (subst (λ y. IsCaseOf v (index v.grid x y (rows / v.grid.ny)) (get_or row x 0)) parts.0 are)))
-          ]);
+      count = ap length started ∙ (length-append old.starts.items (start ∷ []) ∙ omega (arith, before.count));
+      within = λ r low. elim (cases_lt r rows) [
+        | inl earlier ↦ omega (arith, kept r earlier, before.within r earlier, length_is)
+        | inr late ↦ (
+            let same : r ≡ rows = omega arith in
+            subst (λ n. get_or new.starts.items n 0 + v.grid.nx ≤ length new.list.items) (sym same) (omega (arith, last, room)))
+      ];
+      each = λ x y z hx hy hz low. elim (cases_lt (y + v.grid.ny * z) rows) [
+        | inl earlier ↦ (
+            let r : ℕ = y + v.grid.ny * z in
+            let s : ℕ = get_or old.starts.items r 0 in
+            let within : s + x < length old.list.items = omega (arith, before.within r earlier) in
+            let same : get_or new.list.items (get_or new.starts.items r 0 + x) 0 ≡ get_or old.list.items (s + x) 0
+            = ap (λ n. get_or new.list.items (n + x) 0) (kept r earlier) ∙ (ap (λ l. get_or l (s + x) 0) listed ∙ get_or_append_left old.list.items tail 0 (s + x) within) in
+            subst (IsCaseOf v (index v.grid x y z)) (sym same) (before.each x y z hx hy hz earlier))
+        | inr late ↦ (
+            let at : y + v.grid.ny * z ≡ rows = omega arith in
+            let parts = row_parts v.grid.ny y z rows (omega arith) at in
+            let same : get_or new.list.items (get_or new.starts.items (y + v.grid.ny * z) 0 + x) 0 ≡ get_or new.list.items (start + x) 0
+            = ap (λ r. get_or new.list.items (get_or new.starts.items r 0 + x) 0) at ∙ ap (λ n. get_or new.list.items (n + x) 0) last in
+            let are : IsCaseOf v (index v.grid x (rows % v.grid.ny) (rows / v.grid.ny)) (get_or new.list.items (start + x) 0) = here x hx (omega (arith, parts.0)) (omega (arith, parts.1)) in
+            subst (IsCaseOf v (index v.grid x y z)) (sym same)
+            (subst (λ z. IsCaseOf v (index v.grid x y z) (get_or new.list.items (start + x) 0)) parts.1
+            (subst (λ y. IsCaseOf v (index v.grid x y (rows / v.grid.ny)) (get_or new.list.items (start + x) 0)) parts.0 are)))
+      ];
     }
   where
-    row_within : (nx r rows x : ℕ) → r < rows → x < nx → x + nx * r < nx * rows
-    row_within nx r rows x low hx =
-        let k : nx * suc r ≤ nx * rows = mul-le-mul_left nx low in
-        let m : nx * suc r ≡ nx * r + nx = omega arith in
-        omega arith
-
     row_parts : (ny y z rows : ℕ) → y < ny → y + ny * z ≡ rows → (rows % ny ≡ y) × (rows / ny ≡ z)
     row_parts ny y z rows hy at = (row_behind (record { nx = 0; ny = ny; nz = 0 }) y z rows hy at, slice_of (record { nx = 0; ny = ny; nz = 0 }) y z rows hy at)
+
+-- of which the numbers are put behind the others
+pub row_kept : (v : Leveled) (rows : ℕ) (old new : CellCases) (row : List ℕ) → 0 < v.grid.ny → HaveFirstCases v rows old → length row ≡ v.grid.nx → IsCaseRow v rows row
+    → new.list.items ≡ old.list.items ++ row → new.starts.items ≡ old.starts.items ++ (length old.list.items ∷ []) → HaveFirstCases v (rows + 1) new
+row_kept v rows old new row some before count are listed started =
+    let start : ℕ = length old.list.items in
+    let length_is : length new.list.items ≡ start + v.grid.nx = ap length listed ∙ (length-append old.list.items row ∙ ap (λ n. start + n) count) in
+    let behind : (x : ℕ) → get_or new.list.items (start + x) 0 ≡ get_or row x 0
+    = λ x. (let rest : start + x - start ≡ x = omega arith in
+    ap (λ l. get_or l (start + x) 0) listed ∙ (get_or-append_right old.list.items row start (start + x) 0 refl (omega arith) ∙ ap (λ i. get_or row i 0) rest)) in
+    record {
+      cases_are = more_cases v rows start old new row some before.cases_are listed started (omega arith)
+          (λ x hx hy hz. subst (IsCaseOf v (index v.grid x (rows % v.grid.ny) (rows / v.grid.ny))) (sym (behind x)) (are.each x hx (omega arith)));
+      zeros = λ x low. ap (λ l. get_or l x 0) listed ∙ (get_or_append_left old.list.items row 0 x (omega (arith, before.some)) ∙ before.zeros x low);
+      some = omega (arith, length_is);
+      few = omega (arith, length_is, before.few);
+    }
+
+-- and of which the cells have no loops
+pub zeros_shared : (v : Leveled) (rows : ℕ) (old new : CellCases) → 0 < v.grid.ny → HaveFirstCases v rows old → HasNoLoops v (rows % v.grid.ny) (rows / v.grid.ny)
+    → new.list.items ≡ old.list.items → new.starts.items ≡ old.starts.items ++ (0 ∷ []) → HaveFirstCases v (rows + 1) new
+zeros_shared v rows old new some before quiet same started =
+    let length_is : length new.list.items ≡ length old.list.items = ap length same in
+    let zeros : (x : ℕ) → x < v.grid.nx → get_or new.list.items x 0 ≡ 0 = λ x low. ap (λ l. get_or l x 0) same ∙ before.zeros x low in
+    let more : v.grid.nx * (rows + 1) ≤ v.grid.nx * (rows + 1 + 1) = omega arith in
+    record {
+      cases_are = more_cases v rows 0 old new [] some before.cases_are (same ∙ sym (append-nil old.list.items)) started (omega (arith, length_is, before.some))
+          (λ x hx hy hz. (let at : 0 + x ≡ x = zero-add x in
+          subst (IsCaseOf v (index v.grid x (rows % v.grid.ny) (rows / v.grid.ny))) (sym (ap (λ n. get_or new.list.items n 0) at ∙ zeros x (omega arith)))
+          (quiet_case v (index v.grid x (rows % v.grid.ny) (rows / v.grid.ny)) (quiet.none x hx hy hz))));
+      zeros = zeros;
+      some = omega (arith, length_is, before.some);
+      few = omega (arith, length_is, before.few, more);
+    }
+
+-- no row yet
+pub no_rows : (v : Leveled) (cases : CellCases) → cases.list.items ≡ replicate v.grid.nx 0 → cases.starts.items ≡ [] → HaveFirstCases v 0 cases
+no_rows v cases listed started = record {
+  cases_are = record { count = ap length started; within = λ r low. absurd (omega arith); each = λ x y z hx hy hz low. absurd (omega arith) };
+  zeros = λ x low. ap (λ l. get_or l x 0) listed ∙ get_or-replicate v.grid.nx x 0 0 low;
+  some = omega (arith, ap length listed, length-replicate {A = ℕ} v.grid.nx 0);
+  few = omega (arith, ap length listed, length-replicate {A = ℕ} v.grid.nx 0);
+}

@@ -7,6 +7,7 @@ use Rattle.crossing_edges.specs.Flags.{flags_from}
 use Rattle.flat_mesh.specs.Lattice.{Leveled, heights}
 use Rattle.stitch.specs.Numbers.{AreCounts, AreRowRanks}
 use Rattle.stitch.specs.declared.counts.Counts.{Counts}
+use Rattle.list_stitch.specs.declared.cases.CellCases.{CellCases}
 use Rattle.list_stitch.specs.Cases.{HaveCases}
 
 -- the flags of all points
@@ -15,7 +16,7 @@ pub record AreAllFlags (v : Leveled) (flags : List ℕ) : Type 0 where
 
 -- the flags of all points, the cases of all cells, the numbers of crossing edges by rows and in all, and those of centres and
 -- triangles
-pub record AreKept (v : Leveled) (flags cases : List ℕ) (ranks : RowNumbers) (total : ℕ) (counts : Counts) : Type 0 where
+pub record AreKept (v : Leveled) (flags : List ℕ) (cases : CellCases) (ranks : RowNumbers) (total : ℕ) (counts : Counts) : Type 0 where
   pub flag_list : AreAllFlags v flags
   pub case_list : HaveCases v (row_count v.grid) cases
   pub row_ranks : AreRowRanks v ranks total

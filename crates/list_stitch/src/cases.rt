@@ -1,5 +1,5 @@
 //! The cases of all cells.
-ghost use Rattle.std.specs.Prelude.{◌≡◌, ℕ, ◌+◌, ◌-◌, ◌*◌, ◌/◌, ◌%◌, ◌<◌, ◌≤◌, ◌^◌, [], IfOk, IsTrue, length, map, slice_index};
+ghost use Rattle.std.specs.Prelude.{◌≡◌, ℕ, ◌+◌, ◌-◌, ◌*◌, ◌/◌, ◌%◌, ◌<◌, ◌≤◌, ◌^◌, ◌++◌, ◌∷◌, [], false, IfOk, IsTrue, length, map, replicate, slice_index};
 ghost use Rattle.iso_defs.specs.Bricks.{bits_of};
 ghost use Rattle.iso_defs.specs.Grid.{index};
 ghost use Rattle.iso_defs.specs.Rows.{row_count};
@@ -8,14 +8,13 @@ ghost use Rattle.flat_mesh.specs.Cases.{signs_at};
 ghost use Rattle.flat_mesh.specs.Centres.{IsCellAt};
 ghost use Rattle.flat_mesh.specs.Faces.{loops_at};
 ghost use Rattle.flat_mesh.specs.Rows.{AreSignBytes};
-ghost use Rattle.stitch_rows.specs.Rows.{AreCases, AreCasesTo, AreZerosFrom, IsCaseOf};
-ghost use Rattle.stitch.specs.Numbers.{AreRowRanks};
-ghost use Rattle.list_stitch.specs.Cases.{HaveCases, HaveRowCases};
+ghost use Rattle.stitch_rows.specs.Rows.{AreCases, AreCasesTo, IsCaseOf};
+ghost use Rattle.stitch.specs.Numbers.{IsCaseRow};
+ghost use Rattle.list_stitch.specs.Cases.{HasNoLoops, HaveCases, HaveFirstCases};
 
-use crate::rows::{has_loops, sign_row};
-use edge_points::RowRanks;
+use crate::rows::sign_row;
 use flat_mesh::{Cell, Heights, cell_case, cell_row};
-use iso_base::Point;
+use iso_base::{Point, Sizes};
 use std::alloc::{AllocError, Global};
 use stitch::row_at;
 
@@ -157,90 +156,172 @@ fn put_bytes<H: Heights>(field: &H, signs: &[u8], y: u32, z: u32, bytes: &mut [u
     );
 }
 
-/// Writes 0 throughout.
-fn put_zeros(cases: &mut [u16])
-    ensures { AreZerosFrom 0 cases.new }
+/// Whether each of the signs of a row is this one.
+fn are_all(signs: &[u8], sign: u8) -> bool
+    ensures { IsTrue result → (x : ℕ) → x < length signs.now → slice_index signs.now x ≡ sign }
 {
-    cases.fill(0);
+    // No branch leaves the loop, so that many signs are looked at in one step.
+    let mut alike = true;
+    for x in 0..signs.len() {
+        alike = alike & (signs[x] == sign);
+    }
+    alike
+}
+
+/// Whether all points round a row of cells are above, or none is: the cells have no loops then.
+fn are_alike<H: Heights>(field: &H, signs: &[u8], y: u32, z: u32) -> bool
+    requires y { y + 1 < (H.leveled field.now).grid.ny }
+    requires z { z + 1 < (H.leveled field.now).grid.nz }
+    requires signs { signs.now ≡ map (sign_of (H.leveled field.now).level) (H.leveled field.now).samples }
+    ensures { IsTrue result → HasNoLoops (H.leveled field.now) y z }
+{
+    let _ = field.sizes();
+    let near = sign_row(field, signs, y, z);
+    let up = sign_row(field, signs, y + 1, z);
+    let far = sign_row(field, signs, y, z + 1);
+    let both = sign_row(field, signs, y + 1, z + 1);
+    let sign = near[0];
+    if !are_all(near, sign) || !are_all(up, sign) || !are_all(far, sign) || !are_all(both, sign) {
+        return false;
+    }
+    true
+}
+
+/// Whether a row of points begins a row of cells that may have loops, by the signs.
+fn may_have_loops<H: Heights>(field: &H, signs: &[u8], row: u32) -> bool
+    requires row { row < row_count (H.leveled field.now).grid }
+    requires signs { signs.now ≡ map (sign_of (H.leveled field.now).level) (H.leveled field.now).samples }
+    ensures none { result ≡ false → HasNoLoops (H.leveled field.now) (row % (H.leveled field.now).grid.ny) (row / (H.leveled field.now).grid.ny) }
+    ensures y { IsTrue result → row % (H.leveled field.now).grid.ny + 1 < (H.leveled field.now).grid.ny }
+    ensures z { IsTrue result → row / (H.leveled field.now).grid.ny + 1 < (H.leveled field.now).grid.nz }
+{
+    let sizes = field.sizes();
+    let (y, z) = row_at(&sizes, row);
+    if y + 1 == sizes.ny() || z + 1 == sizes.nz() || are_alike(field, signs, y, z) {
+        return false;
+    }
+    true
 }
 
 /// Writes a number for each point of a row: where a cell begins, that of a case that has its loops. `bytes` is a buffer.
-fn put_row<H: Heights>(
-    field: &H,
-    signs: &[u8],
-    ranks: &RowRanks,
-    total: u32,
-    row: u32,
-    bytes: &mut [u8],
-    cases: &mut [u16],
-)
+fn put_row<H: Heights>(field: &H, signs: &[u8], row: u32, bytes: &mut [u8], cases: &mut [u16])
     requires row { row < row_count (H.leveled field.now).grid }
+    requires y { row % (H.leveled field.now).grid.ny + 1 < (H.leveled field.now).grid.ny }
+    requires z { row / (H.leveled field.now).grid.ny + 1 < (H.leveled field.now).grid.nz }
     requires signs { signs.now ≡ map (sign_of (H.leveled field.now).level) (H.leveled field.now).samples }
-    requires ranks { AreRowRanks (H.leveled field.now) ranks.now total }
     requires bytes { length bytes.old ≡ (H.leveled field.now).grid.nx }
     requires cases { length cases.old ≡ (H.leveled field.now).grid.nx }
-    ensures { HaveRowCases (H.leveled field.now) (row % (H.leveled field.now).grid.ny) (row / (H.leveled field.now).grid.ny) cases.new }
+    ensures { IsCaseRow (H.leveled field.now) row cases.new }
 {
-    if !has_loops(field, ranks, total, row) {
-        put_zeros(cases);
-        return;
-    }
     let sizes = field.sizes();
     let (y, z) = row_at(&sizes, row);
     put_bytes(field, signs, y, z, bytes);
     put_cases(field, y, z, bytes, cases);
 }
 
-/// Puts the cases of all cells behind one another, row by row. `bytes` and `row_cases` are buffers.
+/// The cases of all cells. Of each row of points that begins a row of cells with loops there is a number for each point in
+/// `list`: where a cell begins, that of a case that has its loops. The other rows share the zeros in front. By row, `starts`
+/// says where the numbers begin.
+#[derive(Drop)]
+pub struct CellCases {
+    pub list: Vec<u16>,
+    pub starts: Vec<u32>,
+}
+
+/// Puts the numbers of a row behind those of the rows before it.
+fn keep_row(row_cases: &[u16], cases: &mut CellCases) -> Result<(), AllocError>
+    requires { length cases.old.list.items < 2 ^ 32 }
+    ensures list { IfOk result (λ _. cases.new.list.items ≡ cases.old.list.items ++ row_cases.now) }
+    ensures starts { IfOk result (λ _. cases.new.starts.items ≡ cases.old.starts.items ++ (length cases.old.list.items ∷ [])) }
+{
+    let start = cases.list.len() as u32;
+    cases.list.extend_from_slice(row_cases)?;
+    cases.starts.extend_from_slice(&[start])
+}
+
+/// Lets a row share the zeros in front.
+fn share_zeros(cases: &mut CellCases) -> Result<(), AllocError>
+    ensures list { cases.new.list.items ≡ cases.old.list.items }
+    ensures starts { IfOk result (λ _. cases.new.starts.items ≡ cases.old.starts.items ++ (0 ∷ [])) }
+{
+    cases.starts.extend_from_slice(&[0])
+}
+
+/// Adds the cases of a row. `bytes` and `row_cases` are buffers.
+fn add_row<H: Heights>(
+    field: &H,
+    signs: &[u8],
+    row: u32,
+    bytes: &mut [u8],
+    row_cases: &mut [u16],
+    cases: &mut CellCases,
+) -> Result<(), AllocError>
+    requires row { row < row_count (H.leveled field.now).grid }
+    requires signs { signs.now ≡ map (sign_of (H.leveled field.now).level) (H.leveled field.now).samples }
+    requires bytes { length bytes.old ≡ (H.leveled field.now).grid.nx }
+    requires row_cases { length row_cases.old ≡ (H.leveled field.now).grid.nx }
+    requires cases { HaveFirstCases (H.leveled field.now) row cases.old }
+    ensures { IfOk result (λ _. HaveFirstCases (H.leveled field.now) (row + 1) cases.new) }
+{
+    let _ = field.sizes();
+    if !may_have_loops(field, signs, row) {
+        share_zeros(cases)?;
+        return Ok(());
+    }
+    put_row(field, signs, row, bytes, row_cases);
+    keep_row(row_cases, cases)?;
+    Ok(())
+}
+
+/// Adds the cases of all rows. `bytes` and `row_cases` are buffers.
 fn add_rows<H: Heights>(
     field: &H,
     signs: &[u8],
-    ranks: &RowRanks,
-    total: u32,
     bytes: &mut [u8],
     row_cases: &mut [u16],
-    cases: &mut Vec<u16>,
+    cases: &mut CellCases,
 ) -> Result<(), AllocError>
     requires signs { signs.now ≡ map (sign_of (H.leveled field.now).level) (H.leveled field.now).samples }
-    requires ranks { AreRowRanks (H.leveled field.now) ranks.now total }
     requires bytes { length bytes.old ≡ (H.leveled field.now).grid.nx }
     requires row_cases { length row_cases.old ≡ (H.leveled field.now).grid.nx }
-    requires none { length cases.old.items ≡ 0 }
-    ensures { IfOk result (λ _. HaveCases (H.leveled field.now) (row_count (H.leveled field.now).grid) cases.new.items) }
+    requires none { HaveFirstCases (H.leveled field.now) 0 cases.old }
+    ensures { IfOk result (λ _. HaveCases (H.leveled field.now) (row_count (H.leveled field.now).grid) cases.new) }
 {
     let sizes = field.sizes();
     for row in 0..sizes.ny() * sizes.nz() {
-        put_row(field, signs, ranks, total, row, bytes, row_cases);
-        cases.extend_from_slice(row_cases)?;
+        add_row(field, signs, row, bytes, row_cases, cases)?;
     }
     Ok(())
 }
 
-/// The cases of all cells: for each point a number, where a cell begins that of a case that has its loops.
+/// The cases of no rows, with room for those of all.
+fn no_cases(alloc: Global, sizes: &Sizes) -> Result<CellCases, AllocError>
+    ensures list { IfOk result (λ c. c.list.items ≡ replicate sizes.now.nx 0) }
+    ensures starts { IfOk result (λ c. c.starts.items ≡ []) }
+{
+    let nx = sizes.nx() as usize;
+    let mut cases = CellCases {
+        list: Vec::with_capacity(alloc, sizes.count() as usize + nx)?,
+        starts: Vec::with_capacity(alloc, (sizes.ny() * sizes.nz()) as usize)?,
+    };
+    cases.list.resize(nx, 0)?;
+    Ok(cases)
+}
+
+/// The cases of all cells.
 pub fn all_cases<H: Heights>(
     alloc: Global,
     field: &H,
     signs: &[u8],
-    ranks: &RowRanks,
-    total: u32,
-) -> Result<Vec<u16>, AllocError>
-    requires signs { signs.now ≡ map (sign_of (H.leveled field.now).level) (H.leveled field.now).samples }
-    requires ranks { AreRowRanks (H.leveled field.now) ranks.now total }
-    ensures { IfOk result (λ v. HaveCases (H.leveled field.now) (row_count (H.leveled field.now).grid) v.items) }
+) -> Result<CellCases, AllocError>
+    requires { signs.now ≡ map (sign_of (H.leveled field.now).level) (H.leveled field.now).samples }
+    ensures { IfOk result (λ c. HaveCases (H.leveled field.now) (row_count (H.leveled field.now).grid) c) }
 {
     let sizes = field.sizes();
     let nx = sizes.nx() as usize;
     let mut bytes = vec![in alloc; 0u8; nx]?;
     let mut row_cases = vec![in alloc; 0u16; nx]?;
-    let mut cases = Vec::with_capacity(alloc, sizes.count() as usize)?;
-    add_rows(
-        field,
-        signs,
-        ranks,
-        total,
-        &mut bytes,
-        &mut row_cases,
-        &mut cases,
-    )?;
+    let mut cases = no_cases(alloc, &sizes)?;
+    add_rows(field, signs, &mut bytes, &mut row_cases, &mut cases)?;
     Ok(cases)
 }

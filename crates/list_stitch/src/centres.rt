@@ -6,6 +6,7 @@ ghost use Rattle.stitch.specs.Numbers.{AreRowRanks};
 ghost use Rattle.stitch.specs.Spans.{all_centres_text, row_centres_text};
 ghost use Rattle.list_stitch.specs.Cases.{HaveCases};
 
+use crate::cases::CellCases;
 use crate::rows::{case_row, has_loops};
 use edge_points::RowRanks;
 use flat_mesh::Heights;
@@ -16,7 +17,7 @@ use stitch::{Block, Style, write_row_centres};
 fn write_row<H: Heights, K: Sink>(
     field: &H,
     style: Style,
-    cases: &[u16],
+    cases: &CellCases,
     ranks: &RowRanks,
     total: u32,
     row: u32,
@@ -39,7 +40,7 @@ fn write_row<H: Heights, K: Sink>(
 pub fn write_centres<H: Heights, K: Sink>(
     field: &H,
     style: Style,
-    cases: &[u16],
+    cases: &CellCases,
     ranks: &RowRanks,
     total: u32,
     block: &mut Block,

@@ -4,6 +4,7 @@ ghost use Rattle.iso_defs.specs.Rows.{row_count};
 ghost use Rattle.stitch.specs.Numbers.{AreCounts, AreRowRanks};
 ghost use Rattle.list_stitch.specs.Cases.{HaveCases};
 
+use crate::cases::CellCases;
 use crate::rows::{case_row, has_loops};
 use edge_points::RowRanks;
 use flat_mesh::Heights;
@@ -12,7 +13,7 @@ use stitch::{Counts, count_cells};
 /// Counts the cells of the row that a row of points begins.
 fn count_row<H: Heights>(
     field: &H,
-    cases: &[u16],
+    cases: &CellCases,
     ranks: &RowRanks,
     total: u32,
     row: u32,
@@ -31,7 +32,7 @@ fn count_row<H: Heights>(
 }
 
 /// How many centres and triangles there are in all.
-pub fn count_all<H: Heights>(field: &H, cases: &[u16], ranks: &RowRanks, total: u32) -> Counts
+pub fn count_all<H: Heights>(field: &H, cases: &CellCases, ranks: &RowRanks, total: u32) -> Counts
     requires cases { HaveCases (H.leveled field.now) (row_count (H.leveled field.now).grid) cases.now }
     requires ranks { AreRowRanks (H.leveled field.now) ranks.now total }
     ensures { AreCounts (H.leveled field.now) ((H.leveled field.now).grid.nx * row_count (H.leveled field.now).grid) result }

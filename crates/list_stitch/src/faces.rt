@@ -13,6 +13,7 @@ ghost use Rattle.stitch.specs.Spans.{all_faces_text, row_faces_text};
 ghost use Rattle.list_stitch.specs.Cases.{HaveCases};
 ghost use Rattle.list_stitch.specs.Kept.{AreAllFlags};
 
+use crate::cases::CellCases;
 use crate::rows::{case_row, flag_row, has_loops};
 use edge_points::RowRanks;
 use flat_mesh::Heights;
@@ -145,7 +146,7 @@ fn write_row<H: Heights, K: Sink>(
     field: &H,
     style: Style,
     flags: &[u8],
-    cases: &[u16],
+    cases: &CellCases,
     ranks: &RowRanks,
     total: u32,
     row: u32,
@@ -187,7 +188,7 @@ pub fn write_faces<H: Heights, K: Sink>(
     field: &H,
     style: Style,
     flags: &[u8],
-    cases: &[u16],
+    cases: &CellCases,
     ranks: &RowRanks,
     total: u32,
     block: &mut Block,

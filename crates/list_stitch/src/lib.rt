@@ -1,6 +1,6 @@
 //! The text of the mesh of a volume whose samples are a list, in memory or in the bytes of a file, written while its rows are
-//! walked: the mesh is never held. What is kept of a volume at a level is two bytes and the case of a cell for each point, and
-//! a number for each row; the writing takes no memory.
+//! walked: the mesh is never held. What is kept of a volume at a level is a byte for each point, the cases of the cells in rows
+//! with loops, and two numbers for each row; the writing takes no memory.
 #![tactic(auto)]
 
 mod cases;

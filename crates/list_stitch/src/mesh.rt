@@ -7,12 +7,12 @@ ghost use Rattle.flat_mesh.specs.Lattice.{heights};
 ghost use Rattle.flat_mesh.specs.Mesh.{mesh_of};
 ghost use Rattle.mesh_write.specs.Mesh.{text_of, written_of};
 
-use crate::cases::all_cases;
+use crate::cases::{CellCases, all_cases};
 use crate::counts::count_all;
 use crate::field::ListField;
 use crate::ranks::rank_rows;
 use crate::write::write_mesh;
-use crossing_edges::{SampleList, point_bits};
+use crossing_edges::{SampleList, put_flags};
 use edge_points::RowRanks;
 use iso_base::{Level, Memory, Sizes, Written};
 use iso_io::{Failed, Sink};
@@ -26,7 +26,7 @@ use stitch::{Counts, Style};
 pub struct ListMesh<'a, S: SampleList> {
     field: ListField<'a, S>,
     flags: Vec<u8>,
-    cases: Vec<u16>,
+    cases: CellCases,
     ranks: RowRanks,
     total: u32,
     counts: Counts,
@@ -40,7 +40,7 @@ impl<'a, S: SampleList> Model for ListMesh<'a, S> {
 
     ghost view = { λ m. m.field };
 
-    ghost invariant = { λ m. AreKept m.field m.flags.items m.cases.items m.ranks m.total m.counts };
+    ghost invariant = { λ m. AreKept m.field m.flags.items m.cases m.ranks m.total m.counts };
 }
 
 impl<'a, S: SampleList> ListMesh<'a, S> {
@@ -57,14 +57,16 @@ impl<'a, S: SampleList> ListMesh<'a, S> {
     {
         let _ = sizes.count();
         let mut ranks = RowRanks::new(alloc, &sizes)?;
-        let bits = point_bits(alloc, &sizes, samples, level)?;
+        let mut bits = samples.signs(alloc, level)?;
         let field = ListField::new(sizes, samples, level);
-        let total = rank_rows(&field, &bits.flags, &mut ranks);
-        let cases = all_cases(alloc, &field, &bits.signs, &ranks, total)?;
+        let cases = all_cases(alloc, &field, &bits)?;
+        // No sign is asked for from here on: the flags take their place.
+        put_flags(&sizes, &mut bits);
+        let total = rank_rows(&field, &bits, &mut ranks);
         let counts = count_all(&field, &cases, &ranks, total);
         Ok(ListMesh {
             field,
-            flags: bits.flags,
+            flags: bits,
             cases,
             ranks,
             total,

@@ -8,6 +8,7 @@ ghost use Rattle.stitch.specs.Numbers.{AreQuiet, AreRowRanks, IsCaseRow};
 ghost use Rattle.list_stitch.specs.Cases.{HaveCases};
 ghost use Rattle.list_stitch.specs.Kept.{AreAllFlags};
 
+use crate::cases::CellCases;
 use edge_points::RowRanks;
 use flat_mesh::Heights;
 use stitch::{is_quiet, row_at};
@@ -57,7 +58,7 @@ pub fn has_loops<H: Heights>(field: &H, ranks: &RowRanks, total: u32, row: u32) 
 }
 
 /// The cases of the row of cells that a row of points begins.
-pub fn case_row<'a, H: Heights>(field: &H, cases: &'a [u16], row: u32) -> &'a [u16]
+pub fn case_row<'a, H: Heights>(field: &H, cases: &'a CellCases, row: u32) -> &'a [u16]
     requires row { row < row_count (H.leveled field.now).grid }
     requires y { row % (H.leveled field.now).grid.ny + 1 < (H.leveled field.now).grid.ny }
     requires z { row / (H.leveled field.now).grid.ny + 1 < (H.leveled field.now).grid.nz }
@@ -65,7 +66,7 @@ pub fn case_row<'a, H: Heights>(field: &H, cases: &'a [u16], row: u32) -> &'a [u
     ensures count { length result.now ≡ (H.leveled field.now).grid.nx }
     ensures cases { IsCaseRow (H.leveled field.now) row result.now }
 {
-    let nx = field.sizes().nx();
-    let start = (nx * row) as usize;
-    &cases[start..start + nx as usize]
+    let nx = field.sizes().nx() as usize;
+    let start = cases.starts[row as usize] as usize;
+    &cases.list[start..start + nx]
 }

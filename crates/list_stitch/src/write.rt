@@ -9,6 +9,7 @@ ghost use Rattle.stitch.specs.Blocks.{Adds};
 ghost use Rattle.stitch.specs.Spans.{lines_text};
 ghost use Rattle.list_stitch.specs.Kept.{AreKept};
 
+use crate::cases::CellCases;
 use crate::centres::write_centres;
 use crate::edges::write_edges;
 use crate::faces::write_faces;
@@ -24,7 +25,7 @@ fn write_lines<S: SampleList, K: Sink>(
     field: &ListField<'_, S>,
     style: Style,
     flags: &[u8],
-    cases: &[u16],
+    cases: &CellCases,
     ranks: &RowRanks,
     total: u32,
     counts: Counts,
@@ -47,7 +48,7 @@ pub fn write_mesh<S: SampleList, K: Sink>(
     field: &ListField<'_, S>,
     style: Style,
     flags: &[u8],
-    cases: &[u16],
+    cases: &CellCases,
     ranks: &RowRanks,
     total: u32,
     counts: Counts,

@@ -1,4 +1,4 @@
-ghost use Rattle.std.specs.Prelude.{◌≡◌, ◌+◌, ◌≤◌, ◌==◌, ◌∷◌, [], length, position, MatchOption};
+ghost use Rattle.std.specs.Prelude.{◌≡◌, ℕ, ◌+◌, ◌<◌, ◌≤◌, ◌==◌, ◌∷◌, [], false, length, position, slice_index, MatchOption};
 ghost use Rattle.text_lines.specs.Lines.{lines_of, text_end};
 
 /// The length of a line without the one return before its line feed.
@@ -14,11 +14,52 @@ fn without_return(bytes: &[u8], end: usize) -> usize
     }
 }
 
+/// So many bytes are looked at in one step.
+const STEP: usize = 16;
+
+/// Whether there is a line feed in the step of bytes from a place on.
+#[inline(always)]
+fn has_feed(bytes: &[u8], from: usize) -> bool
+    requires { from + STEP ≤ length bytes.now }
+    ensures { result ≡ false → (k : ℕ) → k < STEP → (slice_index bytes.now (from + k) == 10) ≡ false }
+{
+    // No branch leaves the loop, so that it is one comparison of all the bytes.
+    let mut found = false;
+    for i in 0..STEP {
+        found = found | (bytes[from + i] == b'\n');
+    }
+    found
+}
+
+/// How many bytes in front are seen to have no line feed among them, step by step.
+#[inline(always)]
+fn without_feed(bytes: &[u8]) -> usize
+    ensures within { result ≤ length bytes.now }
+    ensures none { (k : ℕ) → k < result → (slice_index bytes.now k == 10) ≡ false }
+{
+    let steps = bytes.len() / STEP;
+    for step in 0..steps {
+        if has_feed(bytes, STEP * step) {
+            return STEP * step;
+        }
+    }
+    STEP * steps
+}
+
+/// The place of the first line feed, from a look at each byte.
+fn first_feed(bytes: &[u8]) -> Option<usize>
+    ensures { result ≡ position (λ b. b == 10) bytes.now }
+{
+    bytes.iter().position(|b| *b == b'\n')
+}
+
 /// The place of the first line feed.
 fn feed_at(bytes: &[u8]) -> Option<usize>
     ensures { result ≡ position (λ b. b == 10) bytes.now }
 {
-    bytes.iter().position(|b| *b == b'\n')
+    let start = without_feed(bytes);
+    let place = first_feed(&bytes[start..])?;
+    Some(start + place)
 }
 
 /// The text of the first line, and the bytes after its line feed. There is none only where no byte is left.

@@ -1,12 +1,7 @@
-use Rattle.std.proofs.Common.{◌/◌, ◌∙◌, subst, arith}
+use Rattle.std.proofs.Common.{◌/◌, subst, arith}
 use Rattle.stitch_rows.specs.Rows.{AreCases}
 use Rattle.stitch.proofs.CellRuns.{found_row}
-use Rattle.list_stitch.proofs.RowCases.{quiet_cases}
 use Rattle.list_stitch.proofs.cases.put_row.Goals as goal
-
-pub returns-then-not-has_loops : goal.returns-then-not-has_loops
-returns-then-not-has_loops g c =
-    quiet_cases (g.H.Heights.leveled c.args.field.now) c.args.row c.put_zeros.new.cases (c.has_loops.ensures.quiet c.if-not-has_loops.true) c.put_zeros.ensures (c.put_zeros.auto.cases ∙ c.requires.cases)
 
 pub put_bytes-requires-clause-y : goal.put_bytes-requires-clause-y
 put_bytes-requires-clause-y g c =
@@ -14,8 +9,7 @@ put_bytes-requires-clause-y g c =
     let y = c.row_at-y.result.0 in
     let z = c.row_at-y.result.1 in
     let at = found_row v c.sizes-sizes.result c.args.row y z c.sizes-sizes.ensures.value c.row_at-y.ensures.y c.row_at-y.ensures.z c.row_at-y.ensures.along c.row_at-y.ensures.across c.row_at-y.ensures.row in
-    let h = c.has_loops.ensures.y c.if-not-has_loops.false in
-    omega (arith, at.y_is)
+    omega (arith, at.y_is, c.requires.y)
 
 pub put_bytes-requires-clause-z : goal.put_bytes-requires-clause-z
 put_bytes-requires-clause-z g c =
@@ -23,8 +17,7 @@ put_bytes-requires-clause-z g c =
     let y = c.row_at-y.result.0 in
     let z = c.row_at-y.result.1 in
     let at = found_row v c.sizes-sizes.result c.args.row y z c.sizes-sizes.ensures.value c.row_at-y.ensures.y c.row_at-y.ensures.z c.row_at-y.ensures.along c.row_at-y.ensures.across c.row_at-y.ensures.row in
-    let h = c.has_loops.ensures.z c.if-not-has_loops.false in
-    omega (arith, at.z_is)
+    omega (arith, at.z_is, c.requires.z)
 
 pub returns : goal.returns
 returns g c =
@@ -33,6 +26,7 @@ returns g c =
     let z = c.row_at-y.result.1 in
     let at = found_row v c.sizes-sizes.result c.args.row y z c.sizes-sizes.ensures.value c.row_at-y.ensures.y c.row_at-y.ensures.z c.row_at-y.ensures.along c.row_at-y.ensures.across c.row_at-y.ensures.row in
     record {
-      count = c.put_cases.auto.cases ∙ c.requires.cases;
-      each = λ hy hz. subst (λ n. AreCases v n (c.args.row / v.grid.ny) c.put_cases.new.cases) at.y_is (subst (λ n. AreCases v y n c.put_cases.new.cases) at.z_is c.put_cases.ensures);
+      y = c.requires.y;
+      z = c.requires.z;
+      each = subst (λ n. AreCases v n (c.args.row / v.grid.ny) c.put_cases.new.cases) at.y_is (subst (λ n. AreCases v y n c.put_cases.new.cases) at.z_is c.put_cases.ensures);
     }
