@@ -69,9 +69,9 @@ impl Pool {
         let all = Pages::new(alloc, pages)?;
         let mut links = Vec::with_capacity(alloc, pages as usize)?;
         let mut lengths = Vec::with_capacity(alloc, pages as usize)?;
+        lengths.resize(pages as usize, None)?;
         for page in 0..pages {
             links.push(page + 1)?;
-            lengths.push(None)?;
         }
         Ok(Pool {
             pages: all,
