@@ -81,6 +81,21 @@ fn entries_are_handed_out(rt: HostRuntime) -> Result<(), Fail> {
 }
 
 #[test]
+fn entries_are_lent_at_their_level(rt: HostRuntime) -> Result<(), Fail> {
+    let capacity = Capacity::new(2, 16).ok_or("capacity")?;
+    let five = Level::new(5000).ok_or("level")?;
+    let mut cache = MeshCache::new(rt.alloc(), capacity)?;
+    assert_eq!(rt; offered(&mut cache, 7, five, &[3; 40]), Some(Offer::Kept));
+    let Some(lent) = cache.kept_entries(BrickId(7), five) else {
+        return Err(Fail::from("not kept"));
+    };
+    assert_eq!(rt; lent.rest().front(), [3; 8].as_slice());
+    let six = Level::new(6000).ok_or("level")?;
+    assert!(rt; cache.kept_entries(BrickId(7), six).is_none());
+    Ok(())
+}
+
+#[test]
 fn capacities_have_ends(rt: HostRuntime) {
     for (bricks, pages, is_one) in [
         (1, 16, true),

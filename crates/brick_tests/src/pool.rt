@@ -54,6 +54,20 @@ fn a_chain_is_read(rt: HostRuntime) -> Result<(), Fail> {
 }
 
 #[test]
+fn a_chain_is_lent_page_by_page(rt: HostRuntime) -> Result<(), Fail> {
+    let mut pool = Pool::new(rt.alloc(), 16)?;
+    let Ok(chain) = pool.store(&entries()) else {
+        return Err(Fail::from("no room"));
+    };
+    let lent = pool.entries(&chain);
+    assert_eq!(rt; lent.front().len(), 32);
+    let rest = lent.rest();
+    assert_eq!(rt; rest.front(), [9].as_slice());
+    assert!(rt; rest.rest().front().is_empty());
+    Ok(())
+}
+
+#[test]
 fn lists_need_whole_pages(rt: HostRuntime) {
     for (entries, pages) in [(0, 1), (32, 1), (33, 2), (512, 16)] {
         assert_eq!(rt; pages_needed(entries), pages, "of {entries}");

@@ -1,7 +1,8 @@
 -- The case of a cell by a list of entries, one after the other.
-use Rattle.std.proofs.Common.{◌≡◌, ◌∙◌, ℕ, zero, suc, ◌+◌, ◌*◌, ◌/◌, ◌%◌, ◌<◌, ◌≤◌, ◌++◌, false, cond, List, [], ◌∷◌, length, get_or, set, take, drop, refl, sym, ap, subst, arith, eqb, ne_eqb, inl, inr}
-use Rattle.std.proofs.lemmas.Bool.{cases_eq, cases_lt, eq-eqb}
-use Rattle.std.proofs.lemmas.List.{get_or-drop, get_or-set_other, get_or-set_same, length-drop, take-append-drop, take_all, take_more}
+use Rattle.std.proofs.Common.{◌≡◌, ◌∙◌, ℕ, suc, ◌+◌, ◌-◌, ◌*◌, ◌/◌, ◌%◌, ◌<◌, ◌≤◌, ◌++◌, Bool, true, false, cond, List, [], ◌∷◌, length, get_or, take, drop, refl, sym, ap, subst, arith, eqb, ltb, ltb-true, ne_eqb, inl, inr}
+use Rattle.std.specs.List.Sorted.{IsPartitionedBy}
+use Rattle.std.proofs.lemmas.Bool.{cases_lt, lt-ltb}
+use Rattle.std.proofs.lemmas.List.{get_or-drop, get_or-take, length-drop, length-take, take-append-drop, take_more}
 use Rattle.kept_mesh.specs.Kept.{last_case}
 
 -- one entry more
@@ -20,60 +21,46 @@ case_join : (other : ℕ) (es fs : List ℕ) (cell : ℕ) → last_case other (e
 case_join other [] fs cell = refl
 case_join other (x ∷ es) fs cell = case_join (cond (eqb (x / 1024) cell) (x % 1024) other) es fs cell
 
--- the entries of a plane, among ascending ones: those from a place to before an end
-module _ (entries : List ℕ) (z start end : ℕ) (within : end ≤ length entries)
-    (less : (k : ℕ) → k < start → get_or entries k 0 < 65536 * z)
-    (from : (k : ℕ) → start ≤ k → k < length entries → 65536 * z ≤ get_or entries k 0)
-    (to : (k : ℕ) → k < end → get_or entries k 0 < 65536 * z + 65536)
-    (behind : (k : ℕ) → end ≤ k → k < length entries → 65536 * z + 65536 ≤ get_or entries k 0) where
-  -- none of those before it has the case of a cell of the plane
-  pub none_before : (at k : ℕ) → at ≤ start → k < 64 → last_case 0 (take at entries) (64 * z + k) ≡ 0
-  none_before zero k first low = refl
-  none_before (suc at) k first low = elim (cases_lt at (length entries)) [
-    | inl there ↦ (
-        let more : suc at ≡ at + 1 = omega arith in
-        let value = less at (omega arith) in
-        ap (λ n. last_case 0 (take n entries) (64 * z + k)) more
-        ∙ (ap (λ l. last_case 0 l (64 * z + k)) (take_more entries at 0 there)
-        ∙ (case_more 0 (take at entries) (get_or entries at 0) (64 * z + k)
-        ∙ (ap (λ t. cond t (get_or entries at 0 % 1024) (last_case 0 (take at entries) (64 * z + k))) (ne_eqb (get_or entries at 0 / 1024) (64 * z + k) (omega (arith, value)))
-        ∙ none_before at k (omega arith) low))))
-    | inr past ↦ (
-        let e : take (suc at) entries ≡ take at entries = all_taken (suc at) at (omega arith) past in
-        ap (λ l. last_case 0 l (64 * z + k)) e ∙ none_before at k (omega arith) low)
-  ]
-    where
-      all_taken : (m n : ℕ) → length entries ≤ m → length entries ≤ n → take m entries ≡ take n entries
-      all_taken m n h i = take_all m entries h ∙ sym (take_all n entries i)
+-- where entries are parted, so are those of a part of them
+module _ (p : ℕ → Bool) (es : List ℕ) (parted : IsPartitionedBy p es) (n : ℕ) where
+  pub parted_take : IsPartitionedBy p (take n es)
+  parted_take i j d order low is =
+      let long = length-take n es in
+      subst (λ e. p e ≡ true) (sym (get_or-take n es i d (omega arith)))
+      (parted i j d order (omega arith) (subst (λ e. p e ≡ true) (get_or-take n es j d (omega arith)) is))
 
-  -- the cases of the plane, as far as some of its entries
-  pub written_more : (cases : List ℕ) (at : ℕ) → length cases ≡ 64 → start ≤ at → at < end → ((k : ℕ) → k < 64 → get_or cases k 0 ≡ last_case 0 (take at entries) (64 * z + k))
-      → (k : ℕ) → k < 64 → get_or (set cases (get_or entries at 0 / 1024 % 64) (get_or entries at 0 % 1024)) k 0 ≡ last_case 0 (take (at + 1) entries) (64 * z + k)
-  written_more cases at long first low before k few =
-      let there : at < length entries = omega arith in
-      let value : ℕ = get_or entries at 0 in
-      let least = from at first there in
-      let most = to at low in
-      let place : ℕ = get_or entries at 0 / 1024 % 64 in
-      let here : get_or entries at 0 / 1024 ≡ 64 * z + get_or entries at 0 / 1024 % 64 = omega (arith, least, most) in
-      let next = ap (λ l. last_case 0 l (64 * z + k)) (take_more entries at 0 there) ∙ case_more 0 (take at entries) (get_or entries at 0) (64 * z + k) in
-      elim (cases_eq place k) [
-        | inl same ↦ (
-            let cell : get_or entries at 0 / 1024 ≡ 64 * z + k = omega (arith, same, here) in
-            subst (λ n. get_or (set cases place (value % 1024)) n 0 ≡ value % 1024) same (get_or-set_same cases place (value % 1024) 0 (omega (arith, long)))
-            ∙ sym (next ∙ ap (λ t. cond t (value % 1024) (last_case 0 (take at entries) (64 * z + k))) (eq-eqb _ _ cell)))
-        | inr apart ↦ (
-            get_or-set_other cases place k (value % 1024) 0 (λ e. apart (sym e))
-            ∙ (before k few
-            ∙ sym (next ∙ ap (λ t. cond t (value % 1024) (last_case 0 (take at entries) (64 * z + k))) (ne_eqb (get_or entries at 0 / 1024) (64 * z + k) (λ e. apart (omega (arith, e, here)))))))
-      ]
+  pub parted_drop : IsPartitionedBy p (drop n es)
+  parted_drop i j d order low is =
+      let long = length-drop n es in
+      subst (λ e. p e ≡ true) (sym (get_or-drop n es i d))
+      (parted (n + i) (n + j) d (omega arith) (omega arith) (subst (λ e. p e ≡ true) (get_or-drop n es j d) is))
 
-  -- and those by all entries
-  pub all_written : (at k : ℕ) → end ≤ at → k < 64 → last_case 0 (take at entries) (64 * z + k) ≡ last_case 0 entries (64 * z + k)
-  all_written at k past low =
-      sym (ap (λ l. last_case 0 l (64 * z + k)) (sym (take-append-drop at entries))
-      ∙ (case_join 0 (take at entries) (drop at entries) (64 * z + k)
-      ∙ no_case (last_case 0 (take at entries) (64 * z + k)) (drop at entries) (64 * z + k) (λ j left.
-      (let long = length-drop at entries in
-      let value = behind (at + j) (omega arith) (omega (arith, left, long)) in
-      ap (λ n. eqb (n / 1024) (64 * z + k)) (get_or-drop at entries j 0) ∙ ne_eqb (get_or entries (at + j) 0 / 1024) (64 * z + k) (omega (arith, value))))))
+module _ (z : ℕ) (es : List ℕ) where
+  -- entries of planes before this one are of none of its cells
+  pub none_before : 0 < length es → IsPartitionedBy (λ e. ltb e (65536 * z)) es → get_or es (length es - 1) 0 / 65536 < z
+      → (other k : ℕ) → k < 64 → last_case other es (64 * z + k) ≡ other
+  none_before some parted last other k low = no_case other es (64 * z + k) (λ j there.
+      let less : get_or es j 0 < 65536 * z
+      = ltb-true _ _ (parted j (length es - 1) 0 (omega arith) (omega arith) (lt-ltb _ _ (omega (arith, last)))) in
+      ne_eqb (get_or es j 0 / 1024) (64 * z + k) (omega (arith, less, low)))
+
+  -- nor are those of planes behind it
+  pub none_behind : IsPartitionedBy (λ e. ltb e (65536 * z + 65536)) es → (0 < length es → 65536 * z + 65536 ≤ get_or es 0 0)
+      → (other k : ℕ) → k < 64 → last_case other es (64 * z + k) ≡ other
+  none_behind parted first other k low = no_case other es (64 * z + k) (λ j there.
+      let from : 65536 * z + 65536 ≤ get_or es 0 0 = first (omega arith) in
+      let behind : 65536 * z + 65536 ≤ get_or es j 0 = elim (cases_lt (get_or es j 0) (65536 * z + 65536)) [
+        | inl less ↦ absurd (let l = ltb-true _ _ (parted 0 j 0 (omega arith) there (lt-ltb _ _ less)) in omega (arith, l, from))
+        | inr from ↦ from
+      ] in
+      ne_eqb (get_or es j 0 / 1024) (64 * z + k) (omega (arith, behind, low)))
+
+-- one entry of a list more
+pub case_next : (other : ℕ) (es : List ℕ) (at cell : ℕ) → at < length es
+    → last_case (last_case other (take at es) cell) (get_or es at 0 ∷ []) cell ≡ last_case other (take (at + 1) es) cell
+case_next other es at cell low =
+    sym (ap (λ l. last_case other l cell) (take_more es at 0 low) ∙ case_more other (take at es) (get_or es at 0) cell)
+
+-- a front of a list, and then the rest
+pub case_rest : (other : ℕ) (es : List ℕ) (n cell : ℕ) → last_case (last_case other (take n es) cell) (drop n es) cell ≡ last_case other es cell
+case_rest other es n cell = sym (case_join other (take n es) (drop n es) cell) ∙ ap (λ l. last_case other l cell) (take-append-drop n es)

@@ -10,6 +10,7 @@ ghost use Rattle.kept_mesh.specs.Planes.{AreNone, IsPlane};
 use crate::entries::{CELLS, plane_cases};
 use brick_store::{BrickId, BrickStore};
 use iso_base::Level;
+use page_pool::Entries;
 
 /// As many planes are held as bricks may stand along x.
 pub const PLANES: u32 = 129;
@@ -51,11 +52,17 @@ pub fn no_planes() -> [Plane; PLANES as usize]
 }
 
 /// The plane of a brick, from its entries: wherever these are kept at the level.
-pub fn plane_of(store: &BrickStore, brick: BrickId, z: u8, level: Level, entries: &[u32]) -> Plane
+pub fn plane_of(
+    store: &BrickStore,
+    brick: BrickId,
+    z: u8,
+    level: Level,
+    entries: Entries<'_>,
+) -> Plane
     requires brick { brick.0 < brick_count store.now.grid }
     requires z { z < 8 }
     requires there { in_brick store.now.grid brick.0 1 1 (z + 1) ≡ true }
-    requires entries { entries.now ≡ entries_of_brick store.now.grid (field store.now.samples level) brick.0 }
+    requires entries { entries ≡ entries_of_brick store.now.grid (field store.now.samples level) brick.0 }
     ensures brick { result.brick ≡ brick.0 }
     ensures z { result.z ≡ z }
     ensures plane { (items : List Item) → is_fresh brick.0 level items ≡ true → IsPlane store.now level items result }

@@ -19,23 +19,6 @@ use std::marker::Model;
 use std::sync::ledger::Ledger;
 use stitch::CellRows;
 
-/// Takes the entries of a brick, where the cache keeps them at a level; says whether it does.
-fn take_entries(
-    cache: &MeshCache,
-    level: Level,
-    brick: BrickId,
-    entries: &mut ArrayVec<u32, 512>,
-) -> bool
-    ensures kept { result ≡ is_fresh brick.0 level cache.now.items }
-    ensures here { OnTrue result (kept_at brick.0 level cache.now.items ≡ Some entries.new.items) }
-{
-    if cache.kept(brick, level).is_none() {
-        return false;
-    }
-    cache.copy_to(brick, entries);
-    true
-}
-
 /// Whether a plane is that plane of that brick.
 #[inline(always)]
 fn is_plane(plane: &Plane, brick: BrickId, z: u8) -> bool
@@ -44,8 +27,7 @@ fn is_plane(plane: &Plane, brick: BrickId, z: u8) -> bool
     plane.brick == brick.0 && plane.z == z
 }
 
-/// Makes one of some planes that of a brick, where the cache keeps the brick's entries at a level; says whether it is. `entries` is a
-/// buffer.
+/// Makes one of some planes that of a brick, where the cache keeps the brick's entries at a level; says whether it is.
 fn hold(
     store: &BrickStore,
     cache: &MeshCache,
@@ -53,7 +35,6 @@ fn hold(
     brick: BrickId,
     z: u8,
     planes: &mut [Plane; PLANES as usize],
-    entries: &mut ArrayVec<u32, 512>,
 ) -> bool
     requires items { IsRight store.now.grid store.now.samples cache.now.items }
     requires brick { brick.0 < brick_count store.now.grid }
@@ -68,11 +49,13 @@ fn hold(
     if is_plane(&planes[at], brick, z) {
         return true;
     }
-    if take_entries(cache, level, brick, entries) {
-        planes[at] = plane_of(store, brick, z, level, entries.as_slice());
-        return true;
+    match cache.kept_entries(brick, level) {
+        Some(entries) => {
+            planes[at] = plane_of(store, brick, z, level, entries);
+            true
+        }
+        None => false,
     }
-    false
 }
 
 /// Replaces the rows by the first cases of a row.
@@ -110,7 +93,6 @@ pub struct KeptRows<'a> {
     cache: &'a MeshCache,
     level: Level,
     planes: [Plane; PLANES as usize],
-    entries: ArrayVec<u32, 512>,
 }
 
 impl<'a> Model for KeptRows<'a> {
@@ -138,7 +120,6 @@ impl<'a> KeptRows<'a> {
             cache,
             level,
             planes: no_planes(),
-            entries: ArrayVec::new(),
         }
     }
 }
@@ -155,8 +136,7 @@ impl<'a> CellRows for KeptRows<'a> {
         steps: &mut Steps<L>,
     ) {
         let (store, cache, level) = (self.store, self.cache, self.level);
-        let (planes, entries) = (&mut self.planes, &mut self.entries);
-        if hold(store, cache, level, brick, z, planes, entries) {
+        if hold(store, cache, level, brick, z, &mut self.planes) {
             put_row(&self.planes[(brick.0 % PLANES) as usize], y, rows);
             return;
         }

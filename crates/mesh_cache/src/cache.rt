@@ -8,7 +8,7 @@ use arrayvec::ArrayVec;
 use brick_store::BrickId;
 use iso_base::{Level, Memory};
 use lru::LruCache;
-use page_pool::{Chain, Full, Pool, pages_needed};
+use page_pool::{Chain, Entries, Full, Pool, pages_needed};
 use std::alloc::Global;
 use std::marker::Model;
 use std::num::NonZeroUsize;
@@ -106,6 +106,18 @@ impl MeshCache {
             return None;
         }
         Some(self.pool.length(&filed.chain))
+    }
+
+    /// The entries that are kept of a brick at a level, lent page by page; the order of use stays.
+    #[inline(always)]
+    pub fn kept_entries(&self, brick: BrickId, level: Level) -> Option<Entries<'_>>
+        ensures { result ≡ kept_at brick.0 level self.now.items }
+    {
+        let filed = self.filed.peek(&brick.0)?;
+        if !filed.is_at(level) {
+            return None;
+        }
+        Some(self.pool.entries(&filed.chain))
     }
 
     /// How much the cache may keep.

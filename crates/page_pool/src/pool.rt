@@ -1,6 +1,7 @@
 ghost use Rattle.std.specs.Prelude.{◌≡◌, ◌*◌, ◌^◌, ◌<◌, ◌≤◌, ◌↔◌, length, take, drop, slice_index, None, Some, IsErr, IfOk, IfErr, OnErr};
 ghost use Rattle.page_pool.specs.Chains.{need, chain_at, Has, entries_at, with_chain, without_chain, no_chains, IsWhole};
 
+use crate::entries::Entries;
 use crate::layout::{PAGE_ENTRIES, follow, pages_needed, write_over};
 use crate::pages::Pages;
 use arrayvec::ArrayVec;
@@ -68,9 +69,9 @@ impl Pool {
         let all = Pages::new(alloc, pages)?;
         let mut links = Vec::with_capacity(alloc, pages as usize)?;
         let mut lengths = Vec::with_capacity(alloc, pages as usize)?;
+        lengths.resize(pages as usize, None)?;
         for page in 0..pages {
             links.push(page + 1)?;
-            lengths.push(None)?;
         }
         Ok(Pool {
             pages: all,
@@ -138,6 +139,16 @@ impl Pool {
         let left = self.length(chain) as usize - PAGE_ENTRIES * number as usize;
         let page = follow(&self.links, chain.first, number);
         &self.pages.at(page)[..left.min(PAGE_ENTRIES)]
+    }
+
+    /// The entries of a chain, lent page by page.
+    #[inline(always)]
+    pub fn entries(&self, chain: &Chain) -> Entries<'_>
+        requires { Has self.now chain.now }
+        ensures { result ≡ entries_at self.now chain.now }
+    {
+        let left = self.length(chain);
+        Entries::new(&self.pages, &self.links, chain.first, left)
     }
 
     /// Replaces a list by the entries of a chain.

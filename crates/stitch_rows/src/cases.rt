@@ -22,6 +22,11 @@ fn put_run(run: &[u16], start: usize, out: &mut [u16])
     ensures before { (k : ℕ) → k < start → slice_index out.new k ≡ slice_index out.old k }
     ensures behind { (k : ℕ) → start + length run.now ≤ k → slice_index out.new k ≡ slice_index out.old k }
 {
+    // Eight numbers are copied without a call.
+    if run.len() == 8 {
+        out[start..start + 8].copy_from_slice(&run[..8]);
+        return;
+    }
     out[start..start + run.len()].copy_from_slice(run);
 }
 
@@ -122,7 +127,7 @@ pub fn case_row<R: CellRows, L: Ledger>(
     ensures most { steps.new ≤ steps.old + 8 * asked_along field.now.grid (heights field.now) (R.named rows.old) y z }
 {
     let sizes = field.sizes();
-    let row = BrickRow::of(&sizes, y, z);
+    let row = BrickRow::of_cells(&sizes, y, z);
     put_zeros(cases);
     for x in 0..count_along(sizes.nx()) {
         brick_cases(field, active, rows, row, x, y, z, cases, steps);

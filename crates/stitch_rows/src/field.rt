@@ -144,7 +144,7 @@ impl<'a> Heights for Field<'a> {
     fn corner_heights(&self, cell: Cell) -> [i64; 8] {
         let sizes = self.store.sizes();
         let low = cell.low;
-        let row = BrickRow::of(&sizes, low.y, low.z);
+        let row = BrickRow::of_cells(&sizes, low.y, low.z);
         let copies = self.store.brick(BrickId(row.first + low.x / 8));
         let place = (low.x % 8) as usize + 9 * (row.y as usize + 9 * row.z as usize);
         let level = self.level;

@@ -1,44 +1,55 @@
-use Rattle.std.proofs.Common.{◌≡◌, ◌∙◌, ◌+◌, ◌*◌, get_or, length, refl, sym, ap, subst, arith}
+use Rattle.std.proofs.Common.{◌≡◌, ◌∙◌, ℕ, ◌+◌, ◌*◌, ◌<◌, ◌≤◌, List, ap, drop, get_or, length, ltb, subst, sym, take, arith}
 use Rattle.std.specs.List.Sorted.{IsPartitionedBy}
-use Rattle.std.specs.Prelude.{nat_lt}
-use Rattle.std.proofs.lemmas.List.{get_or-replicate, length-set}
-use Rattle.kept_mesh.proofs.LastCase.{all_written, none_before, written_more}
+use Rattle.std.proofs.lemmas.List.{get_or-replicate, get_or-take, length-drop, length-take}
+use Rattle.kept_mesh.specs.Kept.{last_case}
+use Rattle.kept_mesh.proofs.LastCase.{case_rest, none_behind, parted_drop, parted_take}
 use Rattle.kept_mesh.proofs.entries.plane_cases.Goals as goal
 
-pub place_of-start-requires : goal.place_of-start-requires
-place_of-start-requires c =
-    let same : 65536 * c.args.z ≡ 65536 * c.from-least.result = omega (arith, c.from-least.ensures) in
-    subst (λ n. IsPartitionedBy (λ e. nat_lt e n) c.args.entries.now) same c.requires.begins
-
-pub place_of-end-requires : goal.place_of-end-requires
-place_of-end-requires c =
-    let same : 65536 * c.args.z + 65536 ≡ 65536 * c.from-least.result + 65536 = omega (arith, c.from-least.ensures) in
-    subst (λ n. IsPartitionedBy (λ e. nat_lt e n) c.args.entries.now) same c.requires.ends
-
-pub loop-at-init : goal.loop-at-init
-loop-at-init c = record {
-  long = refl;
-  written = λ k low. get_or-replicate 64 k 0 0 low
-      ∙ sym (none_before c.args.entries.now c.args.z c.place_of-start.result c.place_of-end.result c.place_of-end.ensures.within
-      (λ k low. omega (arith, c.place_of-start.ensures.less k low, c.from-least.ensures)) (λ k from low. omega (arith, c.place_of-start.ensures.others k from low, c.from-least.ensures))
-      (λ k low. omega (arith, c.place_of-end.ensures.less k low, c.from-least.ensures)) (λ k from low. omega (arith, c.place_of-end.ensures.others k from low, c.from-least.ensures))
-      c.place_of-start.result k (omega arith) low);
+pub loop-left-init : goal.loop-left-init
+loop-left-init c = record {
+  begins = c.requires.begins;
+  ends = c.requires.ends;
+  written = λ k low. ap (λ other. last_case other c.args.entries (64 * c.args.z + k)) (get_or-replicate 64 k 0 0 low);
 }
 
-pub loop-at-preserved : goal.loop-at-preserved
-loop-at-preserved c = record {
-  long = ap length c.put_case.ensures ∙ (length-set c.loop-at.cases _ _ ∙ c.loop-at.invariant.long);
-  written = λ k low. ap (λ l. get_or l k 0) c.put_case.ensures
-      ∙ written_more c.args.entries.now c.args.z c.place_of-start.result c.place_of-end.result c.place_of-end.ensures.within
-      (λ k low. omega (arith, c.place_of-start.ensures.less k low, c.from-least.ensures)) (λ k from low. omega (arith, c.place_of-start.ensures.others k from low, c.from-least.ensures))
-      (λ k low. omega (arith, c.place_of-end.ensures.less k low, c.from-least.ensures)) (λ k from low. omega (arith, c.place_of-end.ensures.others k from low, c.from-least.ensures))
-      c.loop-at.cases c.loop-at.at c.loop-at.invariant.long c.loop-at.auto.at c.loop-at-test.true c.loop-at.invariant.written k low;
+pub put_page-requires-clause-begins : goal.put_page-requires-clause-begins
+put_page-requires-clause-begins c =
+    subst (IsPartitionedBy (λ e. ltb e (65536 * c.args.z))) (sym c.front-in-loop-left.ensures)
+    (parted_take (λ e. ltb e (65536 * c.args.z)) c.loop-left.left c.loop-left.invariant.begins 32)
+
+pub loop-left-smaller : goal.loop-left-smaller
+loop-left-smaller c =
+    let some : 0 < length c.front.result.now = c.begin_by.ensures.some c.loop-left-test.true in
+    let front : length c.front.result.now ≡ length (take 32 c.loop-left.left) = ap length c.front.ensures in
+    let rest : length c.rest-left.result ≡ length (drop 32 c.loop-left.left) = ap length c.rest-left.ensures in
+    let fewer : length c.rest-left.result < length c.loop-left.left
+    = omega (arith, some, front, rest, length-take 32 c.loop-left.left, length-drop 32 c.loop-left.left) in
+    fewer
+
+pub loop-left-preserved : goal.loop-left-preserved
+loop-left-preserved c = record {
+  begins = subst (IsPartitionedBy (λ e. ltb e (65536 * c.args.z))) (sym c.rest-left.ensures)
+      (parted_drop (λ e. ltb e (65536 * c.args.z)) c.loop-left.left c.loop-left.invariant.begins 32);
+  ends = subst (IsPartitionedBy (λ e. ltb e (65536 * c.args.z + 65536))) (sym c.rest-left.ensures)
+      (parted_drop (λ e. ltb e (65536 * c.args.z + 65536)) c.loop-left.left c.loop-left.invariant.ends 32);
+  written = λ k low.
+      let left : List ℕ = c.loop-left.left in
+      let other : ℕ = get_or c.loop-left.cases k 0 in
+      let cell : ℕ = 64 * c.args.z + k in
+      ap (λ o. last_case o c.rest-left.result cell) (c.put_page.ensures k low)
+      ∙ (ap (λ page. last_case (last_case other page cell) c.rest-left.result cell) c.front-in-loop-left.ensures
+      ∙ (ap (λ rest. last_case (last_case other (take 32 left) cell) rest cell) c.rest-left.ensures
+      ∙ (case_rest other left 32 cell ∙ c.loop-left.invariant.written k low)));
 }
 
 pub returns : goal.returns
 returns c = λ k low.
-    c.loop-at.invariant.written k low
-    ∙ all_written c.args.entries.now c.args.z c.place_of-start.result c.place_of-end.result c.place_of-end.ensures.within
-    (λ k low. omega (arith, c.place_of-start.ensures.less k low, c.from-least.ensures)) (λ k from low. omega (arith, c.place_of-start.ensures.others k from low, c.from-least.ensures))
-    (λ k low. omega (arith, c.place_of-end.ensures.less k low, c.from-least.ensures)) (λ k from low. omega (arith, c.place_of-end.ensures.others k from low, c.from-least.ensures))
-    c.loop-at.at k (omega (arith, c.loop-at-test.false)) low
+    let left : List ℕ = c.loop-left.left in
+    let first : 0 < length left → 65536 * c.args.z + 65536 ≤ get_or left 0 0
+    = λ some.
+    let front : length c.front.result.now ≡ length (take 32 left) = ap length c.front.ensures in
+    let here : get_or c.front.result.now 0 0 ≡ get_or left 0 0 = ap (λ page. get_or page 0 0) c.front.ensures ∙ get_or-take 32 left 0 0 (omega arith) in
+    let behind : 65536 * c.args.z + 65536 ≤ get_or c.front.result.now 0 0
+    = c.begin_by.ensures.behind c.loop-left-test.false (omega (arith, some, front, length-take 32 left)) in
+    omega (arith, behind, here) in
+    sym (none_behind c.args.z left c.loop-left.invariant.ends first (get_or c.loop-left.cases k 0) k low) ∙ c.loop-left.invariant.written k low

@@ -15,11 +15,11 @@ overflow_sub-result c =
 
 pub plane_cases-requires-clause-begins : goal.plane_cases-requires-clause-begins
 plane_cases-requires-clause-begins c =
-    parted (record { grid = c.args.store.now.grid; samples = c.args.store.now.samples; brick = c.args.brick.0; level = c.args.level }) (65536 * c.args.z) c.args.entries.now c.requires.entries
+    parted (record { grid = c.args.store.now.grid; samples = c.args.store.now.samples; brick = c.args.brick.0; level = c.args.level }) (65536 * c.args.z) c.args.entries c.requires.entries
 
 pub plane_cases-requires-clause-ends : goal.plane_cases-requires-clause-ends
 plane_cases-requires-clause-ends c =
-    parted (record { grid = c.args.store.now.grid; samples = c.args.store.now.samples; brick = c.args.brick.0; level = c.args.level }) (65536 * c.args.z + 65536) c.args.entries.now c.requires.entries
+    parted (record { grid = c.args.store.now.grid; samples = c.args.store.now.samples; brick = c.args.brick.0; level = c.args.level }) (65536 * c.args.z + 65536) c.args.entries c.requires.entries
 
 pub returns-clause-plane : goal.returns-clause-plane
 returns-clause-plane c = λ items kept.
@@ -29,5 +29,5 @@ returns-clause-plane c = λ items kept.
     record {
       narrow = omega (arith, width);
       fresh = λ known. kept;
-      rows = λ y row. plane_row b c.args.z c.args.entries.now c.plane_cases.result c.requires.entries (omega arith) c.plane_cases.ensures y row (get_or c.points_along.result 0 0 - 1) width;
+      rows = λ y row. plane_row b c.args.z c.args.entries c.plane_cases.result c.requires.entries (omega arith) c.plane_cases.ensures y row (get_or c.points_along.result 0 0 - 1) width;
     }

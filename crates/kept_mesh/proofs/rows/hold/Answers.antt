@@ -1,4 +1,4 @@
-use Rattle.std.proofs.Common.{◌%◌, ◌∙◌, subst, sym, arith}
+use Rattle.std.proofs.Common.{◌%◌, ◌∙◌, ap, is_some, subst, sym, arith}
 use Rattle.std.proofs.lemmas.List.{get_or_default}
 use Rattle.std.proofs.lemmas.List.Elements.{All-set}
 use Rattle.mesh_cache.proofs.Callers.{right_kept}
@@ -9,13 +9,12 @@ use Rattle.kept_mesh.proofs.rows.hold.Goals as goal
 pub plane_of-requires-clause-entries : goal.plane_of-requires-clause-entries
 plane_of-requires-clause-entries c =
     let v = c.args.store.now in
-    c.as_slice.ensures.value
-    ∙ right_kept v.grid v.samples c.args.brick.0 c.args.level c.args.cache.now.items c.take_entries.new.entries.items c.requires.items c.if-take_entries.ensures.here
+    right_kept v.grid v.samples c.args.brick.0 c.args.level c.args.cache.now.items c.in-Some.entries c.requires.items (sym c.kept_entries.ensures ∙ c.in-Some.is)
 
-pub returns-then-take_entries-clause-planes : goal.returns-then-take_entries-clause-planes
-returns-then-take_entries-clause-planes c =
+pub returns-in-Some-clause-planes : goal.returns-in-Some-clause-planes
+returns-in-Some-clause-planes c =
     All-set (IsPlane c.args.store.now c.args.level c.args.cache.now.items) c.args.planes.now (c.args.brick.0 % 129) c.plane_of.result
-    (c.plane_of.ensures.plane c.args.cache.now.items (sym c.take_entries.ensures.kept ∙ c.if-take_entries.true)) c.requires.planes
+    (c.plane_of.ensures.plane c.args.cache.now.items (ap is_some (sym c.kept_entries.ensures ∙ c.in-Some.is))) c.requires.planes
 
 pub returns-then-is_plane-clause-here : goal.returns-then-is_plane-clause-here
 returns-then-is_plane-clause-here c = record {
@@ -26,5 +25,11 @@ pub returns-then-is_plane-clause-kept : goal.returns-then-is_plane-clause-kept
 returns-then-is_plane-clause-kept c =
     sym (fresh_held c.args.store.now c.args.level c.args.cache.now.items c.args.brick.0 c.args.z _ (c.requires.planes (c.args.brick.0 % 129) _ (omega arith)) c.if-is_plane.ensures c.requires.brick)
 
-pub returns-then-take_entries-clause-here : goal.returns-then-take_entries-clause-here
-returns-then-take_entries-clause-here c = held_here c.args.brick.0 c.args.z c.args.planes.now c.plane_of.result (omega arith) c.plane_of.ensures.brick c.plane_of.ensures.z
+pub returns-in-Some-clause-here : goal.returns-in-Some-clause-here
+returns-in-Some-clause-here c = held_here c.args.brick.0 c.args.z c.args.planes.now c.plane_of.result (omega arith) c.plane_of.ensures.brick c.plane_of.ensures.z
+
+pub returns-in-Some-clause-kept : goal.returns-in-Some-clause-kept
+returns-in-Some-clause-kept c = sym (ap is_some (sym c.kept_entries.ensures ∙ c.in-Some.is))
+
+pub returns-in-None-clause-kept : goal.returns-in-None-clause-kept
+returns-in-None-clause-kept c = sym (ap is_some (sym c.kept_entries.ensures ∙ c.in-None.is))

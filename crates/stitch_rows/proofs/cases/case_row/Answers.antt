@@ -23,7 +23,7 @@ brick_cases-requires-clause-named g c = subst (λ (names : Named). NamesCases na
 pub loop-x-preserved : goal.loop-x-preserved
 loop-x-preserved g c =
     let v = c.args.field.now in
-    let first = c.of-row.result.first in
+    let first = c.of_cells-row.result.first in
     let x = c.loop-x.x in
     let same = c.loop-x.invariant.same in
     let more = asked_more v.grid (heights v) (g.R.CellRows.named c.args.rows.now) first x 1 in
@@ -45,5 +45,5 @@ returns-clause-most g c =
     let v = c.args.field.now in
     let count : c.loop-x.x ≡ bricks_along v.grid 0
     = omega (arith, c.loop-x-test.false, c.loop-x.auto.x-end, c.count_along-x-end.ensures.value, c.nx.ensures.value, ap (λ (g : Grid). g.nx) c.sizes-sizes.ensures.value) in
-    let a = subst (λ n. c.loop-x.steps ≤ c.args.steps.now + 8 * asked_among v.grid (heights v) (g.R.CellRows.named c.args.rows.now) c.of-row.result.first n) count c.loop-x.invariant.most in
-    subst (λ n. c.loop-x.steps ≤ c.args.steps.now + 8 * asked_among v.grid (heights v) (g.R.CellRows.named c.args.rows.now) n (bricks_along v.grid 0)) (c.of-row.ensures.first ∙ ap (λ (g : Grid). first_brick g c.args.y c.args.z) c.sizes-sizes.ensures.value) a
+    let a = subst (λ n. c.loop-x.steps ≤ c.args.steps.now + 8 * asked_among v.grid (heights v) (g.R.CellRows.named c.args.rows.now) c.of_cells-row.result.first n) count c.loop-x.invariant.most in
+    subst (λ n. c.loop-x.steps ≤ c.args.steps.now + 8 * asked_among v.grid (heights v) (g.R.CellRows.named c.args.rows.now) n (bricks_along v.grid 0)) (c.of_cells-row.ensures.first ∙ ap (λ (g : Grid). first_brick g c.args.y c.args.z) c.sizes-sizes.ensures.value) a

@@ -1,7 +1,7 @@
 use Rattle.std.proofs.Common.{◌≡◌, ◌<◌, ◌+◌, ℕ, get_or, length, map}
 use Rattle.iso_base.specs.Volume.{sample}
 use Rattle.corner_signs.specs.Rows.{bit_from}
-use Rattle.brick_mesh.proofs.signs.nine_signs.Given as goal
+use Rattle.brick_mesh.proofs.signs.signs_of_nine.Given as goal
 
 abbrev pub invariant-loop-x : goal.invariant-loop-x
 invariant-loop-x g l = record {

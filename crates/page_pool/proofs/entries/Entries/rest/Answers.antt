@@ -1,0 +1,18 @@
+use Rattle.std.proofs.Common.{drop, ap, sym, ◌∙◌, arith}
+use Rattle.page_pool.proofs.Views.{linked_rest, next_linked, none_behind}
+use Rattle.page_pool.proofs.entries.Entries.rest.Goals as goal
+
+pub returns-then-self-many : goal.returns-then-self-many
+returns-then-self-many c =
+    let e = c.self.inside in
+    c.new.ensures ∙ (sym (none_behind e.pages.now e.links.now e.page e.left c.self.invariant (omega (arith, c.if-self-many.true))) ∙ ap (drop 32) c.self.view_is)
+
+pub new-requires-2 : goal.new-requires-2
+new-requires-2 c =
+    let e = c.self.inside in
+    next_linked e.pages.now e.links.now e.page e.left c.self.invariant (omega (arith, c.if-self-many.false))
+
+pub returns : goal.returns
+returns c =
+    let e = c.self.inside in
+    c.new-2.ensures ∙ (sym (linked_rest e.pages.now e.links.now e.page e.left c.self.invariant (omega (arith, c.if-self-many.false))) ∙ ap (drop 32) c.self.view_is)
