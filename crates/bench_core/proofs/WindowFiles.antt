@@ -13,7 +13,7 @@ use Rattle.iso_io.specs.Shelves.{Store, Stores, FilesCut, with_file}
 use Rattle.voxel_list.specs.Areas.{Area}
 use Rattle.flat_mesh.specs.Mesh.{FlatMesh}
 use Rattle.mesh_more.specs.Texts.{moved_text}
-use Rattle.window_mesh.specs.Crops.{IsBoxOfKind, IsFaultOf, IsWindowOfMesh, window_of}
+use Rattle.window_mesh.specs.Crops.{IsBoxOfKind, IsFaultOf, IsWindowOfMesh, refusal_of, window_of}
 use Rattle.window_mesh.specs.declared.boxes.WindowFault.{WindowFault}
 use Rattle.window_mesh.specs.declared.boxes.WindowFault.TheVariants.{Memory, Thin}
 use Rattle.window_write.specs.Lines.{steps_of, text_of, written_of}
@@ -34,12 +34,10 @@ pub box_of_kind : (v : Volume) (a : Area) → IsVolume v → IsInside v a.low �
 box_of_kind v a is low high p here within = is.each p here (inner_area v a low high p here within)
 
 -- why a box is refused, in the bench's words
-pub refused_as : (a : Area) (fault : WindowFault) (made : BenchFault) → IsFaultOf (window_of a).grid fault
-    → (fault ≡ Memory → made ≡ faults.Memory) → ((axis n : ℕ) → fault ≡ Thin axis n → made ≡ faults.WindowThin axis n)
-    → (window_fault (Some a) ≡ Some made) ⊎ ((made ≡ faults.Memory) × (window_fault (Some a) ≡ None))
-refused_as a Memory made is memory thin = inr (memory refl, ap (thin_fault (window_of a).grid) is)
-refused_as a (Thin axis n) made is memory thin =
-    inl (ap (thin_fault (window_of a).grid) is.0 ∙ ap Some (ap (faults.WindowThin axis) (sym is.1) ∙ sym (thin axis n refl)))
+pub refused_as : (a : Area) (fault : WindowFault) → IsFaultOf (window_of a).grid fault
+    → (window_fault (Some a) ≡ Some (refusal_of fault)) ⊎ ((refusal_of fault ≡ faults.Memory) × (window_fault (Some a) ≡ None))
+refused_as a Memory is = inr (refl, ap (thin_fault (window_of a).grid) is)
+refused_as a (Thin axis n) is = inl (ap (thin_fault (window_of a).grid) is.0 ∙ ap (λ n. Some (faults.WindowThin axis n)) (sym is.1))
 
 -- a box that is thick is a window
 pub no_fault : (a : Area) (axis : Option ℕ) → axis ≡ None → thin_fault (window_of a).grid axis ≡ None

@@ -24,8 +24,8 @@ use brick_store::BrickStore;
 use edge_points::RowRanks;
 use edit_log::{Change, EditLog};
 use inner_volume::{place_in, plane_in, write_hex, write_text, write_volume};
-use iso_base::{BenchFault, Level, Memory, MeshFormat, Point, SampleKind, Steps, Written};
-use iso_io::{Failed, Shelf};
+use iso_base::{BenchFault, Level, MeshFormat, Point, SampleKind, Steps, Written};
+use iso_io::Shelf;
 use kept_mesh::{refresh_bricks, write_mesh};
 use measure::Measures;
 use mesh_cache::{Capacity, MeshCache};
@@ -86,9 +86,7 @@ impl Bench {
         if let Some(fault) = refused(volume.pad(), level) {
             return Err(fault);
         }
-        let Ok(store) = BrickStore::of(alloc, volume) else {
-            return Err(BeginFault::Memory);
-        };
+        let store = BrickStore::of(alloc, volume)?;
         Bench::begin_over(alloc, store, level, capacity)
     }
 
@@ -107,18 +105,10 @@ impl Bench {
         if let Some(fault) = refused(store.pad(), level) {
             return Err(fault);
         }
-        let Ok(tree) = SpanTree::of(alloc, &store) else {
-            return Err(BeginFault::Memory);
-        };
-        let Ok(cache) = MeshCache::new(alloc, capacity) else {
-            return Err(BeginFault::Memory);
-        };
-        let Ok(log) = EditLog::new(alloc) else {
-            return Err(BeginFault::Memory);
-        };
-        let Ok(ranks) = RowRanks::new(alloc, &store.sizes()) else {
-            return Err(BeginFault::Memory);
-        };
+        let tree = SpanTree::of(alloc, &store)?;
+        let cache = MeshCache::new(alloc, capacity)?;
+        let log = EditLog::new(alloc)?;
+        let ranks = RowRanks::new(alloc, &store.sizes())?;
         Ok(Bench {
             alloc,
             store,
@@ -206,9 +196,7 @@ impl Bench {
         if n > MOST_FILLED {
             return Err(BenchFault::FillTooLarge { n });
         }
-        let Ok(change) = area_change(self.alloc, &self.store, &self.tree, area, &value) else {
-            return Err(BenchFault::Memory);
-        };
+        let change = area_change(self.alloc, &self.store, &self.tree, area, &value)?;
         self.make(change);
         Ok(())
     }
@@ -223,13 +211,9 @@ impl Bench {
     {
         let _ = self.store.sizes();
         let old = self.level;
-        match checked(self.store.pad(), value) {
-            Ok(new) => {
-                self.make(Change::LevelWas { old, new });
-                Ok(())
-            }
-            Err(fault) => Err(fault),
-        }
+        let new = checked(self.store.pad(), value)?;
+        self.make(Change::LevelWas { old, new });
+        Ok(())
     }
 
     /// Makes a change and puts it in the log. What is kept for bricks goes stale where the change has points.
@@ -367,12 +351,10 @@ impl Bench {
     {
         let (store, tree, cache) = (&self.store, &self.tree, &self.cache);
         let ranks = &mut self.ranks;
-        match write_mesh(
+        let written = write_mesh(
             shelf, name, store, tree, cache, ranks, self.level, format, steps,
-        ) {
-            Ok(written) => Ok(written),
-            Err(Failed) => Err(BenchFault::ShelfFailed),
-        }
+        )?;
+        Ok(written)
     }
 
     /// Makes the name's file the volume without its pad, and says how many bytes it has. `ShelfFailed` comes only where
@@ -383,10 +365,7 @@ impl Bench {
         ensures read_again { nrrd_of (raw_save self.now.state) ≡ Ok (inner_voxels self.now.state.volume, 0) }
         ensures no_memory { IsErrOf result BenchFault.Memory → ⊥ }
     {
-        match write_volume(shelf, name, &self.store) {
-            Ok(bytes) => Ok(bytes),
-            Err(Failed) => Err(BenchFault::ShelfFailed),
-        }
+        Ok(write_volume(shelf, name, &self.store)?)
     }
 
     /// Makes the name's file the volume without its pad, as lines of numbers: a row of samples in a line. It is refused as
@@ -396,10 +375,7 @@ impl Bench {
         ensures read_again { nrrd_of (text_save self.now.state) ≡ Ok (inner_voxels self.now.state.volume, 1) }
         ensures no_memory { IsErrOf result BenchFault.Memory → ⊥ }
     {
-        match write_text(shelf, name, &self.store) {
-            Ok(bytes) => Ok(bytes),
-            Err(Failed) => Err(BenchFault::ShelfFailed),
-        }
+        Ok(write_text(shelf, name, &self.store)?)
     }
 
     /// Makes the name's file the volume without its pad, as lines of hex digits: a row of samples in a line, the low byte
@@ -409,10 +385,7 @@ impl Bench {
         ensures read_again { nrrd_of (hex_save self.now.state) ≡ Ok (inner_voxels self.now.state.volume, 1) }
         ensures no_memory { IsErrOf result BenchFault.Memory → ⊥ }
     {
-        match write_hex(shelf, name, &self.store) {
-            Ok(bytes) => Ok(bytes),
-            Err(Failed) => Err(BenchFault::ShelfFailed),
-        }
+        Ok(write_hex(shelf, name, &self.store)?)
     }
 
     /// Makes the name's file the mesh of a box of two corners, x, y, z of each, in any order along each axis: as if its points
@@ -451,10 +424,7 @@ impl Bench {
         let Some(plane) = self.plane(k) else {
             return Err(BenchFault::NoSuchPlane { k });
         };
-        match plane_contours(self.alloc, &self.store, self.level, plane) {
-            Ok(lines) => Ok(lines),
-            Err(Memory) => Err(BenchFault::Memory),
-        }
+        Ok(plane_contours(self.alloc, &self.store, self.level, plane)?)
     }
 
     /// The numbers of the mesh, and of each of its components by its least vertex. `Memory` is its only refusal.
@@ -464,13 +434,8 @@ impl Bench {
         ensures memory { IfErr result (λ fault. fault ≡ BenchFault.Memory) }
         ensures not_shelf { IsErrOf result BenchFault.ShelfFailed → ⊥ }
     {
-        let Ok(volume) = self.store.flat(self.alloc) else {
-            return Err(BenchFault::Memory);
-        };
-        match mesh_numbers(self.alloc, &volume, self.level) {
-            Ok(report) => Ok(report),
-            Err(Memory) => Err(BenchFault::Memory),
-        }
+        let volume = self.store.flat(self.alloc)?;
+        Ok(mesh_numbers(self.alloc, &volume, self.level)?)
     }
 
     /// The signed volume, the area and the border of each component of the mesh, by its least vertex, at the positions
@@ -485,13 +450,8 @@ impl Bench {
         ensures memory { IfErr result (λ fault. fault ≡ BenchFault.Memory) }
         ensures not_shelf { IsErrOf result BenchFault.ShelfFailed → ⊥ }
     {
-        let Ok(volume) = self.store.flat(self.alloc) else {
-            return Err(BenchFault::Memory);
-        };
-        match mesh_measures(self.alloc, &volume, self.level) {
-            Ok(measures) => Ok(measures),
-            Err(Memory) => Err(BenchFault::Memory),
-        }
+        let volume = self.store.flat(self.alloc)?;
+        Ok(mesh_measures(self.alloc, &volume, self.level)?)
     }
 
     /// The stored plane of one that does not count the pad's layer.

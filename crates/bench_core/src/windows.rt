@@ -1,6 +1,6 @@
 //! Windows of a volume as files of a shelf.
 
-ghost use Rattle.std.specs.Prelude.{◌≡◌, ◌⊎◌, ℕ, [], IfErr, IfOk, None, OnOk, Some};
+ghost use Rattle.std.specs.Prelude.{◌≡◌, ◌⊎◌, [], IfErr, IfOk, None, OnOk, Some};
 ghost use Rattle.iso_io.specs.Seen.{Puts};
 ghost use Rattle.iso_io.specs.Shelves.{Stores, file_tape};
 ghost use Rattle.window_mesh.specs.Crops.{IsWindowOfMesh};
@@ -16,19 +16,8 @@ use iso_io::{Failed, Shelf, ShelfFile, Sink};
 use mesh_write::STAGE;
 use std::alloc::Global;
 use voxel_list::FillBox;
-use window_mesh::{WindowFault, named_window};
+use window_mesh::named_window;
 use window_write::put_moved;
-
-/// The bench's answer to a box that is no window.
-fn refusal(fault: WindowFault) -> BenchFault
-    ensures memory { fault ≡ WindowFault.Memory → result ≡ BenchFault.Memory }
-    ensures thin { (axis n : ℕ) → fault ≡ WindowFault.Thin axis n → result ≡ BenchFault.WindowThin axis n }
-{
-    match fault {
-        WindowFault::Thin { axis, n } => BenchFault::WindowThin { axis, n },
-        WindowFault::Memory => BenchFault::Memory,
-    }
-}
 
 /// The mesh of a box of points off the pad's layer.
 fn mesh_of_box(
@@ -46,10 +35,7 @@ fn mesh_of_box(
         ⊎ ((fault ≡ BenchFault.Memory) × (window_fault (Some area.now) ≡ None))) }
 {
     let _ = (store.sizes(), area.low());
-    match named_window(alloc, store, area, level) {
-        Ok(mesh) => Ok(mesh),
-        Err(fault) => Err(refusal(fault)),
-    }
+    Ok(named_window(alloc, store, area, level)?)
 }
 
 /// Where the least corner of a box off the pad's layer lies in the volume without its pad.
@@ -121,12 +107,7 @@ pub fn write_window<H: Shelf>(
     ensures part { OnOk result (IsWindowOfMesh store.now level area.now) }
 {
     let mesh = mesh_of_box(alloc, store, level, area)?;
-    let Ok(mut waiting) = Vec::with_capacity(alloc, STAGE) else {
-        return Err(BenchFault::Memory);
-    };
+    let mut waiting = Vec::with_capacity(alloc, STAGE)?;
     let by = corner_of(store, area);
-    match write_moved(shelf, name, &mut waiting, &mesh, format, by) {
-        Ok(written) => Ok(written),
-        Err(Failed) => Err(BenchFault::ShelfFailed),
-    }
+    Ok(write_moved(shelf, name, &mut waiting, &mesh, format, by)?)
 }

@@ -5,6 +5,8 @@ use Rattle.iso_defs.specs.Grid.{Grid, point_count, size}
 use Rattle.iso_base.specs.Samples.{IsOfKind}
 use Rattle.iso_base.specs.Shifted.{field}
 use Rattle.iso_base.specs.Volume.{Volume, sample}
+use Rattle.iso_base.specs.declared.fault.BenchFault.{BenchFault}
+use Rattle.iso_base.specs.declared.fault.BenchFault.TheVariants as refusals
 use Rattle.voxel_list.specs.Areas.{Area, is_in_area}
 use Rattle.window_laws.specs.Windows.{IsPartOfMesh, Window, thin_axis, whole_point}
 use Rattle.window_mesh.specs.declared.boxes.WindowFault.{WindowFault}
@@ -40,6 +42,11 @@ cropped v a = record {
 abbrev pub IsFaultOf : Grid → WindowFault → Type 0
 IsFaultOf g (Thin axis n) = (thin_axis g ≡ Some axis) × (n ≡ size g axis)
 IsFaultOf g Memory = thin_axis g ≡ None
+
+-- the workbench's answer to a box that is no window
+abbrev pub refusal_of : WindowFault → BenchFault
+refusal_of (Thin axis n) = refusals.WindowThin axis n
+refusal_of Memory = refusals.Memory
 
 -- the mesh of the box at a level is the part of the whole mesh in it
 abbrev pub IsWindowOfMesh : Volume → ℤ → Area → Type 0

@@ -4,11 +4,11 @@ ghost use Rattle.iso_defs.specs.Grid.{index};
 ghost use Rattle.iso_base.specs.Points.{IsPoint};
 ghost use Rattle.window_laws.specs.Windows.{thin_axis};
 ghost use Rattle.window_mesh.specs.declared.boxes.WindowFault.TheVariants.{Memory};
-ghost use Rattle.window_mesh.specs.Crops.{IsBoxOfKind, IsFaultOf, cropped, first_cropped, window_of};
+ghost use Rattle.window_mesh.specs.Crops.{IsBoxOfKind, IsFaultOf, cropped, first_cropped, refusal_of, window_of};
 
 use crate::rows::add_row;
 use brick_store::BrickStore;
-use iso_base::{Memory, Point, SizeFault, Sizes, VoxelData};
+use iso_base::{BenchFault, Memory, Point, SizeFault, Sizes, VoxelData};
 use std::alloc::{AllocError, Global};
 use voxel_list::{FillBox, VoxelList};
 
@@ -34,6 +34,17 @@ impl From<Memory> for WindowFault {
 
     fn from(_: Memory) -> WindowFault {
         WindowFault::Memory
+    }
+}
+
+impl From<WindowFault> for BenchFault {
+    ghost from_gives = { λ fault refusal. refusal ≡ refusal_of fault };
+
+    fn from(fault: WindowFault) -> BenchFault {
+        match fault {
+            WindowFault::Thin { axis, n } => BenchFault::WindowThin { axis, n },
+            WindowFault::Memory => BenchFault::Memory,
+        }
     }
 }
 

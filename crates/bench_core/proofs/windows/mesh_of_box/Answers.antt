@@ -1,3 +1,4 @@
+use Rattle.std.proofs.lemmas.Result.{err_from_is_err_and}
 use Rattle.bench_core.proofs.WindowFiles.{box_of_kind, inside_point, no_fault, refused_as}
 use Rattle.bench_core.proofs.windows.mesh_of_box.Goals as goal
 
@@ -7,8 +8,10 @@ named_window-requires-clause-inside c = inside_point c.args.store.now c.args.are
 pub named_window-requires-clause-kind : goal.named_window-requires-clause-kind
 named_window-requires-clause-kind c = box_of_kind c.args.store.now c.args.area.now c.sizes.ensures.volume c.requires.low c.requires.high
 
-pub returns-in-Ok-clause-window : goal.returns-in-Ok-clause-window
-returns-in-Ok-clause-window c = no_fault c.args.area.now _ c.in-Ok.ensures.thick
+pub returns-clause-window : goal.returns-clause-window
+returns-clause-window c = no_fault c.args.area.now _ c.in_ok-named_window.ensures.thick
 
-pub returns-in-Err-clause-fault : goal.returns-in-Err-clause-fault
-returns-in-Err-clause-fault c = refused_as c.args.area.now _ c.refusal.result c.in-Err.ensures.fault c.refusal.ensures.memory c.refusal.ensures.thin
+pub returns-in_err-named_window-clause-fault : goal.returns-in_err-named_window-clause-fault
+returns-in_err-named_window-clause-fault c =
+    let p = err_from_is_err_and c.from_residual.result c.from_residual.ensures.1 in
+    rw (p.1, p.2) (refused_as c.args.area.now _ c.in_err-named_window.ensures.fault)

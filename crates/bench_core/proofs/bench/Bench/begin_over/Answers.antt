@@ -8,7 +8,7 @@ use Rattle.bench_core.proofs.bench.Bench.begin_over.Goals as goal
 
 pub invariant_of-result : goal.invariant_of-result
 invariant_of-result c =
-    let history : IsHistory c.args.store c.args.level c.in-Ok-new-2.log = search rules in
-    let kept : IsKept c.args.store c.in-Ok.tree c.in-Ok-new.cache
-    = subst (λ (k : Cache). IsKept c.args.store c.in-Ok.tree k) (sym c.in-Ok-new.ensures) (kept_first c.args.store c.in-Ok.tree c.args.capacity c.in-Ok.ensures) in
-    (history, (kept, ap (λ (r : RowNumbers). r.grid) c.in-Ok-new-3.ensures ∙ c.sizes.ensures.value))
+    let history : IsHistory c.args.store c.args.level c.in_ok-log.log = search rules in
+    let kept : IsKept c.args.store c.in_ok-tree.tree c.in_ok-cache.cache
+    = subst (λ (k : Cache). IsKept c.args.store c.in_ok-tree.tree k) (sym c.in_ok-cache.ensures) (kept_first c.args.store c.in_ok-tree.tree c.args.capacity c.in_ok-tree.ensures) in
+    (history, (kept, ap (λ (r : RowNumbers). r.grid) c.in_ok-ranks.ensures ∙ c.sizes.ensures.value))

@@ -8,16 +8,16 @@ use Rattle.bench_core.specs.Machine.{IsAbovePad}
 use Rattle.bench_core.specs.Texts.{measure_of}
 use Rattle.bench_core.proofs.bench.Bench.measure.Goals as goal
 
-pub returns-in-Ok-mesh_measures-clause-measures : goal.returns-in-Ok-mesh_measures-clause-measures
+pub returns-clause-measures : goal.returns-clause-measures
 unfolding measure_of
-returns-in-Ok-mesh_measures-clause-measures c =
+returns-clause-measures c =
     let level : ℤ = c.self.inside.level in
-    rw (← c.self.view_is) (c.in-Ok-mesh_measures.ensures.measures ∙ ap (λ (v : Volume). measures_at v level) c.in-Ok.ensures)
+    rw (← c.self.view_is) (c.in_ok-mesh_measures.ensures.measures ∙ ap (λ (v : Volume). measures_at v level) c.in_ok-volume.ensures)
 
-pub returns-in-Ok-mesh_measures-clause-volumes : goal.returns-in-Ok-mesh_measures-clause-volumes
-returns-in-Ok-mesh_measures-clause-volumes c =
+pub returns-clause-volumes : goal.returns-clause-volumes
+returns-clause-volumes c =
     let level : ℤ = c.self.inside.level in
-    rw (← c.self.view_is) (subst (λ (v : Volume). All (HasOneVolumeIn v level) c.in-Ok-mesh_measures.measures) c.in-Ok.ensures c.in-Ok-mesh_measures.ensures.volumes)
+    rw (← c.self.view_is) (subst (λ (v : Volume). All (HasOneVolumeIn v level) c.in_ok-mesh_measures.field-0) c.in_ok-volume.ensures c.in_ok-mesh_measures.ensures.volumes)
 
 -- with a pad there is one below the level
 closed_by : (v : Volume) (level : ℤ) (m : List Share) (pad : Option ℤ) → v.pad ≡ pad → IsAbovePad pad level → (HasPadBelow v level → All HasNoBorder m)
@@ -25,10 +25,10 @@ closed_by : (v : Volume) (level : ℤ) (m : List Share) (pad : Option ℤ) → v
 closed_by v level m None e above closed = tt
 closed_by v level m (Some pad) e above closed = closed (pad, e, above)
 
-pub returns-in-Ok-mesh_measures-clause-closed : goal.returns-in-Ok-mesh_measures-clause-closed
-returns-in-Ok-mesh_measures-clause-closed c =
+pub returns-clause-closed : goal.returns-clause-closed
+returns-clause-closed c =
     let level : ℤ = c.self.inside.level in
-    let m : List Share = c.in-Ok-mesh_measures.measures in
+    let m : List Share = c.in_ok-mesh_measures.field-0 in
     rw (← c.self.view_is)
     (closed_by c.self.inside.store level m c.self.inside.store.pad refl c.self.invariant.0.state.above
-    (subst (λ (v : Volume). HasPadBelow v level → All HasNoBorder m) c.in-Ok.ensures c.in-Ok-mesh_measures.ensures.closed))
+    (subst (λ (v : Volume). HasPadBelow v level → All HasNoBorder m) c.in_ok-volume.ensures c.in_ok-mesh_measures.ensures.closed))

@@ -1,4 +1,5 @@
 use Rattle.std.proofs.Common.{◌≡◌, Ok, subst}
+use Rattle.std.proofs.lemmas.Result.{err_from_is_err_and}
 use Rattle.nrrd.specs.Nrrd.{nrrd_of}
 use Rattle.inner_volume.specs.Unpadded.{inner_voxels}
 use Rattle.bench_core.specs.Keeping.{Workbench}
@@ -8,24 +9,25 @@ use Rattle.bench_core.specs.History.{state_of}
 use Rattle.bench_core.proofs.SavedFiles.{saved_file, unsaved_file}
 use Rattle.bench_core.proofs.bench.Bench.save_hex.Goals as goal
 
-pub returns-in-Ok-clause-file : goal.returns-in-Ok-clause-file
+pub returns-clause-file : goal.returns-clause-file
 unfolding hex_save
-returns-in-Ok-clause-file g c =
+returns-clause-file g c =
     let s : State = state_of c.self.inside.store c.self.inside.level c.self.inside.log in
-    rw (← c.self.view_is) (saved_file (hex_save s) _ _ _ _ c.in-Ok.ensures.file c.in-Ok.ensures.bytes)
+    rw (← c.self.view_is) (saved_file (hex_save s) _ _ _ _ c.in_ok-write_hex.ensures.file c.in_ok-write_hex.ensures.bytes)
 
-pub returns-in-Err-clause-file : goal.returns-in-Err-clause-file
+pub returns-in_err-write_hex-clause-file : goal.returns-in_err-write_hex-clause-file
 unfolding hex_save
-returns-in-Err-clause-file g c =
+returns-in_err-write_hex-clause-file g c =
     let s : State = state_of c.self.inside.store c.self.inside.level c.self.inside.log in
-    rw (← c.self.view_is) (unsaved_file (hex_save s) _ _ _ _ c.in-Err.ensures.file)
+    let p = err_from_is_err_and c.from_residual.result c.from_residual.ensures.1 in
+    rw (p.1, p.2, ← c.self.view_is) (unsaved_file (hex_save s) _ _ _ _ c.in_err-write_hex.ensures.file)
 
-pub returns-in-Ok-clause-read_again : goal.returns-in-Ok-clause-read_again
+pub returns-clause-read_again : goal.returns-clause-read_again
 unfolding hex_save
-returns-in-Ok-clause-read_again g c =
+returns-clause-read_again g c =
     subst (λ (w : Workbench). nrrd_of (hex_save w.state) ≡ Ok (inner_voxels w.state.volume, 1)) c.self.view_is c.write_hex.ensures.read_again
 
-pub returns-in-Err-clause-read_again : goal.returns-in-Err-clause-read_again
+pub returns-in_err-write_hex-clause-read_again : goal.returns-in_err-write_hex-clause-read_again
 unfolding hex_save
-returns-in-Err-clause-read_again g c =
+returns-in_err-write_hex-clause-read_again g c =
     subst (λ (w : Workbench). nrrd_of (hex_save w.state) ≡ Ok (inner_voxels w.state.volume, 1)) c.self.view_is c.write_hex.ensures.read_again
