@@ -5,31 +5,36 @@ use mesh_read::MeshFault;
 use nrrd::{EncodingWord, NrrdFault};
 use std::test::Fail;
 
+const FAULTS: [VolumeFault; 10] = [
+    VolumeFault::LevelNotAbovePad { level: 0, pad: 0 },
+    VolumeFault::LevelNotAbovePad {
+        level: -1_001,
+        pad: -1,
+    },
+    VolumeFault::Pad(SizeFault::AxisTooLong { axis: 0, n: 1027 }),
+    VolumeFault::Nrrd(NrrdFault::UnsupportedEncoding {
+        word: EncodingWord::Gzip,
+    }),
+    VolumeFault::Nrrd(NrrdFault::ShortSamples {
+        needed: 54,
+        present: 53,
+    }),
+    VolumeFault::Nrrd(NrrdFault::Size(SizeFault::TooThin { axis: 0, n: 1 })),
+    VolumeFault::Nrrd(NrrdFault::Detached { line: 5 }),
+    VolumeFault::Nrrd(NrrdFault::NotNrrd),
+    VolumeFault::Nrrd(NrrdFault::Memory),
+    VolumeFault::Nrrd(NrrdFault::BadSample { place: 2 }),
+];
+
+const NOTES: &str =
+    "isobench: volume 17 level not above pad 0 0\nisobench: volume 17 level not above pad -1.001 -1\nisobench: volume 16 pad size axis 0 1027\nisobench: volume 8 unsupported encoding gzip\nisobench: volume 14 short samples 54 53\nisobench: volume 12 size thin 0 1\nisobench: volume 9 detached 5\nisobench: volume 1 not nrrd\nisobench: memory\nisobench: volume 19 bad sample 2\nisobench: mesh 5 not triangle 14\nisobench: bad words\n";
+
 #[test]
 fn notes_are_written(rt: HostRuntime) -> Result<(), Fail> {
     let mut notes = MemSink::new(rt.alloc(), 1000, Vec::new(rt.alloc()))
         .ok()
         .ok_or("memory")?;
-    for fault in [
-        VolumeFault::LevelNotAbovePad { level: 0, pad: 0 },
-        VolumeFault::LevelNotAbovePad {
-            level: -1_001,
-            pad: -1,
-        },
-        VolumeFault::Pad(SizeFault::AxisTooLong { axis: 0, n: 1027 }),
-        VolumeFault::Nrrd(NrrdFault::UnsupportedEncoding {
-            word: EncodingWord::Gzip,
-        }),
-        VolumeFault::Nrrd(NrrdFault::ShortSamples {
-            needed: 54,
-            present: 53,
-        }),
-        VolumeFault::Nrrd(NrrdFault::Size(SizeFault::TooThin { axis: 0, n: 1 })),
-        VolumeFault::Nrrd(NrrdFault::Detached { line: 5 }),
-        VolumeFault::Nrrd(NrrdFault::NotNrrd),
-        VolumeFault::Nrrd(NrrdFault::Memory),
-        VolumeFault::Nrrd(NrrdFault::BadSample { place: 2 }),
-    ] {
+    for fault in FAULTS {
         put_note(&mut notes, &Answer::BadVolume(fault));
     }
     for answer in [
@@ -40,9 +45,7 @@ fn notes_are_written(rt: HostRuntime) -> Result<(), Fail> {
     ] {
         put_note(&mut notes, &answer);
     }
-    let want =
-        "isobench: volume 17 level not above pad 0 0\nisobench: volume 17 level not above pad -1.001 -1\nisobench: volume 16 pad size axis 0 1027\nisobench: volume 8 unsupported encoding gzip\nisobench: volume 14 short samples 54 53\nisobench: volume 12 size thin 0 1\nisobench: volume 9 detached 5\nisobench: volume 1 not nrrd\nisobench: memory\nisobench: volume 19 bad sample 2\nisobench: mesh 5 not triangle 14\nisobench: bad words\n";
-    assert_eq!(rt; notes.bytes(), want.as_bytes());
+    assert_eq!(rt; notes.bytes(), NOTES.as_bytes());
     Ok(())
 }
 

@@ -114,9 +114,13 @@ fn lines_are_read(rt: HostRuntime) {
         Some(([0, 1, 2, 3, 4, 5], most))
     );
     assert_eq!(rt; work(b"work 999999999"), Some(999_999_999));
+    assert_eq!(rt; contour(b"contour -1"), Some(-1));
+}
+
+#[test]
+fn lines_without_numbers_are_read(rt: HostRuntime) {
     assert!(rt; is_redo(b"\tredo "));
     assert!(rt; is_measure(b" measure"));
-    assert_eq!(rt; contour(b"contour -1"), Some(-1));
     for line in [b"".as_slice(), b" \t ", b"# c", b"\t#set"] {
         assert!(rt; is_nothing(line));
     }

@@ -8,6 +8,7 @@ use nrrd::{
 };
 use nrrd_text::{put_hex, put_text};
 use std::alloc::Global;
+use std::process::Abort;
 use std::test::Fail;
 
 /// The volume of a text, and how many bytes were left over.
@@ -15,20 +16,36 @@ fn read(alloc: Global, text: &[u8]) -> Result<(VoxelData, u64), NrrdFault> {
     read_volume(alloc, text)
 }
 
+/// A text is a volume of these samples, and so many bytes are left over.
+fn check_volume(
+    rt: &impl Abort,
+    alloc: Global,
+    text: &[u8],
+    samples: &[i64],
+    left: u64,
+) -> Result<(), Fail> {
+    let (volume, surplus) = read(alloc, text)?;
+    assert_eq!(rt; surplus, left);
+    assert!(rt; volume.samples() == samples);
+    Ok(())
+}
+
+/// Writes a volume with raw samples.
+fn put_volume(sink: &mut MemSink, volume: &VoxelData) -> Result<(), Fail> {
+    put_nrrd_head(sink, &volume.sizes(), volume.kind())?;
+    put_samples(sink, volume.kind(), volume.samples())?;
+    Ok(())
+}
+
 #[test]
 fn a_written_volume_is_read_again(rt: HostRuntime) -> Result<(), Fail> {
     let text =
         b"NRRD0005\n# made by hand\nType: Unsigned Short\ndimension:3\nkind:=a\nsizes: 2 2 2\nendian: BIG\nencoding: raw\n\n\x00\x01\x00\x02\x00\x03\x00\x04\x00\x05\x00\x06\x00\x07\xff\xfe!";
-    let (volume, surplus) = read(rt.alloc(), text)?;
-    assert_eq!(rt; surplus, 1);
-    assert!(rt; volume.samples() == [1i64, 2, 3, 4, 5, 6, 7, 65_534].as_slice());
+    let samples = [1, 2, 3, 4, 5, 6, 7, 65_534];
+    check_volume(&rt, rt.alloc(), text, &samples, 1)?;
     let mut sink = MemSink::new(rt.alloc(), 200, Vec::new(rt.alloc()))?;
-    put_nrrd_head(&mut sink, &volume.sizes(), volume.kind())?;
-    put_samples(&mut sink, volume.kind(), volume.samples())?;
-    let (again, surplus) = read(rt.alloc(), sink.bytes())?;
-    assert_eq!(rt; surplus, 0);
-    assert!(rt; again.samples() == volume.samples());
-    Ok(())
+    put_volume(&mut sink, &read(rt.alloc(), text)?.0)?;
+    check_volume(&rt, rt.alloc(), sink.bytes(), &samples, 0)
 }
 
 #[test]
@@ -53,15 +70,12 @@ fn samples_in_the_bytes_of_a_file(rt: HostRuntime) -> Result<(), Fail> {
 fn samples_in_print(rt: HostRuntime) -> Result<(), Fail> {
     let text =
         b"NRRD0004\n# Complete NRRD file format specification at:\n# http://teem.sourceforge.net/nrrd/format.html\ntype: short\ndimension: 3\nsizes: 3 2 2\nencoding: ascii\n\n1 2 3 4 5 6 7 8 9 10\n-11 32767\n";
-    let (volume, surplus) = read(rt.alloc(), text)?;
-    assert_eq!(rt; surplus, 1);
-    assert!(rt; volume.samples() == [1i64, 2, 3, 4, 5, 6, 7, 8, 9, 10, -11, 32_767].as_slice());
+    let samples = [1, 2, 3, 4, 5, 6, 7, 8, 9, 10, -11, 32_767];
+    check_volume(&rt, rt.alloc(), text, &samples, 1)?;
     let hex =
         b"NRRD0004\ntype: ushort\ndimension: 3\nsizes: 2 2 2\nendian: little\nencoding: hex\n\n01000200030004000500060007\n00fFfE\n";
-    let (volume, surplus) = read(rt.alloc(), hex)?;
-    assert_eq!(rt; surplus, 1);
-    assert!(rt; volume.samples() == [1i64, 2, 3, 4, 5, 6, 7, 65_279].as_slice());
-    Ok(())
+    let samples = [1, 2, 3, 4, 5, 6, 7, 65_279];
+    check_volume(&rt, rt.alloc(), hex, &samples, 1)
 }
 
 /// What is wrong with samples in print of a volume of eight bytes.

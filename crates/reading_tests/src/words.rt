@@ -56,47 +56,50 @@ fn read(alloc: Global, line: &str) -> Result<String, AllocError> {
     }
 }
 
+/// Lines of words, and what they ask for.
+const COMMAND_LINES: [(&str, &str); 19] = [
+    ("points --level=-0", "points 0"),
+    ("points --level=000000000000000005", "points 5000"),
+    ("points --level=0.5", "points 500"),
+    ("points --level=-0.05", "points -50"),
+    ("points --level=10.001", "points 10001"),
+    ("points --level=8589934591.999", "points 8589934591999"),
+    ("extract --level=5", "extract 5000 None ply"),
+    (
+        "extract --pad=-2147483648 --format=obj --level=-8589934591.999",
+        "extract -8589934591999 Some(-2147483648) obj",
+    ),
+    (
+        "extract --level=0 --pad=4294967295 --format=ply",
+        "extract 0 Some(4294967295) ply",
+    ),
+    ("session --level=5 a", "session 5000 None a 4096 65536"),
+    (
+        "session --pad=0 a/b-1._Z --level=005.5",
+        "session 5500 Some(0) a/b-1._Z 4096 65536",
+    ),
+    (
+        "session --pages=16 --level=5 --bricks=1 a",
+        "session 5000 None a 1 16",
+    ),
+    (
+        "session a --bricks=000065536 --pages=1048576 --level=5",
+        "session 5000 None a 65536 1048576",
+    ),
+    ("gen 0 2 2 2", "gen 0 2 2 2"),
+    (
+        "gen 999999999999999999 1026 0003 4",
+        "gen 999999999999999999 1026 3 4",
+    ),
+    ("soak 0", "soak 0"),
+    ("soak 000000000000000007", "soak 7"),
+    ("check ply", "check ply"),
+    ("check obj", "check obj"),
+];
+
 #[test]
 fn command_lines_are_read(rt: HostRuntime) -> Result<(), Fail> {
-    for (line, want) in [
-        ("points --level=-0", "points 0"),
-        ("points --level=000000000000000005", "points 5000"),
-        ("points --level=0.5", "points 500"),
-        ("points --level=-0.05", "points -50"),
-        ("points --level=10.001", "points 10001"),
-        ("points --level=8589934591.999", "points 8589934591999"),
-        ("extract --level=5", "extract 5000 None ply"),
-        (
-            "extract --pad=-2147483648 --format=obj --level=-8589934591.999",
-            "extract -8589934591999 Some(-2147483648) obj",
-        ),
-        (
-            "extract --level=0 --pad=4294967295 --format=ply",
-            "extract 0 Some(4294967295) ply",
-        ),
-        ("session --level=5 a", "session 5000 None a 4096 65536"),
-        (
-            "session --pad=0 a/b-1._Z --level=005.5",
-            "session 5500 Some(0) a/b-1._Z 4096 65536",
-        ),
-        (
-            "session --pages=16 --level=5 --bricks=1 a",
-            "session 5000 None a 1 16",
-        ),
-        (
-            "session a --bricks=000065536 --pages=1048576 --level=5",
-            "session 5000 None a 65536 1048576",
-        ),
-        ("gen 0 2 2 2", "gen 0 2 2 2"),
-        (
-            "gen 999999999999999999 1026 0003 4",
-            "gen 999999999999999999 1026 3 4",
-        ),
-        ("soak 0", "soak 0"),
-        ("soak 000000000000000007", "soak 7"),
-        ("check ply", "check ply"),
-        ("check obj", "check obj"),
-    ] {
+    for (line, want) in COMMAND_LINES {
         assert_eq!(rt; read(rt.alloc(), line)?.as_str(), want);
     }
     Ok(())
