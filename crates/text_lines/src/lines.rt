@@ -54,6 +54,7 @@ fn first_feed(bytes: &[u8]) -> Option<usize>
 }
 
 /// The place of the first line feed.
+#[inline(always)]
 fn feed_at(bytes: &[u8]) -> Option<usize>
     ensures { result ≡ position (λ b. b == 10) bytes.now }
 {
@@ -64,6 +65,7 @@ fn feed_at(bytes: &[u8]) -> Option<usize>
 
 /// The text of the first line, and the bytes after its line feed. There is none only where no byte is left.
 /// The last line may lack its line feed. One return just before a line feed is no part of the text.
+#[inline(always)]
 pub fn next_line(bytes: &[u8]) -> Option<(&[u8], &[u8])>
     ensures line { MatchOption result (lines_of bytes.now ≡ []) (λ x. lines_of bytes.now ≡ record { text = x.0.now; after = x.1.now } ∷ lines_of x.1.now) }
     ensures shorter { MatchOption result (bytes.now ≡ []) (λ x. length x.1.now + 1 ≤ length bytes.now) }
