@@ -44,10 +44,8 @@ pub fn stage_text<K: Sink>(sink: &mut K, waiting: &mut Vec<u8>, text: &[u8]) -> 
     ensures staged { Stages (K.seen sink.old) (K.seen sink.new) waiting.old.items waiting.new.items result text.now }
     ensures bytes { IfOk result (λ n. n ≡ length text.now) }
 {
-    match stage(sink, waiting, text) {
-        Ok(()) => Ok(text.len() as u64),
-        Err(Failed) => Err(Failed),
-    }
+    stage(sink, waiting, text)?;
+    Ok(text.len() as u64)
 }
 
 /// Writes what waits and then the gathered lines.

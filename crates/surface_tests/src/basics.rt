@@ -40,15 +40,18 @@ fn levels_between_samples(rt: HostRuntime) -> Result<(), Fail> {
     let level = Level::new(4_500).ok_or("4.5 is a level")?;
     assert_eq!(rt; level.shifted(5), 500);
     assert_eq!(rt; level.shifted(4), -500);
-    assert_eq!(rt; level.least_above(), 5);
     assert!(rt; level.is_above_pad(4));
     assert!(rt; !level.is_above_pad(5));
-    let below = Level::new(-4_500).ok_or("-4.5 is a level")?;
-    assert_eq!(rt; below.least_above(), -4);
-    let whole = Level::new(-4_000).ok_or("-4 is a level")?;
-    assert_eq!(rt; whole.least_above(), -4);
     assert_eq!(rt; Level::new(8_589_934_592_000), None);
     Ok(())
+}
+
+#[test]
+fn the_least_samples_above(rt: HostRuntime) {
+    for (thousandths, least) in [(4_500, 5), (-4_500, -4), (-4_000, -4)] {
+        let found = Level::new(thousandths).map(Level::least_above);
+        assert_eq!(rt; found, Some(least), "{thousandths}");
+    }
 }
 
 #[test]

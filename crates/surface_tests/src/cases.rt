@@ -32,12 +32,10 @@ fn a_tie_on_the_lowest_face(rt: HostRuntime) -> Result<(), Fail> {
 
 #[test]
 fn numbers(rt: HostRuntime) -> Result<(), Fail> {
-    assert_eq!(rt; row_of(1, 0).number(), 1);
-    assert_eq!(rt; row_of(9, 0).number(), 10);
-    assert_eq!(rt; row_of(9, 16).number(), 11);
-    assert_eq!(rt; row_of(255, 0).number(), 655);
-    assert_eq!(rt; row_of(105, 63).signs(), 105);
-    assert_eq!(rt; CaseRow::of(11).signs(), 9);
+    let rows = [row_of(1, 0), row_of(9, 0), row_of(9, 16), row_of(255, 0)];
+    assert_eq!(rt; rows.map(CaseRow::number), [1, 10, 11, 655]);
+    let rows = [row_of(105, 63), CaseRow::of(11)];
+    assert_eq!(rt; rows.map(CaseRow::signs), [105, 9]);
     assert_eq!(rt; CaseRow::count(), 656);
     Ok(())
 }

@@ -2,24 +2,35 @@
 
 use crate::grids::three_a_side;
 use crate::volumes::one_above;
-use crossing_edges::{Numbers, crossing_points, flag_row, position_on, signs_of};
-use iso_base::Level;
+use crossing_edges::{EdgeVertices, Numbers, crossing_points, flag_row, position_on, signs_of};
+use iso_base::{Level, Memory};
+use std::alloc::Global;
 use std::test::Fail;
+use voxel_list::VoxelList;
+
+fn points_of(alloc: Global, volume: &VoxelList, level: Level) -> Result<EdgeVertices, Memory> {
+    let numbers = Numbers {
+        numbers: volume.samples(),
+    };
+    crossing_points(alloc, &volume.sizes(), &numbers, level)
+}
 
 #[test]
 fn edges_round_one_sample(rt: HostRuntime) -> Result<(), Fail> {
     let sizes = three_a_side().ok_or("3, 3 and 3 are sizes")?;
     let level = Level::new(9_000).ok_or("9 is a level")?;
-    let volume = one_above(rt.alloc(), sizes)?;
-    let numbers = Numbers {
-        numbers: volume.samples(),
-    };
-    let edges = crossing_points(rt.alloc(), &volume.sizes(), &numbers, level)?;
+    let edges = points_of(rt.alloc(), &one_above(rt.alloc(), sizes)?, level)?;
     assert_eq!(rt; edges.names.as_slice(), [14, 31, 36, 39, 40, 41].as_slice());
     assert_eq!(rt;
         edges.places.as_slice(),
         [900, 900, 900, 100, 100, 100].as_slice()
     );
+    Ok(())
+}
+
+#[test]
+fn positions_on_edges(rt: HostRuntime) -> Result<(), Fail> {
+    let sizes = three_a_side().ok_or("3, 3 and 3 are sizes")?;
     assert_eq!(rt; position_on(&sizes, 14, 900), [1000, 1000, 900]);
     assert_eq!(rt; position_on(&sizes, 39, 100), [1100, 1000, 1000]);
     Ok(())

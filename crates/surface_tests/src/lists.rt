@@ -1,6 +1,6 @@
 //! Triangles of the examples.
 
-ghost use Rattle.std.specs.Prelude.{◌≡◌, ◌≤◌, length, All, IfOk};
+ghost use Rattle.std.specs.Prelude.{◌≡◌, ◌≤◌, ◌↔◌, length, All, IfOk, IsTrue};
 ghost use Rattle.iso_defs.specs.Manifold.{HasThreeCorners};
 ghost use Rattle.iso_base.specs.Triangles.{triangle_of};
 
@@ -14,11 +14,19 @@ pub const TETRAHEDRON: [[u32; 3]; 4] = [[0, 1, 2], [0, 2, 3], [0, 3, 1], [1, 3, 
 
 /// At most nine triangles over nine vertices.
 pub fn list_of(rt: &impl Abort, alloc: Global, triangles: &[[u32; 3]]) -> Result<TriangleList, Fail>
-    ensures { IfOk result (λ m. length m.triangles ≤ 9) }
+    ensures vertices { IfOk result (λ m. m.vertex_count ≡ 9) }
+    ensures few { IfOk result (λ m. length m.triangles ≤ 9) }
+    ensures triangles { IfOk result (λ m. m.triangles ≡ triangles.now) }
 {
     assert!(rt; triangles.len() <= 9);
     assert!(rt; triangles.iter().all(|t| t[0] < 9 && t[1] < 9 && t[2] < 9));
     Ok(TriangleList::new(9, triangles.to_vec(alloc)?))
+}
+
+fn has_three_corners(t: &[u32; 3]) -> bool
+    ensures { IsTrue result ↔ HasThreeCorners (triangle_of t.now) }
+{
+    t[0] != t[1] && t[1] != t[2] && t[2] != t[0]
 }
 
 /// At most nine triangles over nine vertices, none of which repeats a corner.
@@ -31,12 +39,6 @@ pub fn surface_of(
     ensures few { IfOk result (λ m. length m.triangles ≤ 9) }
     ensures different { IfOk result (λ m. All (λ t. HasThreeCorners (triangle_of t)) m.triangles) }
 {
-    assert!(rt; triangles.len() <= 9);
-    assert!(rt; triangles.iter().all(|t| t[0] < 9 && t[1] < 9 && t[2] < 9));
-    assert!(rt;
-        triangles
-            .iter()
-            .all(|t| t[0] != t[1] && t[1] != t[2] && t[2] != t[0])
-    );
-    Ok(TriangleList::new(9, triangles.to_vec(alloc)?))
+    assert!(rt; triangles.iter().all(|t| has_three_corners(t)));
+    list_of(rt, alloc, triangles)
 }

@@ -46,17 +46,21 @@ fn measured(
     Ok(measure(alloc, &surface_of(rt, alloc, triangles)?, at)?)
 }
 
+/// A tetrahedron, a triangle and two points, far from the origin.
+const FAR: [[i64; 3]; 9] = [
+    [2_097_000, 2_097_000, -2_097_000],
+    [2_097_002, 2_097_000, -2_097_000],
+    [2_097_000, 2_097_003, -2_097_000],
+    [2_097_000, 2_097_000, -2_096_995],
+    [2_097_152, 2_097_152, -2_097_152],
+    [-2_097_152, 2_097_152, 2_097_152],
+    [2_097_152, -2_097_152, 2_097_152],
+    [0, 0, 0],
+    [0, 0, 0],
+];
+
 #[test]
 fn corners_far_from_the_origin(rt: HostRuntime) -> Result<(), Fail> {
-    let far = 2_097_000;
-    let mut at = [[0; 3]; 9];
-    at[0] = [far, far, -far];
-    at[1] = [far + 2, far, -far];
-    at[2] = [far, far + 3, -far];
-    at[3] = [far, far, -far + 5];
-    at[4] = [2_097_152, 2_097_152, -2_097_152];
-    at[5] = [-2_097_152, 2_097_152, 2_097_152];
-    at[6] = [2_097_152, -2_097_152, 2_097_152];
     let [a, b, c, d] = TETRAHEDRON;
     let triangle = Share {
         least: 4,
@@ -64,10 +68,10 @@ fn corners_far_from_the_origin(rt: HostRuntime) -> Result<(), Fail> {
         area: [-17_592_186_044_416; 3],
         border: 3,
     };
-    let measures = measured(&rt, rt.alloc(), &[a, b, [5, 4, 6], c, d], &at)?;
+    let measures = measured(&rt, rt.alloc(), &[a, b, [5, 4, 6], c, d], &FAR)?;
     assert_eq!(rt; measures.shares(), [closed(-30), triangle].as_slice());
     let [a, b, c, d] = TETRAHEDRON.map(|[x, y, z]| [y, x, z]);
-    let turned = measured(&rt, rt.alloc(), &[a, b, c, d], &at)?;
+    let turned = measured(&rt, rt.alloc(), &[a, b, c, d], &FAR)?;
     assert_eq!(rt; turned.shares(), [closed(30)].as_slice());
     Ok(())
 }

@@ -33,9 +33,12 @@ fn edges_in_the_rows_before(rt: HostRuntime) -> Result<(), Fail> {
     ranks.set_count(0, 0, 3);
     ranks.set_count(0, 1, 4);
     ranks.finish();
-    assert_eq!(rt; ranks.before(0, 0), 0);
-    assert_eq!(rt; ranks.before(1, 0), 3);
-    assert_eq!(rt; ranks.before(0, 1), 3);
-    assert_eq!(rt; ranks.before(1, 1), 7);
+    let before = [
+        ranks.before(0, 0),
+        ranks.before(1, 0),
+        ranks.before(0, 1),
+        ranks.before(1, 1),
+    ];
+    assert_eq!(rt; before, [0, 3, 3, 7]);
     Ok(())
 }

@@ -50,19 +50,21 @@ fn the_component_of_each_vertex(rt: HostRuntime) -> Result<(), Fail> {
     Ok(())
 }
 
+/// Two tetrahedra that share the vertex 3.
+const TWO_TETRAHEDRA: [[u32; 3]; 8] = [
+    [0, 1, 2],
+    [0, 2, 3],
+    [0, 3, 1],
+    [1, 3, 2],
+    [3, 4, 5],
+    [3, 5, 6],
+    [3, 6, 4],
+    [4, 6, 5],
+];
+
 #[test]
 fn a_shared_vertex(rt: HostRuntime) -> Result<(), Fail> {
-    let both = [
-        [0, 1, 2],
-        [0, 2, 3],
-        [0, 3, 1],
-        [1, 3, 2],
-        [3, 4, 5],
-        [3, 5, 6],
-        [3, 6, 4],
-        [4, 6, 5],
-    ];
-    let report = report_of(&rt, rt.alloc(), &both)?;
+    let report = report_of(&rt, rt.alloc(), &TWO_TETRAHEDRA)?;
     assert_eq!(rt; report.parts(), [part(0, 7, 12, 8, 0, 3)].as_slice());
     Ok(())
 }

@@ -1,11 +1,11 @@
 //! Tests of `voxel_list`.
 
-ghost use Rattle.std.specs.Prelude.{◌≡◌, IfOk, None};
+ghost use Rattle.std.specs.Prelude.{◌≡◌, IfOk, IfSome, None};
 ghost use Rattle.iso_defs.specs.Grid.{Grid};
 ghost use Rattle.iso_base.specs.declared.kind.SampleKind.TheVariants.{U8};
 ghost use Rattle.iso_base.specs.Volume.{Volume};
 
-use crate::grids::two_a_side;
+use crate::grids::{sizes_of, two_a_side};
 use iso_base::{Memory, Point, SampleKind, SizeFault, Sizes, VoxelData};
 use std::alloc::Global;
 use std::test::Fail;
@@ -20,8 +20,11 @@ fn volume(alloc: Global, sizes: Sizes) -> Result<VoxelList, Memory>
     ensures kind { IfOk result (λ v. v.kind ≡ U8) }
     ensures pad { IfOk result (λ v. v.pad ≡ None) }
 {
-    let samples = vec![in alloc; 10, 0, 0, 0, 0, 0, 0, 255]?;
-    Ok(VoxelList::of(VoxelData::new(sizes, SampleKind::U8, samples)))
+    let samples = vec![in alloc; 0; 8]?;
+    let mut volume = VoxelList::of(VoxelData::new(sizes, SampleKind::U8, samples));
+    volume.set(Point { x: 0, y: 0, z: 0 }, 10);
+    volume.set(Point { x: 1, y: 1, z: 1 }, 255);
+    Ok(volume)
 }
 
 /// The middle of three by three by three samples is 10, and the others are 0.
@@ -52,8 +55,9 @@ fn boxes_of_corners(rt: HostRuntime) -> Result<(), Fail> {
     assert_eq!(rt; area.count(), 2);
     assert_eq!(rt; area.low(), Point { x: 0, y: 0, z: 1 });
     assert_eq!(rt; area.high(), FAR);
-    assert!(rt; FillBox::new(&sizes, [0, 0, 0, 0, 2, 0]).is_none());
-    assert!(rt; FillBox::new(&sizes, [0, 0, -1, 0, 0, 0]).is_none());
+    for outside in [[0, 0, 0, 0, 2, 0], [0, 0, -1, 0, 0, 0]] {
+        assert!(rt; FillBox::new(&sizes, outside).is_none());
+    }
     Ok(())
 }
 
@@ -63,9 +67,8 @@ fn samples_of_points(rt: HostRuntime) -> Result<(), Fail> {
     let mut list = volume(rt.alloc(), sizes)?;
     let old = list.copy(rt.alloc())?;
     list.set(FAR, 7);
-    assert_eq!(rt; list.get(FAR), 7);
-    assert_eq!(rt; list.samples()[5], 7);
-    assert_eq!(rt; old.get(FAR), 0);
+    let (new, listed) = (list.get(FAR), list.samples()[5]);
+    assert_eq!(rt; (new, listed, old.get(FAR)), (7, 7, 0));
     Ok(())
 }
 
@@ -83,11 +86,25 @@ fn pad_round_a_volume(rt: HostRuntime) -> Result<(), Fail> {
     Ok(())
 }
 
+/// The sizes of a grid that is one point too long along x for a pad.
+fn long_sizes() -> Option<Sizes>
+    ensures { IfSome result (λ g. g ≡ record { nx = 1025; ny = 2; nz = 2 }) }
+{
+    sizes_of(1025, 2, 2)
+}
+
+/// All samples are 0.
+fn zeros(alloc: Global, sizes: Sizes) -> Result<VoxelList, Memory>
+    requires { sizes ≡ record { nx = 1025; ny = 2; nz = 2 } }
+    ensures { IfOk result (λ v. v.pad ≡ None) }
+{
+    let samples = vec![in alloc; 0; 4100]?;
+    Ok(VoxelList::of(VoxelData::new(sizes, SampleKind::U8, samples)))
+}
+
 #[test]
 fn no_room_for_a_pad(rt: HostRuntime) -> Result<(), Fail> {
-    let sizes = Sizes::new(1025, 2, 2)?;
-    let samples = vec![in rt.alloc(); 0; 4100]?;
-    let list = VoxelList::of(VoxelData::new(sizes, SampleKind::U8, samples));
+    let list = zeros(rt.alloc(), long_sizes().ok_or("1025, 2 and 2 are sizes")?)?;
     let fault = PadFault::Size(SizeFault::AxisTooLong { axis: 0, n: 1027 });
     assert_eq!(rt; list.padded(rt.alloc(), 0).err(), Some(fault));
     Ok(())
