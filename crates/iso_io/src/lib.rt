@@ -17,6 +17,7 @@ mod staged;
 mod standard;
 
 pub use file_shelf::FileShelf;
+use iso_base::BenchFault;
 pub use memory_shelf::MemShelf;
 pub use memory_sink::MemSink;
 pub use memory_source::MemSource;
@@ -26,7 +27,6 @@ pub use sink::{Sink, write_all_of};
 pub use source::{ReadFault, Source, read_all_of};
 pub use staged::{LINES, gather, stage};
 pub use standard::{StdSink, StdSource};
-use iso_base::BenchFault;
 use thiserror::Error;
 
 /// A call of the outside failed, and its count of faults rose.
