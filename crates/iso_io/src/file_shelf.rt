@@ -7,15 +7,26 @@ use crate::shelf::{Shelf, ShelfError};
 use crate::sink::write_all_of;
 use crate::source::{ReadFault, read_all_of};
 use crate::standard::{StdSink, StdSource};
+use arrayvec::ArrayString;
 use std::alloc::Global;
 use std::fs::{File, OpenOptions};
 use std::marker::Model;
 
+/// A file of the system that is open for bytes to be put behind its own.
+#[derive(Drop)]
+struct OpenFile {
+    name: ArrayString<255>,
+    sink: StdSink<File>,
+}
+
 /// The files of the system, whose names it resolves from the working directory. It tells nothing of their bytes, and is
-/// seen as a count, which rises at each call that fails and at no other.
+/// seen as a count, which rises at each call that fails and at no other. A file that was appended to stays open until a
+/// call is about another name, makes it anew, reads or fails, so that a text written in thousands of appends opens its
+/// file once.
 #[derive(Drop)]
 pub struct FileShelf<'a> {
     rt: &'a HostRuntime,
+    open: Option<OpenFile>,
     faults: u64,
 }
 
@@ -32,7 +43,11 @@ impl<'a> FileShelf<'a> {
     pub fn new(rt: &'a HostRuntime) -> FileShelf<'a>
         ensures { result ≡ 0 }
     {
-        FileShelf { rt, faults: 0 }
+        FileShelf {
+            rt,
+            open: None,
+            faults: 0,
+        }
     }
 
     /// A call failed.
@@ -56,12 +71,32 @@ fn read_file(rt: &HostRuntime, alloc: Global, name: &str, limit: u64) -> Result<
     }
 }
 
-/// Puts bytes behind those of a file of the system, which is made where there is none.
-fn append_to(rt: &HostRuntime, name: &str, bytes: &[u8]) -> Result<(), Failed> {
+/// Opens a file of the system, which is made where there is none, for bytes to be put behind its own, whoever else puts
+/// some there meanwhile.
+fn open_behind(rt: &HostRuntime, name: &str) -> Result<StdSink<File>, Failed> {
     match OpenOptions::new().append(true).create(true).open(rt, name) {
-        Ok(file) => write_all_of(&mut StdSink::new(file), bytes),
+        Ok(file) => Ok(StdSink::new(file)),
         Err(_) => Err(Failed),
     }
+}
+
+/// Puts bytes behind those of a file of the system, by way of what is open where that is this file. It then stays open,
+/// but for a name too long to be kept in place; where the call fails none does.
+fn append_to(
+    rt: &HostRuntime,
+    open: &mut Option<OpenFile>,
+    name: &str,
+    bytes: &[u8],
+) -> Result<(), Failed> {
+    let mut sink = match open.take() {
+        Some(file) if file.name.as_str() == name => file.sink,
+        _ => open_behind(rt, name)?,
+    };
+    write_all_of(&mut sink, bytes)?;
+    if let Ok(name) = ArrayString::from(name) {
+        *open = Some(OpenFile { name, sink });
+    }
+    Ok(())
 }
 
 impl<'a> Shelf for FileShelf<'a> {
@@ -77,6 +112,7 @@ impl<'a> Shelf for FileShelf<'a> {
         ensures limit { IfErr result (λ e. e ≡ ShelfError.Failed ⊎ e ≡ ShelfError.TooLong limit ⊎ e ≡ ShelfError.Memory) }
         ensures faults { self.new ≡ (if is_failed result then one_more self.old else self.old) }
     {
+        self.open = None;
         match read_file(self.rt, alloc, name, limit) {
             Ok(bytes) => Ok(bytes),
             Err(ReadFault::Failed) => {
@@ -92,6 +128,7 @@ impl<'a> Shelf for FileShelf<'a> {
         ensures starts { Starts (untold_store self.old) (untold_store self.new) result name.now }
         ensures faults { self.new ≡ (if is_err result then one_more self.old else self.old) }
     {
+        self.open = None;
         if File::create(self.rt, name).is_err() {
             return Err(self.fault());
         }
@@ -102,7 +139,7 @@ impl<'a> Shelf for FileShelf<'a> {
         ensures grows { Grows (untold_store self.old) (untold_store self.new) result name.now bytes.now }
         ensures faults { self.new ≡ (if is_err result then one_more self.old else self.old) }
     {
-        if append_to(self.rt, name, bytes).is_err() {
+        if append_to(self.rt, &mut self.open, name, bytes).is_err() {
             return Err(self.fault());
         }
         Ok(())
