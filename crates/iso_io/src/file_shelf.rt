@@ -20,9 +20,8 @@ struct OpenFile {
 }
 
 /// The files of the system, whose names it resolves from the working directory. It tells nothing of their bytes, and is
-/// seen as a count, which rises at each call that fails and at no other. A file that was appended to stays open until a
-/// call is about another name, makes it anew, reads or fails, so that a text written in thousands of appends opens its
-/// file once.
+/// seen as a count, which rises at each call that fails and at no other. The file that was appended to last stays
+/// open until a call makes a file anew, reads or fails, so that a text of thousands of appends opens its file once.
 #[derive(Drop)]
 pub struct FileShelf<'a> {
     rt: &'a HostRuntime,
