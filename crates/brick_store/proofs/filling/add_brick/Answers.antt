@@ -1,6 +1,6 @@
 use Rattle.std.proofs.Common.{◌≡◌, ◌*◌, ◌<◌, ◌^◌, length, arith}
 use Rattle.iso_defs.specs.Bricks.{brick_count}
-use Rattle.brick_store.proofs.Gathering.{brick_begun, brick_done, length-first_copies}
+use Rattle.brick_store.proofs.Gathering.{length-first_copies}
 use Rattle.brick_store.proofs.Standing.{few_bricks}
 use Rattle.brick_store.proofs.filling.add_brick.Goals as goal
 

@@ -1,4 +1,4 @@
-use Rattle.std.proofs.Common.{◌+◌, ◌*◌, ◌∙◌, arith, rules}
+use Rattle.std.proofs.Common.{◌+◌, ◌*◌, arith, rules}
 use Rattle.brick_store.proofs.Gathering.{begun_as, next_row, row_more}
 use Rattle.brick_store.proofs.filling.write_layer.Goals as goal
 
