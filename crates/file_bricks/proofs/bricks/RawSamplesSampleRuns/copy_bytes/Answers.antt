@@ -8,7 +8,7 @@ returns-then-eq c =
     let start = c.args.start in
     let bytes = c.bytes.result.now in
     let so_many : start + n - start ≡ n = omega arith in
-    let copied : c.copy_from_slice.new.self ≡ take (start + n - start) (drop start bytes) = search rules in
+    let copied : c.copy_row.new.into ≡ take (start + n - start) (drop start bytes) = search rules in
     ap (map pos) (copied ∙ ap (λ k. take k (drop start bytes)) so_many)
     ∙ (sym (ap (take n) (drop-map pos start bytes) ∙ take-map pos n (drop start bytes))
     ∙ ap (λ l. take n (drop start l)) c.bytes.ensures)
