@@ -15,7 +15,7 @@ use crate::lanes::sign_bytes;
 use crate::signs::{PairRows, has_only, is_mixed, pair_rows};
 use arrayvec::ArrayVec;
 use brick_store::{BrickId, BrickStore};
-use case_table::{ambiguous_set, classify, joined_faces, row_of};
+use case_table::{ambiguous_set, classify, joined_faces_of, row_of};
 use iso_base::{Level, Steps};
 use packed_samples::{Packed, PackedRun};
 use std::sync::ledger::Ledger;
@@ -48,7 +48,7 @@ fn joined_with<T: Packed>(block: &Block<'_>, copies: &[T], cell: u32, signs: u8)
     if ambiguous_set(signs) == 0 {
         return 0;
     }
-    joined_faces(&block.values(copies, cell))
+    joined_faces_of(signs, &block.values(copies, cell))
 }
 
 /// The number of the case of a cell with this sign byte, which is classified.
