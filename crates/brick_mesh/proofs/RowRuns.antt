@@ -7,7 +7,7 @@ use Rattle.brick_mesh.specs.Block.{BrickAt, HasPoint, IsCell, heights}
 use Rattle.brick_store.specs.Holding.{points_along}
 use Rattle.brick_mesh.specs.Entries.{entries_from}
 use Rattle.brick_mesh.proofs.Spans.{cell_offsets, inside, offsets}
-use Rattle.brick_mesh.proofs.Runs.{entries_join, entries_none}
+use Rattle.brick_mesh.proofs.Runs.{entries_join, entries_none, is_active_in}
 
 -- the cell at a place of a row that is there
 pub cell_there : (b : BrickAt) (row x : ℕ) → row < 64 → x < 8 → HasPoint b 0 (row % 8 + 1) (row / 8 + 1) → x + 1 < points_along b.grid b.brick 0 → IsCell b (8 * row + x)
@@ -55,3 +55,12 @@ row_ended b row x few none =
     let gone : has_cell b.grid b.brick k ≡ false = subst (λ j. has_cell b.grid b.brick j ≡ false) here (none (k - 8 * row) (omega arith) (omega arith)) in
     ap (λ h. h && is_mixed (cell_signs b.grid (heights b) (brick_cell b.grid b.brick k))) gone)) in
     sym (ap (entries_from b 0) end ∙ entries_join b (8 * row + x) (8 - x) ∙ ap (λ l. entries_from b 0 (8 * row + x) ++ l) rest ∙ append-nil (entries_from b 0 (8 * row + x)))
+
+-- nor where none of its cells has an entry
+pub row_still : (b : BrickAt) (row : ℕ) → ((x : ℕ) → x < 8 → is_active_in b (8 * row + x) ≡ false) → entries_from b 0 (8 * row) ≡ entries_from b 0 (8 * row + 8)
+row_still b row still =
+    let none : entries_from b (8 * row) 8 ≡ []
+    = entries_none b (8 * row) 8 (λ k low high.
+    (let here : 8 * row + (k - 8 * row) ≡ k = omega arith in
+    subst (λ j. is_active_in b j ≡ false) here (still (k - 8 * row) (omega arith)))) in
+    sym (entries_join b (8 * row) 8 ∙ ap (λ l. entries_from b 0 (8 * row) ++ l) none ∙ append-nil (entries_from b 0 (8 * row)))

@@ -1,7 +1,7 @@
 -- Runs of entries.
-use Rattle.std.proofs.Common.{◌≡◌, ◌∙◌, ℕ, zero, suc, ◌+◌, ◌-◌, ◌*◌, ◌/◌, ◌%◌, ◌<◌, ◌≤◌, ◌++◌, Bool, true, false, ◌&&◌, cond, [], ◌∷◌, map, length, refl, sym, ap, ap₂, subst, inl, inr, arith, zero-add}
+use Rattle.std.proofs.Common.{◌≡◌, ◌∙◌, ℕ, zero, suc, ◌+◌, ◌-◌, ◌*◌, ◌/◌, ◌%◌, ◌<◌, ◌≤◌, ◌++◌, Bool, true, false, ◌&&◌, cond, [], ◌∷◌, map, length, refl, sym, ap, ap₂, subst, arith, zero-add}
 use Rattle.std.specs.List.{filter, range_with_len}
-use Rattle.std.proofs.lemmas.Bool.{and_from, cases_Bool}
+use Rattle.std.proofs.lemmas.Bool.{and_from}
 use Rattle.std.proofs.lemmas.List.{map-append}
 use Rattle.std.proofs.lemmas.List.Elements.{filter-append}
 use Rattle.std.proofs.lemmas.List.FromFn.{length-map-range_with_len, map-range_with_len_more}
@@ -70,18 +70,6 @@ entry_not b cell h =
     and_false : (p q : Bool) → q ≡ false → (p && q) ≡ false
     and_false true q h = h
     and_false false q h = refl
-
-pub none_active : (b : BrickAt) → ((cell : ℕ) → IsCell b cell → is_mixed (cell_signs b.grid (heights b) (brick_cell b.grid b.brick cell)) ≡ false)
-    → entries b.grid (heights b) b.brick ≡ []
-none_active b unmixed =
-    sym (entries_all b) ∙ entries_none b 0 512 (λ k low high.
-    (elim (cases_Bool (has_cell b.grid b.brick k)) [
-      | inl there ↦ and_from_parts _ _ there (unmixed k (record { local = omega arith; there = there }))
-      | inr not ↦ ap (λ h. h && is_mixed (cell_signs b.grid (heights b) (brick_cell b.grid b.brick k))) not
-    ]))
-  where
-    and_from_parts : (p q : Bool) → p ≡ true → q ≡ false → (p && q) ≡ false
-    and_from_parts p q e h = ap₂ (λ a b. a && b) e h
 
 -- the cases of the first cells of a row
 pub first_none : (b : BrickAt) (y z : ℕ) → first_cases b y z 0 ≡ []

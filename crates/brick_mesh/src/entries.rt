@@ -1,19 +1,21 @@
 //! Entries of the cells of a brick that have a crossing edge, and the cases of its rows of cells.
-ghost use Rattle.std.specs.Prelude.{◌≡◌, ◌+◌, ◌*◌, ◌/◌, ◌%◌, ◌<◌, ◌≤◌, ◌++◌, [], length, map, true};
+ghost use Rattle.std.specs.Prelude.{◌≡◌, ◌+◌, ◌*◌, ◌<◌, ◌≤◌, ◌++◌, [], IsTrue, length, map, true};
 ghost use Rattle.arrayvec.specs.ArrayVec.{array_vec_len};
-ghost use Rattle.iso_defs.specs.Bricks.{brick_cell, brick_count, entries as entries_of, in_brick, is_mixed, row_cases};
-ghost use Rattle.iso_defs.specs.Cell.{cell_signs};
+ghost use Rattle.iso_defs.specs.Bricks.{bits_of, brick_cell, brick_count, entries as entries_of, in_brick, row_cases};
+ghost use Rattle.iso_defs.specs.Cell.{cell_joined, cell_signs};
+ghost use Rattle.case_table.specs.Cases.{are_ambiguous};
 ghost use Rattle.iso_base.specs.Shifted.{field};
 ghost use Rattle.brick_mesh.specs.Block.{IsCell, IsCellRow, heights};
 ghost use Rattle.brick_mesh.specs.Entries.{case_of, entries_from};
-ghost use Rattle.brick_mesh.specs.Signs.{AreRows};
+ghost use Rattle.brick_mesh.specs.Signs.{AreBytes, AreRows};
 ghost use Rattle.brick_store.specs.Copies.{AreCopiesOf};
 
 use crate::block::Block;
-use crate::signs::{SignRows, are_alike, columns, is_mixed, sign_rows};
+use crate::lanes::sign_bytes;
+use crate::signs::{PairRows, has_only, is_mixed, pair_rows};
 use arrayvec::ArrayVec;
 use brick_store::{BrickId, BrickStore};
-use case_table::classify;
+use case_table::{ambiguous_set, classify, joined_faces_of, row_of};
 use iso_base::{Level, Steps};
 use packed_samples::{Packed, PackedRun};
 use std::sync::ledger::Ledger;
@@ -34,79 +36,147 @@ fn case_number<T: Packed, L: Ledger>(
     classify(&block.values(copies, cell), steps).number()
 }
 
-/// Puts the entry of a cell behind the others, if the cell has a crossing edge.
+/// The joined faces of a cell with this sign byte. Only where a face is ambiguous the values at the corners are looked at.
+#[inline(always)]
+fn joined_with<T: Packed>(block: &Block<'_>, copies: &[T], cell: u32, signs: u8) -> u8
+    requires copies { AreCopiesOf block.now.grid block.now.samples block.now.brick (map T.value copies.now) }
+    requires cell { IsCell block.now cell }
+    requires signs { bits_of 8 signs ≡ cell_signs block.now.grid (heights block.now) (brick_cell block.now.grid block.now.brick cell) }
+    ensures faces { bits_of 6 result ≡ cell_joined block.now.grid (heights block.now) (brick_cell block.now.grid block.now.brick cell) }
+    ensures ambiguous { IsTrue (are_ambiguous (bits_of 8 signs) (bits_of 8 result)) }
+{
+    if ambiguous_set(signs) == 0 {
+        return 0;
+    }
+    joined_faces_of(signs, &block.values(copies, cell))
+}
+
+/// The number of the case of a cell with this sign byte, which is classified.
+#[inline(always)]
+fn case_with<T: Packed, L: Ledger>(
+    block: &Block<'_>,
+    copies: &[T],
+    cell: u32,
+    signs: u8,
+    steps: &mut Steps<L>,
+) -> u16
+    requires copies { AreCopiesOf block.now.grid block.now.samples block.now.brick (map T.value copies.now) }
+    requires cell { IsCell block.now cell }
+    requires signs { bits_of 8 signs ≡ cell_signs block.now.grid (heights block.now) (brick_cell block.now.grid block.now.brick cell) }
+    ensures value { result ≡ case_of block.now.grid (heights block.now) (brick_cell block.now.grid block.now.brick cell) }
+    ensures bound { result < 656 }
+    ensures counted { steps.new ≡ steps.old + 1 }
+{
+    steps.tick();
+    row_of(signs, joined_with(block, copies, cell, signs)).number()
+}
+
+/// Puts the entry of a cell with this sign byte behind the others, if the cell has a crossing edge.
+#[inline(always)]
 fn add_cell<T: Packed, L: Ledger>(
     block: &Block<'_>,
     copies: &[T],
     cell: u32,
-    mixed: bool,
+    signs: u8,
     entries: &mut ArrayVec<u32, 512>,
     steps: &mut Steps<L>,
 )
     requires copies { AreCopiesOf block.now.grid block.now.samples block.now.brick (map T.value copies.now) }
     requires cell { IsCell block.now cell }
-    requires mixed { mixed ≡ is_mixed (cell_signs block.now.grid (heights block.now) (brick_cell block.now.grid block.now.brick cell)) }
+    requires signs { bits_of 8 signs ≡ cell_signs block.now.grid (heights block.now) (brick_cell block.now.grid block.now.brick cell) }
     requires room { array_vec_len entries.old < 512 }
     ensures entries { entries.new.items ≡ entries.old.items ++ entries_from block.now cell 1 }
     ensures counted { steps.new ≡ steps.old + length (entries_from block.now cell 1) }
 {
-    if mixed {
-        let case = case_number(block, copies, cell, steps);
+    if is_mixed(signs) {
+        let case = case_with(block, copies, cell, signs, steps);
         entries.push(1024 * cell + u32::from(case));
     }
 }
 
-/// Puts the entries of a row of cells behind those of the rows before it.
-fn add_row<T: Packed, L: Ledger>(
+/// The sign bytes of a row of cells, from the rows of signs.
+#[inline(always)]
+fn bytes_of_row(block: &Block<'_>, rows: &PairRows, row: u8) -> [u8; 8]
+    requires row { row < 64 }
+    requires rows { AreRows block.now 81 rows.now }
+    ensures { AreBytes block.now row result }
+{
+    let first = (row % 8 + 9 * (row / 8)) as usize;
+    sign_bytes(
+        &rows[first],
+        &rows[first + 1],
+        &rows[first + 9],
+        &rows[first + 10],
+    )
+}
+
+/// Puts the entries of a row of cells with these sign bytes behind those of the rows before it.
+fn add_cells<T: Packed, L: Ledger>(
     block: &Block<'_>,
     copies: &[T],
-    signs: &SignRows,
+    signs: &[u8; 8],
     row: u8,
     entries: &mut ArrayVec<u32, 512>,
     steps: &mut Steps<L>,
 )
     requires copies { AreCopiesOf block.now.grid block.now.samples block.now.brick (map T.value copies.now) }
     requires row { row < 64 }
-    requires signs { AreRows block.now 81 signs.now }
+    requires signs { AreBytes block.now row signs.now }
     requires entries { entries.old.items ≡ entries_from block.now 0 (8 * row) }
     ensures entries { entries.new.items ≡ entries_from block.now 0 (8 * row + 8) }
     ensures counted { steps.new + length entries.old.items ≡ steps.old + length entries.new.items }
 {
-    let (y, z) = (row % 8, row / 8);
-    if !block.has_row(y + 1, z + 1) {
+    if !block.has_row(row % 8 + 1, row / 8 + 1) {
         return;
     }
-    let first = (y + 9 * z) as usize;
-    let above = columns(
-        &signs[first],
-        &signs[first + 1],
-        &signs[first + 9],
-        &signs[first + 10],
-    );
     for x in 0..block.cells_along_x() {
-        let mixed = is_mixed(above[x as usize], above[x as usize + 1]);
         let cell = 8 * u32::from(row) + u32::from(x);
-        add_cell(block, copies, cell, mixed, entries, steps);
+        add_cell(block, copies, cell, signs[x as usize], entries, steps);
     }
+}
+
+/// Puts the entries of a row of cells behind those of the rows before it.
+/// Most rows have none, and are passed over at once.
+#[inline(always)]
+fn add_row<T: Packed, L: Ledger>(
+    block: &Block<'_>,
+    copies: &[T],
+    rows: &PairRows,
+    row: u8,
+    entries: &mut ArrayVec<u32, 512>,
+    steps: &mut Steps<L>,
+)
+    requires copies { AreCopiesOf block.now.grid block.now.samples block.now.brick (map T.value copies.now) }
+    requires row { row < 64 }
+    requires rows { AreRows block.now 81 rows.now }
+    requires entries { entries.old.items ≡ entries_from block.now 0 (8 * row) }
+    ensures entries { entries.new.items ≡ entries_from block.now 0 (8 * row + 8) }
+    ensures counted { steps.new + length entries.old.items ≡ steps.old + length entries.new.items }
+{
+    let signs = bytes_of_row(block, rows, row);
+    if has_only(&signs, 0) || has_only(&signs, 255) {
+        return;
+    }
+    add_cells(block, copies, &signs, row, entries, steps);
 }
 
 /// Puts the entries of a brick into an empty list.
 fn add_rows<T: Packed, L: Ledger>(
     block: &Block<'_>,
     copies: &[T],
-    signs: &SignRows,
+    rows: &PairRows,
     entries: &mut ArrayVec<u32, 512>,
     steps: &mut Steps<L>,
 )
     requires copies { AreCopiesOf block.now.grid block.now.samples block.now.brick (map T.value copies.now) }
-    requires signs { AreRows block.now 81 signs.now }
+    requires rows { AreRows block.now 81 rows.now }
     requires none { entries.old.items ≡ [] }
     ensures entries { entries.new.items ≡ entries_of block.now.grid (heights block.now) block.now.brick }
     ensures counted { steps.new ≡ steps.old + length entries.new.items }
     ensures bound { steps.new ≤ steps.old + 512 }
 {
     for row in 0..64 {
-        add_row(block, copies, signs, row, entries, steps);
+        add_row(block, copies, rows, row, entries, steps);
     }
 }
 
@@ -125,14 +195,11 @@ pub fn extract_brick<L: Ledger>(
     ensures bound { steps.new ≤ steps.old + 512 }
 {
     let block = Block::of(store, brick, level);
-    let signs = sign_rows(&block);
+    let rows = pair_rows(&block);
     entries.clear();
-    if are_alike(&signs) {
-        return;
-    }
     match block.copies() {
-        PackedRun::Bytes(copies) => add_rows(&block, copies, &signs, entries, steps),
-        PackedRun::Numbers(copies) => add_rows(&block, copies, &signs, entries, steps),
+        PackedRun::Bytes(copies) => add_rows(&block, copies, &rows, entries, steps),
+        PackedRun::Numbers(copies) => add_rows(&block, copies, &rows, entries, steps),
     }
 }
 

@@ -3,6 +3,7 @@
 
 mod block;
 mod entries;
+mod lanes;
 mod signs;
 
 pub use entries::{extract_brick, extract_row};

@@ -82,6 +82,18 @@ pub(crate) fn joined_among(values: &[i64; 8], faces: u8) -> u8
     d0 + 2 * (d1 + 2 * (d2 + 2 * (d3 + 2 * (d4 + 2 * d5))))
 }
 
+/// The set of the faces that are ambiguous and joined, from the sign byte and the shifted values of the corners. Bit f is
+/// face f.
+pub fn joined_faces_of(signs: u8, values: &[i64; 8]) -> u8
+    requires signs { bits_of 8 signs ≡ signs_of values.now }
+    requires small { All (λ v. unsigned_abs v < 2 ^ 44) values.now }
+    ensures number { result ≡ number_of_bits (joined_of values.now) }
+    ensures faces { bits_of 6 result ≡ joined_of values.now }
+    ensures ambiguous { IsTrue (are_ambiguous (bits_of 8 signs) (bits_of 8 result)) }
+{
+    joined_among(values, ambiguous_set(signs))
+}
+
 /// The set of the faces that are ambiguous and joined, from the shifted values of the corners. Bit f is face f.
 pub fn joined_faces(values: &[i64; 8]) -> u8
     requires { All (λ v. unsigned_abs v < 2 ^ 44) values.now }
@@ -89,5 +101,5 @@ pub fn joined_faces(values: &[i64; 8]) -> u8
     ensures faces { bits_of 6 result ≡ joined_of values.now }
     ensures ambiguous { IsTrue (are_ambiguous (signs_of values.now) (bits_of 8 result)) }
 {
-    joined_among(values, ambiguous_set(sign_byte(values)))
+    joined_faces_of(sign_byte(values), values)
 }

@@ -9,4 +9,4 @@ mod faces;
 mod rows;
 
 pub use case::{CaseRow, classify, row_of, successors};
-pub use faces::{ambiguous_set, joined_faces};
+pub use faces::{ambiguous_set, joined_faces, joined_faces_of};

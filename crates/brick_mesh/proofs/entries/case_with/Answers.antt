@@ -1,0 +1,8 @@
+use Rattle.std.proofs.Common.{◌∙◌, ap₂}
+use Rattle.iso_defs.specs.Bricks.{case_number}
+use Rattle.brick_mesh.specs.Entries.{case_of}
+use Rattle.brick_mesh.proofs.entries.case_with.Goals as goal
+
+pub returns-clause-value : goal.returns-clause-value
+unfolding case_of
+returns-clause-value g c = c.number.ensures.value ∙ c.row_of.ensures.number ∙ ap₂ case_number c.requires.signs c.joined_with.ensures.faces
