@@ -7,9 +7,6 @@ ghost use Rattle.stitch_rows.specs.Bricks.{AreMarked, AreMarkedTo, IsMarkedLayer
 use crate::bricks::{BrickRow, count_along};
 use crate::field::Field;
 
-/// The most bricks along an axis.
-const BRICKS: usize = 129;
-
 /// The most bricks of a layer.
 const LAYER: usize = 16_641;
 
@@ -20,12 +17,15 @@ pub struct ActiveLayer {
     pub active: [bool; LAYER],
 }
 
-/// Which bricks are active of those that stand one after the other along x, from the one numbered `first` on, and of their
-/// layer. A walk comes back to the rows of a layer slice after slice, and looks for its active bricks once.
+/// Which bricks are active of those that stand one after the other along x, from the one numbered `first` on: their marks begin at
+/// `start` among those of their layer. They hold the rows of points of which an eighth of the coordinates is `y` and `z`. A walk comes
+/// back to the rows of a layer slice after slice, and looks for its active bricks once.
 #[derive(Drop)]
 pub struct ActiveRow {
     pub first: u32,
-    pub active: [bool; BRICKS],
+    pub start: usize,
+    pub y: u32,
+    pub z: u32,
     pub layer: ActiveLayer,
 }
 
@@ -75,15 +75,6 @@ fn mark_layer(field: &Field, z: u32, layer: &mut ActiveLayer)
     mark_bricks(field, row.first, count, &mut layer.active);
 }
 
-/// Copies so many marks from a place on.
-fn copy_marks(from: &[bool], start: usize, count: usize, to: &mut [bool])
-    requires from { start + count ≤ length from.now }
-    requires to { count ≤ length to.old }
-    ensures { (x : ℕ) → x < count → slice_index_or to.new x false ≡ slice_index_or from.now (start + x) false }
-{
-    to[..count].copy_from_slice(&from[start..start + count]);
-}
-
 impl ActiveRow {
     /// Marks of no bricks.
     pub fn new() -> ActiveRow
@@ -91,7 +82,9 @@ impl ActiveRow {
     {
         ActiveRow {
             first: u32::MAX,
-            active: [false; BRICKS],
+            start: 0,
+            y: u32::MAX,
+            z: u32::MAX,
             layer: ActiveLayer {
                 first: u32::MAX,
                 active: [false; LAYER],
@@ -99,8 +92,8 @@ impl ActiveRow {
         }
     }
 
-    /// Marks the bricks that hold a row of points, unless they are marked.
-    pub fn mark(&mut self, field: &Field, y: u32, z: u32)
+    /// Marks the bricks that hold a row of points, and their layer unless it is marked.
+    fn mark_anew(&mut self, field: &Field, y: u32, z: u32)
         requires y { y < field.now.grid.ny }
         requires z { z < field.now.grid.nz }
         requires marked { AreMarked field.now self.old }
@@ -109,22 +102,46 @@ impl ActiveRow {
     {
         let sizes = field.sizes();
         let row = BrickRow::of(&sizes, y, z);
-        if self.first == row.first {
+        mark_layer(field, z, &mut self.layer);
+        self.first = row.first;
+        self.start = (row.first - self.layer.first) as usize;
+        self.y = y / 8;
+        self.z = z / 8;
+    }
+
+    /// Marks the bricks that hold a row of points, unless they are marked.
+    #[inline(always)]
+    pub fn mark(&mut self, field: &Field, y: u32, z: u32)
+        requires y { y < field.now.grid.ny }
+        requires z { z < field.now.grid.nz }
+        requires marked { AreMarked field.now self.old }
+        ensures marked { AreMarked field.now self.new }
+        ensures first { self.new.first ≡ first_brick field.now.grid y z }
+    {
+        if y / 8 == self.y && z / 8 == self.z {
             return;
         }
-        mark_layer(field, z, &mut self.layer);
-        let start = (row.first - self.layer.first) as usize;
-        let count = count_along(sizes.nx()) as usize;
-        copy_marks(&self.layer.active, start, count, &mut self.active);
-        self.first = row.first;
+        self.mark_anew(field, y, z);
+    }
+
+    /// The marks of the first bricks of the row.
+    #[inline(always)]
+    pub(crate) fn marks(&self, count: u32) -> &[bool]
+        requires count { count ≤ 129 }
+        requires start { self.now.start ≤ 129 * 128 }
+        ensures count { length result.now ≡ count }
+        ensures each { (x : ℕ) → x < count → slice_index_or result.now x false ≡ slice_index_or self.now.layer.active (self.now.start + x) false }
+    {
+        &self.layer.active[self.start..self.start + count as usize]
     }
 
     /// Whether the brick at a place of the row is active.
     #[inline(always)]
-    pub fn is_active(&self, x: u32) -> bool
-        requires { x < 129 }
-        ensures { result ≡ slice_index_or self.now.active x false }
+    pub(crate) fn is_active(&self, x: u32) -> bool
+        requires x { x < 129 }
+        requires start { self.now.start ≤ 129 * 128 }
+        ensures { result ≡ slice_index_or self.now.layer.active (self.now.start + x) false }
     {
-        self.active[x as usize]
+        self.layer.active[self.start + x as usize]
     }
 }
