@@ -13,9 +13,10 @@ use Rattle.brick_store.specs.Next.{IsFirst}
 use Rattle.std.proofs.lemmas.Bool.{cases_lt}
 use Rattle.stitch_rows.specs.declared.active.ActiveLayer.{ActiveLayer}
 use Rattle.stitch_rows.specs.declared.active.ActiveRow.{ActiveRow}
-use Rattle.stitch_rows.specs.Bricks.{AreMarked, AreMarkedTo, IsActive, IsMarkedLayer, IsNextFrom, IsStill, brick_at, first_brick}
+use Rattle.stitch_rows.specs.declared.bricks.BrickRow.{BrickRow}
+use Rattle.stitch_rows.specs.Bricks.{AreMarked, AreMarkedTo, AreNextTo, HoldRow, IsActive, IsMarkedLayer, IsNextFrom, IsStill, brick_at, first_brick}
 use Rattle.stitch_rows.specs.Rows.{at_level}
-use Rattle.stitch_rows.proofs.Places.{few_bricks}
+use Rattle.stitch_rows.proofs.Places.{few_bricks, number_in}
 use Rattle.stitch_rows.proofs.QuietBricks.{clash}
 
 pub next_found : (v : Volume) (f : Leveled) (level : ℤ) (from brick : ℕ) → at_level v level ≡ f → IsFirst (is_active v.grid (field v.samples level)) from (brick_count v.grid) brick → IsNextFrom f.grid (heights f) from brick
@@ -68,6 +69,19 @@ mark_more v first x next old room is marks = record {
   ];
 }
 
+-- and one note more
+pub note_more : (v : Leveled) (first x next : ℕ) (old : List ℕ) → x < length old → IsNextFrom v.grid (heights v) (first + x) next → AreNextTo v first x old
+    → AreNextTo v first (x + 1) (set old x next)
+note_more v first x next old room is notes = record {
+  each = λ k low known. elim (cases_lt k x) [
+    | inl earlier ↦ subst (IsNextFrom v.grid (heights v) (first + k)) (sym (get_or-set_other old x k next 0 (λ e. omega arith))) (notes.each k earlier known)
+    | inr here ↦ (
+        let same : k ≡ x = omega arith in
+        subst (λ n. IsNextFrom v.grid (heights v) (first + n) (get_or (set old x next) n 0)) (sym same)
+        (subst (IsNextFrom v.grid (heights v) (first + x)) (sym (get_or-set_same old x next 0 room)) is))
+  ];
+}
+
 -- what marks say
 pub marked_active : (v : Leveled) (row : ActiveRow) (first x : ℕ) → AreMarked v row → row.first ≡ first → x < bricks_along v.grid 0 → first + x < brick_count v.grid
     → get_or row.layer.active (row.start + x) false ≡ true → IsActive v (first + x)
@@ -81,13 +95,14 @@ marked_still v row first x marks same low known is =
     let at : row.first + x ≡ first + x = ap (λ n. n + x) same in
     record { is = ap (is_active v.grid (heights v)) (sym at) ∙ (sym (marks.each x low (subst (λ n. n < brick_count v.grid) (sym at) known)) ∙ is) }
 
--- the mark of a brick of a row
-pub mark_of : (v : Leveled) (row : ActiveRow) (marks : List Bool) (first count x : ℕ) → AreMarked v row → row.first ≡ first → x < count → count ≤ bricks_along v.grid 0
-    → first + x < brick_count v.grid → ((k : ℕ) → k < count → get_or marks k false ≡ get_or row.layer.active (row.start + k) false)
-    → get_or marks x false ≡ is_active v.grid (heights v) (first + x)
-mark_of v row marks first count x are same low few known copied =
-    let at : row.first + x ≡ first + x = ap (λ n. n + x) same in
-    copied x low ∙ (are.each x (omega arith) (subst (λ n. n < brick_count v.grid) (sym at) known) ∙ ap (is_active v.grid (heights v)) at)
+-- the least active brick from one of a row on
+pub noted : (v : Leveled) (is : IsGrid v.grid) (row : ActiveRow) (y z : ℕ) (held : BrickRow) → y < v.grid.ny → z < v.grid.nz → HoldRow v.grid y z held → AreMarked v row
+    → row.first ≡ held.first → (x : ℕ) → x < bricks_along v.grid 0 → IsNextFrom v.grid (heights v) (held.first + x) (get_or row.layer.next_from (row.start + x) 0)
+noted v is row y z held hy hz hold marks same x low =
+    let at : row.first + x ≡ held.first + x = ap (λ n. n + x) same in
+    let wide : 8 * x + 1 < v.grid.nx = omega arith in
+    subst (λ n. IsNextFrom v.grid (heights v) n (get_or row.layer.next_from (row.start + x) 0)) at
+    (marks.next x low (subst (λ n. n < brick_count v.grid) (sym at) (number_in v.grid is x y z wide hy hz held hold)))
 
 -- where a row of bricks stands in its layer
 pub row_in_layer : (v : Leveled) (is : IsGrid v.grid) (y z : ℕ) → y < v.grid.ny → z < v.grid.nz
@@ -117,7 +132,11 @@ row_marked v is layer y z first start hy hz are begin e at =
       layer = are;
       each = λ x less known.
           let same : layer.first + (start + x) ≡ first + x = omega arith in
-          are.each (start + x) (omega arith) (subst (λ n. n < brick_count v.grid) (sym same) known) ∙ ap (is_active v.grid (heights v)) same;
+          are.marks.each (start + x) (omega arith) (subst (λ n. n < brick_count v.grid) (sym same) known) ∙ ap (is_active v.grid (heights v)) same;
+      next = λ x less known.
+          let same : layer.first + (start + x) ≡ first + x = omega arith in
+          subst (λ n. IsNextFrom v.grid (heights v) n (get_or layer.next_from (start + x) 0)) same
+          (are.next.each (start + x) (omega arith) (subst (λ n. n < brick_count v.grid) (sym same) known));
       start = start_low (bricks_along v.grid 0) (bricks_along v.grid 1) start few_x few_y (omega arith);
       rows = λ y2 z2 hy2 hz2 ey ez. e ∙ eighths v.grid y z y2 z2 (sym ey) (sym ez);
     }

@@ -1,5 +1,5 @@
 -- The bricks that hold a row of points.
-use Rattle.std.specs.Prelude.{◌≡◌, ℕ, ◌+◌, ◌-◌, ◌*◌, ◌/◌, ◌<◌, ◌≤◌, ℤ, Bool, true, false, min, List, slice_index_or}
+use Rattle.std.specs.Prelude.{◌≡◌, ℕ, ◌+◌, ◌-◌, ◌*◌, ◌/◌, ◌<◌, ◌≤◌, ℤ, Bool, true, false, min, List, slice_index, slice_index_or}
 use Rattle.iso_defs.specs.Grid.{Grid}
 use Rattle.iso_defs.specs.Bricks.{brick_count, bricks_along, is_active}
 use Rattle.flat_mesh.specs.Lattice.{Leveled, heights}
@@ -50,9 +50,14 @@ pub record IsNextFrom (g : Grid) (s : ℕ → ℤ) (from next : ℕ) : Type 0 wh
 pub record AreMarkedTo (v : Leveled) (first count : ℕ) (marks : List Bool) : Type 0 where
   pub each : (x : ℕ) → x < count → first + x < brick_count v.grid → slice_index_or marks x false ≡ is_active v.grid (heights v) (first + x)
 
--- these of all bricks of a layer
-abbrev pub IsMarkedLayer : Leveled → ActiveLayer → Type 0
-IsMarkedLayer v layer = AreMarkedTo v layer.first (bricks_along v.grid 0 * bricks_along v.grid 1) layer.active
+-- these say of the first bricks which are the least active ones from them on
+pub record AreNextTo (v : Leveled) (first count : ℕ) (next : List ℕ) : Type 0 where
+  pub each : (x : ℕ) → x < count → first + x < brick_count v.grid → IsNextFrom v.grid (heights v) (first + x) (slice_index next x)
+
+-- both of all bricks of a layer
+pub record IsMarkedLayer (v : Leveled) (layer : ActiveLayer) : Type 0 where
+  pub marks : AreMarkedTo v layer.first (bricks_along v.grid 0 * bricks_along v.grid 1) layer.active
+  pub next : AreNextTo v layer.first (bricks_along v.grid 0 * bricks_along v.grid 1) layer.next_from
 
 -- and which of them hold some rows of points
 pub record AreMarked (v : Leveled) (marks : ActiveRow) : Type 0 where
@@ -60,5 +65,8 @@ pub record AreMarked (v : Leveled) (marks : ActiveRow) : Type 0 where
   pub each :
       (x : ℕ) → x < bricks_along v.grid 0 → marks.first + x < brick_count v.grid
       → slice_index_or marks.layer.active (marks.start + x) false ≡ is_active v.grid (heights v) (marks.first + x)
+  pub next :
+      (x : ℕ) → x < bricks_along v.grid 0 → marks.first + x < brick_count v.grid
+      → IsNextFrom v.grid (heights v) (marks.first + x) (slice_index marks.layer.next_from (marks.start + x))
   pub start : marks.start ≤ 129 * 128
   pub rows : (y z : ℕ) → y < v.grid.ny → z < v.grid.nz → y / 8 ≡ marks.y → z / 8 ≡ marks.z → marks.first ≡ first_brick v.grid y z

@@ -1,8 +1,8 @@
 //! Which bricks of a row of bricks are active.
-ghost use Rattle.std.specs.Prelude.{◌≡◌, ℕ, ◌+◌, ◌-◌, ◌*◌, ◌<◌, ◌≤◌, ◌^◌, false, length, slice_index_or};
+ghost use Rattle.std.specs.Prelude.{◌≡◌, ℕ, ◌+◌, ◌-◌, ◌*◌, ◌<◌, ◌≤◌, ◌^◌, false, length, slice_index, slice_index_or};
 ghost use Rattle.iso_base.specs.Sizing.{IsGrid};
 ghost use Rattle.flat_mesh.specs.Lattice.{Leveled, heights};
-ghost use Rattle.stitch_rows.specs.Bricks.{AreMarked, AreMarkedTo, IsMarkedLayer, IsNextFrom, first_brick};
+ghost use Rattle.stitch_rows.specs.Bricks.{AreMarked, AreMarkedTo, AreNextTo, IsMarkedLayer, IsNextFrom, first_brick};
 
 use crate::bricks::{BrickRow, count_along};
 use crate::field::Field;
@@ -10,11 +10,13 @@ use crate::field::Field;
 /// The most bricks of a layer.
 const LAYER: usize = 16_641;
 
-/// Which bricks are active of a layer of bricks, from the one numbered `first` on: those that hold points of one slice.
+/// Which bricks are active of a layer of bricks, from the one numbered `first` on: those that hold points of one slice. For each of them
+/// the least active brick from it on is noted too.
 #[derive(Drop)]
 pub struct ActiveLayer {
     pub first: u32,
     pub active: [bool; LAYER],
+    pub next_from: [u32; LAYER],
 }
 
 /// Which bricks are active of those that stand one after the other along x, from the one numbered `first` on: their marks begin at
@@ -43,17 +45,20 @@ fn next_behind(field: &Field, brick: u32, next: u32) -> u32
     }
 }
 
-/// Marks which are active of so many bricks from a number on.
-fn mark_bricks(field: &Field, first: u32, count: u32, active: &mut [bool])
+/// Marks which are active of so many bricks from a number on, and notes for each the least active one from it on.
+fn mark_bricks(field: &Field, first: u32, count: u32, active: &mut [bool], next_from: &mut [u32])
     requires count { count ≤ 129 * 129 }
     requires room { count ≤ length active.old }
+    requires space { count ≤ length next_from.old }
     requires first { first ≤ 129 * 129 * 129 }
-    ensures { AreMarkedTo field.now first count active.new }
+    ensures marks { AreMarkedTo field.now first count active.new }
+    ensures next { AreNextTo field.now first count next_from.new }
 {
     let mut next = field.next_active(first);
     for x in 0..count {
         let brick = first + x;
         active[x as usize] = next == brick;
+        next_from[x as usize] = next;
         next = next_behind(field, brick, next);
     }
 }
@@ -72,7 +77,13 @@ fn mark_layer(field: &Field, z: u32, layer: &mut ActiveLayer)
     }
     layer.first = row.first;
     let count = count_along(sizes.nx()) * count_along(sizes.ny());
-    mark_bricks(field, row.first, count, &mut layer.active);
+    mark_bricks(
+        field,
+        row.first,
+        count,
+        &mut layer.active,
+        &mut layer.next_from,
+    );
 }
 
 impl ActiveRow {
@@ -88,6 +99,7 @@ impl ActiveRow {
             layer: ActiveLayer {
                 first: u32::MAX,
                 active: [false; LAYER],
+                next_from: [0; LAYER],
             },
         }
     }
@@ -124,15 +136,15 @@ impl ActiveRow {
         self.mark_anew(field, y, z);
     }
 
-    /// The marks of the first bricks of the row.
+    /// Where the least active brick stands that is at a place of the row or behind it: beyond the row where there is none in it.
     #[inline(always)]
-    pub(crate) fn marks(&self, count: u32) -> &[bool]
-        requires count { count ≤ 129 }
+    pub(crate) fn next(&self, x: u32) -> u32
+        requires x { x < 129 }
         requires start { self.now.start ≤ 129 * 128 }
-        ensures count { length result.now ≡ count }
-        ensures each { (x : ℕ) → x < count → slice_index_or result.now x false ≡ slice_index_or self.now.layer.active (self.now.start + x) false }
+        requires least { self.now.first ≤ slice_index self.now.layer.next_from (self.now.start + x) }
+        ensures { self.now.first + result ≡ slice_index self.now.layer.next_from (self.now.start + x) }
     {
-        &self.layer.active[self.start..self.start + count as usize]
+        self.layer.next_from[self.start + x as usize] - self.first
     }
 
     /// Whether the brick at a place of the row is active.

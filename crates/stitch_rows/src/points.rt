@@ -2,7 +2,6 @@
 ghost use Rattle.std.specs.Prelude.{◌≡◌, ℕ, ℤ, ◌+◌, ◌-◌, ◌*◌, ◌<◌, ◌≤◌, ◌^◌, All, IsTrue, int_le, length, map, min, slice_index, take};
 ghost use Rattle.std.specs.List.{sum_by};
 ghost use Rattle.iso_base.specs.Shifted.{is_above_level};
-ghost use Rattle.iso_defs.specs.Bricks.{is_active};
 ghost use Rattle.brick_store.specs.Copies.{AreAllCopies};
 ghost use Rattle.crossing_edges.specs.Flags.{edges_in, flags_from, rank};
 ghost use Rattle.flat_mesh.specs.Lattice.{heights};
@@ -91,12 +90,11 @@ pub fn point_runs<'c, T: Packed>(
 }
 
 /// Writes the flags of the points of a row that a brick holds: of eight of them, those from 8 * x on, where zeros stand and more are
-/// left than the point behind them. From the points of a brick that is not active no crossing edge begins, so that the zeros are left.
+/// left than the point behind them.
 #[inline(always)]
 fn brick_flags<T: Flagged>(
     field: &Field,
     copies: &[T],
-    marked: bool,
     rows: Rows,
     least: i64,
     x: u32,
@@ -105,7 +103,6 @@ fn brick_flags<T: Flagged>(
     flags: &mut [u8],
 )
     requires copies { AreAllCopies field.now.grid field.now.samples (map T.value copies.now) }
-    requires active { marked ≡ is_active field.now.grid (heights field.now) (rows.here.first + x) }
     requires x { 8 * x + 9 < field.now.grid.nx }
     requires y { y < field.now.grid.ny }
     requires z { z < field.now.grid.nz }
@@ -118,19 +115,16 @@ fn brick_flags<T: Flagged>(
     ensures zeros { AreZerosFrom (8 * x + 8) flags.new }
 {
     let _ = field.sizes();
-    if marked {
-        let runs = point_runs(field, copies, rows, x, y, z);
-        let start = 8 * x as usize;
-        put_eight(runs.here, runs.up, runs.far, least, start, flags);
-    }
+    let runs = point_runs(field, copies, rows, x, y, z);
+    let start = 8 * x as usize;
+    put_eight(runs.here, runs.up, runs.far, least, start, flags);
 }
 
-/// Writes the flags of the points of a row that the last brick holds: all that are left, from 8 * x on, where zeros stand.
+/// Writes the flags of the points of a row that the last brick holds: all that are left, from 8 * x on.
 #[inline(always)]
 fn last_flags<T: Flagged>(
     field: &Field,
     copies: &[T],
-    marked: bool,
     rows: Rows,
     least: i64,
     x: u32,
@@ -139,7 +133,6 @@ fn last_flags<T: Flagged>(
     flags: &mut [u8],
 )
     requires copies { AreAllCopies field.now.grid field.now.samples (map T.value copies.now) }
-    requires active { marked ≡ is_active field.now.grid (heights field.now) (rows.here.first + x) }
     requires x { 8 * x + 1 < field.now.grid.nx }
     requires last { field.now.grid.nx ≤ 8 * x + 9 }
     requires y { y < field.now.grid.ny }
@@ -148,18 +141,16 @@ fn last_flags<T: Flagged>(
     requires least { (s : ℤ) → int_le least s ≡ is_above_level s field.now.level }
     requires flags { length flags.old ≡ field.now.grid.nx }
     requires before { AreFlagsTo field.now y z (8 * x) flags.old }
-    requires zeros { AreZerosFrom (8 * x) flags.old }
     ensures { AreFlags field.now y z flags.new }
 {
     let _ = field.sizes();
-    if marked {
-        let runs = point_runs(field, copies, rows, x, y, z);
-        let start = 8 * x as usize;
-        put_last(runs.here, runs.up, runs.far, least, start, flags);
-    }
+    let runs = point_runs(field, copies, rows, x, y, z);
+    let start = 8 * x as usize;
+    put_last(runs.here, runs.up, runs.far, least, start, flags);
 }
 
-/// Writes the flags of the points of a row, from the samples of all bricks.
+/// Writes the flags of the points of a row, from the samples of all bricks. From the points of a brick that is not active no crossing
+/// edge begins, so that it goes from one active brick to the next.
 fn flag_bricks<T: Flagged>(
     field: &Field,
     copies: &[T],
@@ -179,16 +170,16 @@ fn flag_bricks<T: Flagged>(
     let sizes = field.sizes();
     let rows = rows_at(&sizes, y, z);
     let least = field.level().least_above();
-    let count = count_along(sizes.nx());
-    let marks = active.marks(count);
+    let last = count_along(sizes.nx()) - 1;
     put_zeros(flags);
-    for x in 0..count - 1 {
-        let marked = marks[x as usize];
-        brick_flags(field, copies, marked, rows, least, x, y, z, flags);
+    let mut x = active.next(0);
+    while x < last {
+        brick_flags(field, copies, rows, least, x, y, z, flags);
+        x = active.next(x + 1);
     }
-    let last = count - 1;
-    let marked = marks[last as usize];
-    last_flags(field, copies, marked, rows, least, last, y, z, flags);
+    if x == last {
+        last_flags(field, copies, rows, least, last, y, z, flags);
+    }
 }
 
 /// Writes the flags of the points of a row. It looks at active bricks alone.

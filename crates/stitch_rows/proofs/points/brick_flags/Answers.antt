@@ -1,10 +1,8 @@
-use Rattle.std.proofs.Common.{◌≡◌, ◌-◌, ◌*◌, ◌∙◌, rules, ℤ, List, map, w64, to_z, of_z, ap, min, sym, arith, refl}
+use Rattle.std.proofs.Common.{◌≡◌, ◌-◌, ◌*◌, ◌∙◌, rules, ℤ, List, map, w64, to_z, of_z, ap, min, arith, refl}
 use Rattle.std.specs.Prelude.{int_le}
 use Rattle.std.proofs.lemmas.Int.{to_z-of_z}
-use Rattle.std.proofs.lemmas.List.{length-map}
 use Rattle.stitch_rows.proofs.FlagRows.{flags_more}
 use Rattle.stitch_rows.proofs.Heights.{run_count}
-use Rattle.stitch_rows.proofs.StillFlags.{zeros_more}
 use Rattle.stitch_rows.proofs.points.brick_flags.Goals as goal
 
 pub put_eight-requires-clause-here : goal.put_eight-requires-clause-here
@@ -16,8 +14,8 @@ put_eight-requires-clause-up g c = omega (arith, run_count _ _ _ _ _ _ c.point_r
 pub put_eight-requires-clause-far : goal.put_eight-requires-clause-far
 put_eight-requires-clause-far g c = omega (arith, run_count _ _ _ _ _ _ c.point_runs-runs.ensures.here, run_count _ _ _ _ _ _ c.point_runs-runs.ensures.far)
 
-pub returns-then-marked-clause-flags : goal.returns-then-marked-clause-flags
-returns-then-marked-clause-flags g c =
+pub returns-clause-flags : goal.returns-clause-flags
+returns-clause-flags g c =
     let v = c.args.field.now in
     let runs = c.point_runs-runs.result in
     let here : List ℤ = map g.T.Packed.value runs.here.now in
@@ -31,13 +29,5 @@ returns-then-marked-clause-flags g c =
     (λ i low near. c.put_eight.ensures.inside i (near c.requires.x))
     c.put_eight.ensures.before c.requires.before).first
 
-pub returns-then-marked-clause-zeros : goal.returns-then-marked-clause-zeros
-returns-then-marked-clause-zeros g c = λ k from low. c.put_eight.ensures.behind k (omega (arith, from)) ∙ c.requires.zeros k (omega (arith, from)) (omega (arith, low))
-
-pub returns-else-marked-clause-flags : goal.returns-else-marked-clause-flags
-returns-else-marked-clause-flags g c =
-    (zeros_more c.args.field.now c.sizes.ensures.leveled c.args.x c.args.y c.args.z (omega (arith, c.requires.x)) c.requires.y c.requires.z c.args.rows.here c.requires.rows.here
-    (sym c.requires.active ∙ c.if-marked.false) c.args.flags.now c.requires.flags c.requires.zeros c.requires.before).first
-
-pub returns-else-marked-clause-zeros : goal.returns-else-marked-clause-zeros
-returns-else-marked-clause-zeros g c = λ k from low. c.requires.zeros k (omega (arith, from)) low
+pub returns-clause-zeros : goal.returns-clause-zeros
+returns-clause-zeros g c = λ k from low. c.put_eight.ensures.behind k (omega (arith, from)) ∙ c.requires.zeros k (omega (arith, from)) (omega (arith, low))

@@ -1,10 +1,9 @@
-use Rattle.std.proofs.Common.{◌≡◌, ◌-◌, ◌*◌, ◌∙◌, rules, ℤ, List, map, w64, to_z, of_z, ap, min, sym, arith, refl}
+use Rattle.std.proofs.Common.{◌≡◌, ◌-◌, ◌*◌, ◌∙◌, rules, ℤ, List, map, w64, to_z, of_z, ap, min, arith, refl}
 use Rattle.std.specs.Prelude.{int_le}
 use Rattle.std.proofs.lemmas.Int.{to_z-of_z}
 use Rattle.std.proofs.lemmas.List.{length-map}
 use Rattle.stitch_rows.proofs.FlagRows.{flags_more}
 use Rattle.stitch_rows.proofs.Heights.{run_count}
-use Rattle.stitch_rows.proofs.StillFlags.{zeros_more}
 use Rattle.stitch_rows.proofs.points.last_flags.Goals as goal
 
 pub put_last-requires-clause-here : goal.put_last-requires-clause-here
@@ -16,8 +15,8 @@ put_last-requires-clause-up g c = omega (arith, run_count _ _ _ _ _ _ c.point_ru
 pub put_last-requires-clause-far : goal.put_last-requires-clause-far
 put_last-requires-clause-far g c = omega (arith, run_count _ _ _ _ _ _ c.point_runs-runs.ensures.here, run_count _ _ _ _ _ _ c.point_runs-runs.ensures.far)
 
-pub returns-then-marked : goal.returns-then-marked
-returns-then-marked g c =
+pub returns : goal.returns
+returns g c =
     let v = c.args.field.now in
     let runs = c.point_runs-runs.result in
     let here : List ℤ = map g.T.Packed.value runs.here.now in
@@ -30,8 +29,3 @@ returns-then-marked g c =
     (λ s. ap (λ l. int_le l s) e ∙ c.requires.least s)
     (λ i low near. c.put_last.ensures.inside i (omega (arith, low, length-map runs.here.now g.T.Packed.value)))
     c.put_last.ensures.before c.requires.before).all (omega (arith, c.requires.last))
-
-pub returns-else-marked : goal.returns-else-marked
-returns-else-marked g c =
-    (zeros_more c.args.field.now c.sizes.ensures.leveled c.args.x c.args.y c.args.z c.requires.x c.requires.y c.requires.z c.args.rows.here c.requires.rows.here
-    (sym c.requires.active ∙ c.if-marked.false) c.args.flags.now c.requires.flags c.requires.zeros c.requires.before).all (omega (arith, c.requires.last))

@@ -1,4 +1,4 @@
-use Rattle.std.proofs.Common.{◌≡◌, ◌∙◌, ap, refl, arith}
+use Rattle.std.proofs.Common.{◌∙◌, ap, refl, arith}
 use Rattle.iso_defs.specs.Grid.{Grid}
 use Rattle.stitch_rows.specs.Bricks.{first_brick}
 use Rattle.stitch_rows.proofs.NextBricks.{row_in_layer, row_marked}
