@@ -1,5 +1,5 @@
 -- The next active brick, found by a tree.
-use Rattle.std.proofs.Common.{◌≡◌, ℕ, ◌+◌, ◌-◌, ◌*◌, ◌<◌, ◌≤◌, Bool, true, false, List, get_or, length, set, eqb, eq-eqb, sym, ◌∙◌, ap, subst, arith, inl, inr, ℤ, ◌^◌}
+use Rattle.std.proofs.Common.{◌≡◌, ℕ, ◌+◌, ◌-◌, ◌*◌, ◌/◌, ◌<◌, ◌≤◌, Bool, true, false, List, get_or, length, min, set, eqb, eq-eqb, sym, ◌∙◌, ap, subst, arith, inl, inr, ℤ, ◌^◌}
 use Rattle.std.proofs.lemmas.Bool.{cases_Bool, eqb-true}
 use Rattle.std.proofs.lemmas.List.{get_or-set_other, get_or-set_same}
 use Rattle.std.proofs.Math.Nat.{mul-le-mul_left, mul-le-mul_right}
@@ -11,10 +11,12 @@ use Rattle.iso_base.specs.Volume.{Volume}
 use Rattle.flat_mesh.specs.Lattice.{Leveled, heights}
 use Rattle.brick_store.specs.Next.{IsFirst}
 use Rattle.std.proofs.lemmas.Bool.{cases_lt}
+use Rattle.stitch_rows.specs.declared.active.ActiveLayer.{ActiveLayer}
 use Rattle.stitch_rows.specs.declared.active.ActiveRow.{ActiveRow}
-use Rattle.stitch_rows.specs.Bricks.{AreMarked, AreMarkedTo, IsActive, IsNextFrom, IsStill, brick_at, first_brick}
+use Rattle.stitch_rows.specs.declared.bricks.BrickRow.{BrickRow}
+use Rattle.stitch_rows.specs.Bricks.{AreMarked, AreMarkedTo, AreNextTo, HoldRow, IsActive, IsMarkedLayer, IsNextFrom, IsStill, brick_at, first_brick}
 use Rattle.stitch_rows.specs.Rows.{at_level}
-use Rattle.stitch_rows.proofs.Places.{few_bricks}
+use Rattle.stitch_rows.proofs.Places.{few_bricks, number_in}
 use Rattle.stitch_rows.proofs.QuietBricks.{clash}
 
 pub next_found : (v : Volume) (f : Leveled) (level : ℤ) (from brick : ℕ) → at_level v level ≡ f → IsFirst (is_active v.grid (field v.samples level)) from (brick_count v.grid) brick → IsNextFrom f.grid (heights f) from brick
@@ -67,27 +69,40 @@ mark_more v first x next old room is marks = record {
   ];
 }
 
+-- and one note more
+pub note_more : (v : Leveled) (first x next : ℕ) (old : List ℕ) → x < length old → IsNextFrom v.grid (heights v) (first + x) next → AreNextTo v first x old
+    → AreNextTo v first (x + 1) (set old x next)
+note_more v first x next old room is notes = record {
+  each = λ k low known. elim (cases_lt k x) [
+    | inl earlier ↦ subst (IsNextFrom v.grid (heights v) (first + k)) (sym (get_or-set_other old x k next 0 (λ e. omega arith))) (notes.each k earlier known)
+    | inr here ↦ (
+        let same : k ≡ x = omega arith in
+        subst (λ n. IsNextFrom v.grid (heights v) (first + n) (get_or (set old x next) n 0)) (sym same)
+        (subst (IsNextFrom v.grid (heights v) (first + x)) (sym (get_or-set_same old x next 0 room)) is))
+  ];
+}
+
 -- what marks say
 pub marked_active : (v : Leveled) (row : ActiveRow) (first x : ℕ) → AreMarked v row → row.first ≡ first → x < bricks_along v.grid 0 → first + x < brick_count v.grid
-    → get_or row.active x false ≡ true → IsActive v (first + x)
+    → get_or row.layer.active (row.start + x) false ≡ true → IsActive v (first + x)
 marked_active v row first x marks same low known is =
     let at : row.first + x ≡ first + x = ap (λ n. n + x) same in
-    record { is = ap (is_active v.grid (heights v)) (sym at) ∙ (sym (marks.row.each x low (subst (λ n. n < brick_count v.grid) (sym at) known)) ∙ is) }
+    record { is = ap (is_active v.grid (heights v)) (sym at) ∙ (sym (marks.each x low (subst (λ n. n < brick_count v.grid) (sym at) known)) ∙ is) }
 
 pub marked_still : (v : Leveled) (row : ActiveRow) (first x : ℕ) → AreMarked v row → row.first ≡ first → x < bricks_along v.grid 0 → first + x < brick_count v.grid
-    → get_or row.active x false ≡ false → IsStill v (first + x)
+    → get_or row.layer.active (row.start + x) false ≡ false → IsStill v (first + x)
 marked_still v row first x marks same low known is =
     let at : row.first + x ≡ first + x = ap (λ n. n + x) same in
-    record { is = ap (is_active v.grid (heights v)) (sym at) ∙ (sym (marks.row.each x low (subst (λ n. n < brick_count v.grid) (sym at) known)) ∙ is) }
+    record { is = ap (is_active v.grid (heights v)) (sym at) ∙ (sym (marks.each x low (subst (λ n. n < brick_count v.grid) (sym at) known)) ∙ is) }
 
--- those of a row, copied from those of its layer
-pub row_marks : (v : Leveled) (first start all count : ℕ) (layer marks : List Bool) (row : ℕ) → row ≡ first + start → start + count ≤ all → AreMarkedTo v first all layer
-    → ((x : ℕ) → x < count → get_or marks x false ≡ get_or layer (start + x) false) → AreMarkedTo v row count marks
-row_marks v first start all count layer marks row e within are copied = record {
-  each = λ x low known.
-      let at : first + (start + x) ≡ row + x = omega arith in
-      copied x low ∙ (are.each (start + x) (omega arith) (subst (λ n. n < brick_count v.grid) (sym at) known) ∙ ap (is_active v.grid (heights v)) at);
-}
+-- the least active brick from one of a row on
+pub noted : (v : Leveled) (is : IsGrid v.grid) (row : ActiveRow) (y z : ℕ) (held : BrickRow) → y < v.grid.ny → z < v.grid.nz → HoldRow v.grid y z held → AreMarked v row
+    → row.first ≡ held.first → (x : ℕ) → x < bricks_along v.grid 0 → IsNextFrom v.grid (heights v) (held.first + x) (get_or row.layer.next_from (row.start + x) 0)
+noted v is row y z held hy hz hold marks same x low =
+    let at : row.first + x ≡ held.first + x = ap (λ n. n + x) same in
+    let wide : 8 * x + 1 < v.grid.nx = omega arith in
+    subst (λ n. IsNextFrom v.grid (heights v) n (get_or row.layer.next_from (row.start + x) 0)) at
+    (marks.next x low (subst (λ n. n < brick_count v.grid) (sym at) (number_in v.grid is x y z wide hy hz held hold)))
 
 -- where a row of bricks stands in its layer
 pub row_in_layer : (v : Leveled) (is : IsGrid v.grid) (y z : ℕ) → y < v.grid.ny → z < v.grid.nz
@@ -102,6 +117,38 @@ row_in_layer v is y z hy hz =
     let start : first_brick g 0 z ≡ bricks_along g 0 * layer = ap (λ n. bricks_along g 0 * (n + layer)) none ∙ omega arith in
     let here : first_brick g y z ≡ bricks_along g 0 * at + bricks_along g 0 * layer = omega arith in
     (omega arith, omega arith)
+
+-- a layer's marks say it of a row of its bricks
+pub row_marked : (v : Leveled) (is : IsGrid v.grid) (layer : ActiveLayer) (y z first start : ℕ) → y < v.grid.ny → z < v.grid.nz → IsMarkedLayer v layer
+    → layer.first ≡ first_brick v.grid 0 z → first ≡ first_brick v.grid y z → start ≡ first - layer.first
+    → AreMarked v (record { first = first; start = start; y = y / 8; z = z / 8; layer = layer })
+row_marked v is layer y z first start hy hz are begin e at =
+    let within = row_in_layer v is y z hy hz in
+    let few_x : bricks_along v.grid 0 ≤ 129 = let h = is.x.most in omega arith in
+    let few_y : bricks_along v.grid 1 ≤ 129 = let h = is.y.most in omega arith in
+    let low = within.0 in
+    let room = within.1 in
+    record {
+      layer = are;
+      each = λ x less known.
+          let same : layer.first + (start + x) ≡ first + x = omega arith in
+          are.marks.each (start + x) (omega arith) (subst (λ n. n < brick_count v.grid) (sym same) known) ∙ ap (is_active v.grid (heights v)) same;
+      next = λ x less known.
+          let same : layer.first + (start + x) ≡ first + x = omega arith in
+          subst (λ n. IsNextFrom v.grid (heights v) n (get_or layer.next_from (start + x) 0)) same
+          (are.next.each (start + x) (omega arith) (subst (λ n. n < brick_count v.grid) (sym same) known));
+      start = start_low (bricks_along v.grid 0) (bricks_along v.grid 1) start few_x few_y (omega arith);
+      rows = λ y2 z2 hy2 hz2 ey ez. e ∙ eighths v.grid y z y2 z2 (sym ey) (sym ez);
+    }
+  where
+    start_low : (a b start : ℕ) → a ≤ 129 → b ≤ 129 → start + a ≤ a * b → start ≤ 129 * 128
+    start_low a b start fa fb h =
+        let l : a * b ≤ a * 129 = mul-le-mul_left a fb in omega arith
+
+    eighths : (g : Grid) (y z y2 z2 : ℕ) → y / 8 ≡ y2 / 8 → z / 8 ≡ z2 / 8 → first_brick g y z ≡ first_brick g y2 z2
+    eighths g y z y2 z2 ey ez =
+        ap (λ n. bricks_along g 0 * (min n (bricks_along g 1 - 1) + bricks_along g 1 * min (z / 8) (bricks_along g 2 - 1))) ey
+        ∙ ap (λ n. bricks_along g 0 * (min (y2 / 8) (bricks_along g 1 - 1) + bricks_along g 1 * min n (bricks_along g 2 - 1))) ez
 
 -- a layer has at most so many bricks
 pub few_in_layer : (a b : ℕ) → a ≤ 129 → b ≤ 129 → a * b ≤ 16641

@@ -1,5 +1,5 @@
 -- No edge from a point of a brick that is not active is crossing.
-use Rattle.std.proofs.Common.{◌≡◌, ℕ, ◌+◌, ◌-◌, ◌*◌, ◌<◌, ◌≤◌, false, List, cond, get_or, inl, inr, length, min, refl, sym, ◌∙◌, ap, arith, eq-eqb}
+use Rattle.std.proofs.Common.{◌≡◌, ℕ, ◌+◌, ◌-◌, ◌*◌, ◌/◌, ◌<◌, ◌≤◌, false, List, cond, get_or, inl, inr, length, min, refl, sym, ◌∙◌, ap, arith, eq-eqb}
 use Rattle.std.proofs.lemmas.Bool.{cases_lt}
 use Rattle.iso_defs.specs.Grid.{index}
 use Rattle.iso_defs.specs.Cell.{cell_signs, corner_point}
@@ -9,10 +9,10 @@ use Rattle.crossing_edges.specs.Signs.{apart, flag_of}
 use Rattle.flat_mesh.specs.Lattice.{IsLeveled, Leveled, heights}
 use Rattle.flat_mesh.specs.Rows.{row_start, sign_bit}
 use Rattle.stitch_rows.specs.declared.bricks.BrickRow.{BrickRow}
-use Rattle.stitch_rows.specs.Bricks.{HoldRow, brick_at, next_at}
+use Rattle.stitch_rows.specs.Bricks.{HoldRow, IsNextFrom, brick_at, next_at}
 use Rattle.stitch_rows.specs.Rows.{AreFlagsTo, AreZerosFrom, HasMoreFlags}
 use Rattle.stitch_rows.proofs.FlagRows.{point_flags}
-use Rattle.stitch_rows.proofs.Places.{point_is, row_there}
+use Rattle.stitch_rows.proofs.Places.{number_in, point_is, row_there}
 use Rattle.stitch_rows.proofs.Corners.{corner_at}
 use Rattle.stitch_rows.proofs.QuietBricks.{corner_alike, unmixed_cell}
 
@@ -71,12 +71,20 @@ module _ (v : Leveled) (is : IsLeveled v) (x y z : ℕ) (hx : 8 * x + 1 < v.grid
       (point_sign a b d k (next_at y v.grid.ny) z none (omega arith) (omega arith) (omega arith) (omega arith) (omega arith) (omega arith))
       (point_sign a b d k y (next_at z v.grid.nz) none (omega arith) (omega arith) (omega arith) (omega arith) (omega arith) (omega arith))
 
-  -- zeros in place of their flags
-  pub zeros_more : (flags : List ℕ) → length flags ≡ v.grid.nx → AreZerosFrom (8 * x) flags → AreFlagsTo v y z (8 * x) flags → HasMoreFlags v y z (8 * x + 8) flags
-  zeros_more flags long zeros before =
-      let one : (k : ℕ) → k < v.grid.nx → min k (v.grid.nx - 2) < 8 * x + 8 → get_or flags k 0 ≡ flags_at v.grid (heights v) (row_start v.grid y z + k)
-      = λ k in_row near. elim (cases_lt k (8 * x)) [
+-- zeros in place of the flags of the points of all bricks of a row between two places, behind the first of which the next active one stands at the second
+module _ (v : Leveled) (is : IsLeveled v) (y z : ℕ) (hy : y < v.grid.ny) (hz : z < v.grid.nz) (held : BrickRow) (hold : HoldRow v.grid y z held) where
+  pub zeros_more : (a b : ℕ) (flags : List ℕ) → a < bricks_along v.grid 0 → IsNextFrom v.grid (heights v) (held.first + a) (held.first + b)
+      → length flags ≡ v.grid.nx → AreZerosFrom (8 * a) flags → AreFlagsTo v y z (8 * a) flags → HasMoreFlags v y z (8 * b) flags
+  zeros_more a b flags some next long zeros before =
+      let least_x = is.grid.x.least in
+      let one : (k : ℕ) → k < v.grid.nx → min k (v.grid.nx - 2) < 8 * b → get_or flags k 0 ≡ flags_at v.grid (heights v) (row_start v.grid y z + k)
+      = λ k in_row near. elim (cases_lt k (8 * a)) [
         | inl earlier ↦ before k in_row earlier
-        | inr here ↦ zeros k here (omega arith) ∙ still_flags k in_row here near
+        | inr from ↦ (
+            let x : ℕ = min (k / 8) (bricks_along v.grid 0 - 1) in
+            let wide : 8 * x + 1 < v.grid.nx = omega arith in
+            let known = number_in v.grid is.grid x y z wide hy hz held hold in
+            let still = next.none_before (held.first + x) (omega arith) (omega arith) known in
+            zeros k from (omega arith) ∙ still_flags v is x y z wide hy hz held hold still k in_row (omega arith) (omega arith))
       ] in
       record { first = λ k in_row low. one k in_row (omega arith); all = λ last k in_row. one k in_row (omega arith) }

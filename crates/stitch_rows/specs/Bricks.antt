@@ -1,5 +1,5 @@
 -- The bricks that hold a row of points.
-use Rattle.std.specs.Prelude.{◌≡◌, ℕ, ◌+◌, ◌-◌, ◌*◌, ◌/◌, ◌<◌, ◌≤◌, ℤ, Bool, true, false, min, List, slice_index_or}
+use Rattle.std.specs.Prelude.{◌≡◌, ℕ, ◌+◌, ◌-◌, ◌*◌, ◌/◌, ◌<◌, ◌≤◌, ℤ, Bool, true, false, min, List, slice_index, slice_index_or}
 use Rattle.iso_defs.specs.Grid.{Grid}
 use Rattle.iso_defs.specs.Bricks.{brick_count, bricks_along, is_active}
 use Rattle.flat_mesh.specs.Lattice.{Leveled, heights}
@@ -26,11 +26,11 @@ pub record HoldRow (g : Grid) (y z : ℕ) (row : BrickRow) : Type 0 where
 abbrev pub next_at : ℕ → ℕ → ℕ
 next_at c size = min (c + 1) (size - 1)
 
--- the same of a row and of the next ones along y and z, or of itself where there is none
+-- the same of a row, and how far from it the next ones along y and z are
 pub record HoldRows (g : Grid) (y z : ℕ) (rows : Rows) : Type 0 where
   pub here : HoldRow g y z rows.here
-  pub up : HoldRow g (next_at y g.ny) z rows.up
-  pub far : HoldRow g y (next_at z g.nz) rows.far
+  pub up : y + rows.up ≡ next_at y g.ny
+  pub far : z + rows.far ≡ next_at z g.nz
 
 -- a brick is active at a level
 pub record IsActive (v : Leveled) (brick : ℕ) : Type 0 where
@@ -50,11 +50,23 @@ pub record IsNextFrom (g : Grid) (s : ℕ → ℤ) (from next : ℕ) : Type 0 wh
 pub record AreMarkedTo (v : Leveled) (first count : ℕ) (marks : List Bool) : Type 0 where
   pub each : (x : ℕ) → x < count → first + x < brick_count v.grid → slice_index_or marks x false ≡ is_active v.grid (heights v) (first + x)
 
--- these of all bricks of a layer
-abbrev pub IsMarkedLayer : Leveled → ActiveLayer → Type 0
-IsMarkedLayer v layer = AreMarkedTo v layer.first (bricks_along v.grid 0 * bricks_along v.grid 1) layer.active
+-- these say of the first bricks which are the least active ones from them on
+pub record AreNextTo (v : Leveled) (first count : ℕ) (next : List ℕ) : Type 0 where
+  pub each : (x : ℕ) → x < count → first + x < brick_count v.grid → IsNextFrom v.grid (heights v) (first + x) (slice_index next x)
 
--- and these of all of a row, and of its layer
+-- both of all bricks of a layer
+pub record IsMarkedLayer (v : Leveled) (layer : ActiveLayer) : Type 0 where
+  pub marks : AreMarkedTo v layer.first (bricks_along v.grid 0 * bricks_along v.grid 1) layer.active
+  pub next : AreNextTo v layer.first (bricks_along v.grid 0 * bricks_along v.grid 1) layer.next_from
+
+-- and which of them hold some rows of points
 pub record AreMarked (v : Leveled) (marks : ActiveRow) : Type 0 where
-  pub row : AreMarkedTo v marks.first (bricks_along v.grid 0) marks.active
   pub layer : IsMarkedLayer v marks.layer
+  pub each :
+      (x : ℕ) → x < bricks_along v.grid 0 → marks.first + x < brick_count v.grid
+      → slice_index_or marks.layer.active (marks.start + x) false ≡ is_active v.grid (heights v) (marks.first + x)
+  pub next :
+      (x : ℕ) → x < bricks_along v.grid 0 → marks.first + x < brick_count v.grid
+      → IsNextFrom v.grid (heights v) (marks.first + x) (slice_index marks.layer.next_from (marks.start + x))
+  pub start : marks.start ≤ 129 * 128
+  pub rows : (y z : ℕ) → y < v.grid.ny → z < v.grid.nz → y / 8 ≡ marks.y → z / 8 ≡ marks.z → marks.first ≡ first_brick v.grid y z

@@ -1,31 +1,33 @@
 //! Which bricks of a row of bricks are active.
-ghost use Rattle.std.specs.Prelude.{◌≡◌, ℕ, ◌+◌, ◌-◌, ◌*◌, ◌<◌, ◌≤◌, ◌^◌, false, length, slice_index_or};
+ghost use Rattle.std.specs.Prelude.{◌≡◌, ℕ, ◌+◌, ◌-◌, ◌*◌, ◌<◌, ◌≤◌, ◌^◌, false, length, slice_index, slice_index_or};
 ghost use Rattle.iso_base.specs.Sizing.{IsGrid};
 ghost use Rattle.flat_mesh.specs.Lattice.{Leveled, heights};
-ghost use Rattle.stitch_rows.specs.Bricks.{AreMarked, AreMarkedTo, IsMarkedLayer, IsNextFrom, first_brick};
+ghost use Rattle.stitch_rows.specs.Bricks.{AreMarked, AreMarkedTo, AreNextTo, IsMarkedLayer, IsNextFrom, first_brick};
 
 use crate::bricks::{BrickRow, count_along};
 use crate::field::Field;
 
-/// The most bricks along an axis.
-const BRICKS: usize = 129;
-
 /// The most bricks of a layer.
 const LAYER: usize = 16_641;
 
-/// Which bricks are active of a layer of bricks, from the one numbered `first` on: those that hold points of one slice.
+/// Which bricks are active of a layer of bricks, from the one numbered `first` on: those that hold points of one slice. For each of them
+/// the least active brick from it on is noted too.
 #[derive(Drop)]
 pub struct ActiveLayer {
     pub first: u32,
     pub active: [bool; LAYER],
+    pub next_from: [u32; LAYER],
 }
 
-/// Which bricks are active of those that stand one after the other along x, from the one numbered `first` on, and of their
-/// layer. A walk comes back to the rows of a layer slice after slice, and looks for its active bricks once.
+/// Which bricks are active of those that stand one after the other along x, from the one numbered `first` on: their marks begin at
+/// `start` among those of their layer. They hold the rows of points of which an eighth of the coordinates is `y` and `z`. A walk comes
+/// back to the rows of a layer slice after slice, and looks for its active bricks once.
 #[derive(Drop)]
 pub struct ActiveRow {
     pub first: u32,
-    pub active: [bool; BRICKS],
+    pub start: usize,
+    pub y: u32,
+    pub z: u32,
     pub layer: ActiveLayer,
 }
 
@@ -43,17 +45,20 @@ fn next_behind(field: &Field, brick: u32, next: u32) -> u32
     }
 }
 
-/// Marks which are active of so many bricks from a number on.
-fn mark_bricks(field: &Field, first: u32, count: u32, active: &mut [bool])
+/// Marks which are active of so many bricks from a number on, and notes for each the least active one from it on.
+fn mark_bricks(field: &Field, first: u32, count: u32, active: &mut [bool], next_from: &mut [u32])
     requires count { count ≤ 129 * 129 }
     requires room { count ≤ length active.old }
+    requires space { count ≤ length next_from.old }
     requires first { first ≤ 129 * 129 * 129 }
-    ensures { AreMarkedTo field.now first count active.new }
+    ensures marks { AreMarkedTo field.now first count active.new }
+    ensures next { AreNextTo field.now first count next_from.new }
 {
     let mut next = field.next_active(first);
     for x in 0..count {
         let brick = first + x;
         active[x as usize] = next == brick;
+        next_from[x as usize] = next;
         next = next_behind(field, brick, next);
     }
 }
@@ -72,16 +77,13 @@ fn mark_layer(field: &Field, z: u32, layer: &mut ActiveLayer)
     }
     layer.first = row.first;
     let count = count_along(sizes.nx()) * count_along(sizes.ny());
-    mark_bricks(field, row.first, count, &mut layer.active);
-}
-
-/// Copies so many marks from a place on.
-fn copy_marks(from: &[bool], start: usize, count: usize, to: &mut [bool])
-    requires from { start + count ≤ length from.now }
-    requires to { count ≤ length to.old }
-    ensures { (x : ℕ) → x < count → slice_index_or to.new x false ≡ slice_index_or from.now (start + x) false }
-{
-    to[..count].copy_from_slice(&from[start..start + count]);
+    mark_bricks(
+        field,
+        row.first,
+        count,
+        &mut layer.active,
+        &mut layer.next_from,
+    );
 }
 
 impl ActiveRow {
@@ -91,16 +93,19 @@ impl ActiveRow {
     {
         ActiveRow {
             first: u32::MAX,
-            active: [false; BRICKS],
+            start: 0,
+            y: u32::MAX,
+            z: u32::MAX,
             layer: ActiveLayer {
                 first: u32::MAX,
                 active: [false; LAYER],
+                next_from: [0; LAYER],
             },
         }
     }
 
-    /// Marks the bricks that hold a row of points, unless they are marked.
-    pub fn mark(&mut self, field: &Field, y: u32, z: u32)
+    /// Marks the bricks that hold a row of points, and their layer unless it is marked.
+    fn mark_anew(&mut self, field: &Field, y: u32, z: u32)
         requires y { y < field.now.grid.ny }
         requires z { z < field.now.grid.nz }
         requires marked { AreMarked field.now self.old }
@@ -109,22 +114,46 @@ impl ActiveRow {
     {
         let sizes = field.sizes();
         let row = BrickRow::of(&sizes, y, z);
-        if self.first == row.first {
+        mark_layer(field, z, &mut self.layer);
+        self.first = row.first;
+        self.start = (row.first - self.layer.first) as usize;
+        self.y = y / 8;
+        self.z = z / 8;
+    }
+
+    /// Marks the bricks that hold a row of points, unless they are marked.
+    #[inline(always)]
+    pub fn mark(&mut self, field: &Field, y: u32, z: u32)
+        requires y { y < field.now.grid.ny }
+        requires z { z < field.now.grid.nz }
+        requires marked { AreMarked field.now self.old }
+        ensures marked { AreMarked field.now self.new }
+        ensures first { self.new.first ≡ first_brick field.now.grid y z }
+    {
+        if y / 8 == self.y && z / 8 == self.z {
             return;
         }
-        mark_layer(field, z, &mut self.layer);
-        let start = (row.first - self.layer.first) as usize;
-        let count = count_along(sizes.nx()) as usize;
-        copy_marks(&self.layer.active, start, count, &mut self.active);
-        self.first = row.first;
+        self.mark_anew(field, y, z);
+    }
+
+    /// Where the least active brick stands that is at a place of the row or behind it: beyond the row where there is none in it.
+    #[inline(always)]
+    pub(crate) fn next(&self, x: u32) -> u32
+        requires x { x < 129 }
+        requires start { self.now.start ≤ 129 * 128 }
+        requires least { self.now.first ≤ slice_index self.now.layer.next_from (self.now.start + x) }
+        ensures { self.now.first + result ≡ slice_index self.now.layer.next_from (self.now.start + x) }
+    {
+        self.layer.next_from[self.start + x as usize] - self.first
     }
 
     /// Whether the brick at a place of the row is active.
     #[inline(always)]
-    pub fn is_active(&self, x: u32) -> bool
-        requires { x < 129 }
-        ensures { result ≡ slice_index_or self.now.active x false }
+    pub(crate) fn is_active(&self, x: u32) -> bool
+        requires x { x < 129 }
+        requires start { self.now.start ≤ 129 * 128 }
+        ensures { result ≡ slice_index_or self.now.layer.active (self.now.start + x) false }
     {
-        self.active[x as usize]
+        self.layer.active[self.start + x as usize]
     }
 }

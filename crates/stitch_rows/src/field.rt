@@ -1,5 +1,5 @@
 //! A volume in bricks at a level: its shifted values, and its active bricks.
-ghost use Rattle.std.specs.Prelude.{◌≡◌, ◌+◌, ◌*◌, ◌<◌, ◌^◌, All, length, map, unsigned_abs};
+ghost use Rattle.std.specs.Prelude.{◌≡◌, ◌+◌, ◌*◌, ◌<◌, ◌≤◌, ◌^◌, All, length, map, unsigned_abs};
 ghost use Rattle.iso_defs.specs.Grid.{index};
 ghost use Rattle.iso_base.specs.Samples.{IsSample};
 ghost use Rattle.iso_base.specs.Shifted.{shifted};
@@ -80,29 +80,34 @@ impl<'a> Field<'a> {
         self.store.copies()
     }
 
-    /// The samples of a row of points that a brick holds, among those of all bricks: those from 8 * x on, at most nine.
+    /// The samples of a row of points that a brick holds, or of the row so many further along y and z, among those of all bricks: those
+    /// from 8 * x on, at most nine. A brick has its own copies of the next rows too.
     #[inline(always)]
     pub(crate) fn run<'c, T: Packed>(
         &self,
         copies: &'c [T],
         row: BrickRow,
+        up: u8,
+        far: u8,
         x: u32,
         y: u32,
         z: u32,
     ) -> &'c [T]
         requires copies { AreAllCopies self.now.grid self.now.samples (map T.value copies.now) }
         requires x { 8 * x + 1 < self.now.grid.nx }
-        requires y { y < self.now.grid.ny }
-        requires z { z < self.now.grid.nz }
+        requires y { y + up < self.now.grid.ny }
+        requires z { z + far < self.now.grid.nz }
+        requires up { up ≤ 1 }
+        requires far { far ≤ 1 }
         requires row { HoldRow self.now.grid y z row }
-        ensures { IsRun self.now (8 * x) y z (map T.value result.now) }
+        ensures { IsRun self.now (8 * x) (y + up) (z + far) (map T.value result.now) }
     {
         let _ = (y, z);
         let sizes = self.store.sizes();
-        let samples = self.store.brick_in(copies, BrickId(row.first + x));
-        let start = 9 * (row.y as usize + 9 * row.z as usize);
+        let brick = row.first as usize + x as usize;
+        let start = 729 * brick + 9 * ((row.y + up) as usize + 9 * (row.z + far) as usize);
         let count = (sizes.nx() - 8 * x).min(9) as usize;
-        &samples[start..start + count]
+        &copies[start..start + count]
     }
 
     /// The least active brick from a number on, or a number behind all bricks.

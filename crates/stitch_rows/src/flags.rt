@@ -72,10 +72,9 @@ fn flag_run<T: Packed>(here: &[T], up: &[T], far: &[T], least: i64, out: &mut [u
     );
 }
 
-/// Writes the flags of a run of points from a place on: of all but the last where the row goes on behind it, since the next brick has
-/// that one too.
+/// Writes the flags of eight points of a run from a place on.
 #[inline(always)]
-pub(crate) fn put_flags<T: Flagged>(
+pub(crate) fn put_eight<T: Flagged>(
     here: &[T],
     up: &[T],
     far: &[T],
@@ -83,20 +82,34 @@ pub(crate) fn put_flags<T: Flagged>(
     start: usize,
     flags: &mut [u8],
 )
-    requires room { start < length flags.old }
-    requires here { length here.now ≡ min 9 (length flags.old - start) }
+    requires room { start + 8 ≤ length flags.old }
+    requires here { 8 < length here.now }
     requires up { length up.now ≡ length here.now }
     requires far { length far.now ≡ length here.now }
-    ensures inside { (i : ℕ) → i < length here.now → (start + 9 < length flags.old → i < 8)
-        → slice_index flags.new (start + i) ≡ run_flags least (map T.value here.now) (map T.value up.now) (map T.value far.now) i }
+    ensures inside { (i : ℕ) → i < 8 → slice_index flags.new (start + i) ≡ run_flags least (map T.value here.now) (map T.value up.now) (map T.value far.now) i }
     ensures before { (k : ℕ) → k < start → slice_index flags.new k ≡ slice_index flags.old k }
-    ensures behind { start + 9 < length flags.old → (k : ℕ) → start + 8 ≤ k → slice_index flags.new k ≡ slice_index flags.old k }
+    ensures behind { (k : ℕ) → start + 8 ≤ k → slice_index flags.new k ≡ slice_index flags.old k }
 {
-    if flags.len() - start > 9 {
-        T::flag_eight(here, up, far, least, &mut flags[start..start + 8]);
-    } else {
-        flag_run(here, up, far, least, &mut flags[start..]);
-    }
+    T::flag_eight(here, up, far, least, &mut flags[start..start + 8]);
+}
+
+/// Writes the flags of the points of a run from a place on, with which the row ends.
+pub(crate) fn put_last<T: Flagged>(
+    here: &[T],
+    up: &[T],
+    far: &[T],
+    least: i64,
+    start: usize,
+    flags: &mut [u8],
+)
+    requires some { start < length flags.old }
+    requires here { start + length here.now ≡ length flags.old }
+    requires up { length up.now ≡ length here.now }
+    requires far { length far.now ≡ length here.now }
+    ensures inside { (i : ℕ) → i < length here.now → slice_index flags.new (start + i) ≡ run_flags least (map T.value here.now) (map T.value up.now) (map T.value far.now) i }
+    ensures before { (k : ℕ) → k < start → slice_index flags.new k ≡ slice_index flags.old k }
+{
+    flag_run(here, up, far, least, &mut flags[start..]);
 }
 
 /// Writes 0 throughout.

@@ -12,7 +12,7 @@ ghost use Rattle.stitch_rows.specs.Rows.{AreFirst, AreFlags, AreFlagsTo, AreRuns
 use crate::active::ActiveRow;
 use crate::bricks::{BrickRow, count_along};
 use crate::field::Field;
-use crate::flags::{Flagged, put_flags, put_zeros};
+use crate::flags::{Flagged, put_eight, put_last, put_zeros};
 use flat_mesh::{Heights, rank_points};
 use iso_base::Sizes;
 use packed_samples::{Packed, PackedRun};
@@ -23,26 +23,27 @@ pub const ROW: usize = 1026;
 /// One more.
 const NUMBERS: usize = 1027;
 
-/// Where the rows are that decide the flags of a row of points: it itself, and the next ones along y and z, or it itself again where
-/// there is none.
+/// Where the rows are that decide the flags of a row of points: it itself, and how many rows further along y and z the next ones are,
+/// 1, or 0 where there is none. The bricks that hold the row have the samples of the next ones too.
 #[derive(Clone, Copy)]
 pub struct Rows {
     here: BrickRow,
-    up: BrickRow,
-    far: BrickRow,
+    up: u8,
+    far: u8,
 }
 
-/// The next coordinate, or the last one again.
+/// How far the next coordinate is: 1, or 0 where this is the last one.
 #[inline(always)]
-fn next_along(at: u32, size: u32) -> u32
+fn step_along(at: u32, size: u32) -> u8
     requires { at < size }
-    ensures value { result ≡ next_at at size }
-    ensures bound { result < size }
+    ensures value { at + result ≡ next_at at size }
+    ensures bound { result ≤ 1 }
 {
-    (at + 1).min(size - 1)
+    u8::from(at + 1 < size)
 }
 
 /// Where the rows are that decide the flags of a row of points.
+#[inline(always)]
 pub fn rows_at(sizes: &Sizes, y: u32, z: u32) -> Rows
     requires y { y < sizes.now.ny }
     requires z { z < sizes.now.nz }
@@ -50,8 +51,8 @@ pub fn rows_at(sizes: &Sizes, y: u32, z: u32) -> Rows
 {
     Rows {
         here: BrickRow::of(sizes, y, z),
-        up: BrickRow::of(sizes, next_along(y, sizes.ny()), z),
-        far: BrickRow::of(sizes, y, next_along(z, sizes.nz())),
+        up: step_along(y, sizes.ny()),
+        far: step_along(z, sizes.nz()),
     }
 }
 
@@ -81,51 +82,19 @@ pub fn point_runs<'c, T: Packed>(
     requires rows { HoldRows field.now.grid y z rows }
     ensures { AreRuns T.value field.now (8 * x) y z result }
 {
-    let sizes = field.sizes();
     PointRuns {
-        here: field.run(copies, rows.here, x, y, z),
-        up: field.run(copies, rows.up, x, next_along(y, sizes.ny()), z),
-        far: field.run(copies, rows.far, x, y, next_along(z, sizes.nz())),
+        here: field.run(copies, rows.here, 0, 0, x, y, z),
+        up: field.run(copies, rows.here, rows.up, 0, x, y, z),
+        far: field.run(copies, rows.here, 0, rows.far, x, y, z),
     }
 }
 
-/// Writes the flags of the points of a row that an active brick holds: those from 8 * x on, where zeros stand.
-#[inline(always)]
-fn active_flags<T: Flagged>(
-    field: &Field,
-    copies: &[T],
-    rows: Rows,
-    least: i64,
-    x: u32,
-    y: u32,
-    z: u32,
-    flags: &mut [u8],
-)
-    requires copies { AreAllCopies field.now.grid field.now.samples (map T.value copies.now) }
-    requires x { 8 * x + 1 < field.now.grid.nx }
-    requires y { y < field.now.grid.ny }
-    requires z { z < field.now.grid.nz }
-    requires rows { HoldRows field.now.grid y z rows }
-    requires least { (s : ℤ) → int_le least s ≡ is_above_level s field.now.level }
-    requires flags { length flags.old ≡ field.now.grid.nx }
-    requires before { AreFlagsTo field.now y z (8 * x) flags.old }
-    requires zeros { AreZerosFrom (8 * x) flags.old }
-    ensures flags { HasMoreFlags field.now y z (8 * x + 8) flags.new }
-    ensures zeros { 8 * x + 9 < field.now.grid.nx → AreZerosFrom (8 * x + 8) flags.new }
-{
-    let _ = field.sizes();
-    let runs = point_runs(field, copies, rows, x, y, z);
-    let start = 8 * x as usize;
-    put_flags(runs.here, runs.up, runs.far, least, start, flags);
-}
-
-/// Writes the flags of the points of a row that a brick holds: those from 8 * x on, where zeros stand. From the points of a brick
-/// that is not active no crossing edge begins, so that the zeros are left.
+/// Writes the flags of the points of a row that a brick holds: of eight of them, those from 8 * x on, where zeros stand and more are
+/// left than the point behind them.
 #[inline(always)]
 fn brick_flags<T: Flagged>(
     field: &Field,
     copies: &[T],
-    active: &ActiveRow,
     rows: Rows,
     least: i64,
     x: u32,
@@ -134,9 +103,7 @@ fn brick_flags<T: Flagged>(
     flags: &mut [u8],
 )
     requires copies { AreAllCopies field.now.grid field.now.samples (map T.value copies.now) }
-    requires active { AreMarked field.now active.now }
-    requires first { active.now.first ≡ rows.here.first }
-    requires x { 8 * x + 1 < field.now.grid.nx }
+    requires x { 8 * x + 9 < field.now.grid.nx }
     requires y { y < field.now.grid.ny }
     requires z { z < field.now.grid.nz }
     requires rows { HoldRows field.now.grid y z rows }
@@ -144,16 +111,46 @@ fn brick_flags<T: Flagged>(
     requires flags { length flags.old ≡ field.now.grid.nx }
     requires before { AreFlagsTo field.now y z (8 * x) flags.old }
     requires zeros { AreZerosFrom (8 * x) flags.old }
-    ensures flags { HasMoreFlags field.now y z (8 * x + 8) flags.new }
-    ensures zeros { 8 * x + 9 < field.now.grid.nx → AreZerosFrom (8 * x + 8) flags.new }
+    ensures flags { AreFlagsTo field.now y z (8 * x + 8) flags.new }
+    ensures zeros { AreZerosFrom (8 * x + 8) flags.new }
 {
     let _ = field.sizes();
-    if active.is_active(x) {
-        active_flags(field, copies, rows, least, x, y, z, flags);
-    }
+    let runs = point_runs(field, copies, rows, x, y, z);
+    let start = 8 * x as usize;
+    put_eight(runs.here, runs.up, runs.far, least, start, flags);
 }
 
-/// Writes the flags of the points of a row, from the samples of all bricks.
+/// Writes the flags of the points of a row that the last brick holds: all that are left, from 8 * x on.
+#[inline(always)]
+fn last_flags<T: Flagged>(
+    field: &Field,
+    copies: &[T],
+    rows: Rows,
+    least: i64,
+    x: u32,
+    y: u32,
+    z: u32,
+    flags: &mut [u8],
+)
+    requires copies { AreAllCopies field.now.grid field.now.samples (map T.value copies.now) }
+    requires x { 8 * x + 1 < field.now.grid.nx }
+    requires last { field.now.grid.nx ≤ 8 * x + 9 }
+    requires y { y < field.now.grid.ny }
+    requires z { z < field.now.grid.nz }
+    requires rows { HoldRows field.now.grid y z rows }
+    requires least { (s : ℤ) → int_le least s ≡ is_above_level s field.now.level }
+    requires flags { length flags.old ≡ field.now.grid.nx }
+    requires before { AreFlagsTo field.now y z (8 * x) flags.old }
+    ensures { AreFlags field.now y z flags.new }
+{
+    let _ = field.sizes();
+    let runs = point_runs(field, copies, rows, x, y, z);
+    let start = 8 * x as usize;
+    put_last(runs.here, runs.up, runs.far, least, start, flags);
+}
+
+/// Writes the flags of the points of a row, from the samples of all bricks. From the points of a brick that is not active no crossing
+/// edge begins, so that it goes from one active brick to the next.
 fn flag_bricks<T: Flagged>(
     field: &Field,
     copies: &[T],
@@ -173,9 +170,15 @@ fn flag_bricks<T: Flagged>(
     let sizes = field.sizes();
     let rows = rows_at(&sizes, y, z);
     let least = field.level().least_above();
+    let last = count_along(sizes.nx()) - 1;
     put_zeros(flags);
-    for x in 0..count_along(sizes.nx()) {
-        brick_flags(field, copies, active, rows, least, x, y, z, flags);
+    let mut x = active.next(0);
+    while x < last {
+        brick_flags(field, copies, rows, least, x, y, z, flags);
+        x = active.next(x + 1);
+    }
+    if x == last {
+        last_flags(field, copies, rows, least, last, y, z, flags);
     }
 }
 

@@ -1,23 +1,33 @@
-use Rattle.std.proofs.Common.{◌≡◌, ◌∙◌, rules, w64, to_z, of_z, ap, sym, arith}
+use Rattle.std.proofs.Common.{◌≡◌, ◌-◌, ◌*◌, ◌∙◌, rules, ℤ, List, map, w64, to_z, of_z, ap, min, arith, refl}
 use Rattle.std.specs.Prelude.{int_le}
 use Rattle.std.proofs.lemmas.Int.{to_z-of_z}
-use Rattle.stitch_rows.proofs.NextBricks.{marked_still}
-use Rattle.stitch_rows.proofs.Places.{number_in}
-use Rattle.stitch_rows.proofs.StillFlags.{zeros_more}
+use Rattle.stitch_rows.proofs.FlagRows.{flags_more}
+use Rattle.stitch_rows.proofs.Heights.{run_count}
 use Rattle.stitch_rows.proofs.points.brick_flags.Goals as goal
 
-pub returns-else-is_active-clause-flags : goal.returns-else-is_active-clause-flags
-returns-else-is_active-clause-flags g c =
+pub put_eight-requires-clause-here : goal.put_eight-requires-clause-here
+put_eight-requires-clause-here g c = omega (arith, run_count _ _ _ _ _ _ c.point_runs-runs.ensures.here, c.requires.x)
+
+pub put_eight-requires-clause-up : goal.put_eight-requires-clause-up
+put_eight-requires-clause-up g c = omega (arith, run_count _ _ _ _ _ _ c.point_runs-runs.ensures.here, run_count _ _ _ _ _ _ c.point_runs-runs.ensures.up)
+
+pub put_eight-requires-clause-far : goal.put_eight-requires-clause-far
+put_eight-requires-clause-far g c = omega (arith, run_count _ _ _ _ _ _ c.point_runs-runs.ensures.here, run_count _ _ _ _ _ _ c.point_runs-runs.ensures.far)
+
+pub returns-clause-flags : goal.returns-clause-flags
+returns-clause-flags g c =
     let v = c.args.field.now in
-    let known = number_in v.grid c.sizes.ensures.leveled.grid c.args.x c.args.y c.args.z c.requires.x c.requires.y c.requires.z c.args.rows.here c.requires.rows.here in
-    let still = marked_still v c.args.active.now c.args.rows.here.first c.args.x c.requires.active c.requires.first (omega (arith, c.requires.x)) known (sym c.is_active.ensures ∙ c.if-is_active.false) in
-    zeros_more v c.sizes.ensures.leveled c.args.x c.args.y c.args.z c.requires.x c.requires.y c.requires.z c.args.rows.here c.requires.rows.here still.is
-    c.args.flags.now c.requires.flags c.requires.zeros c.requires.before
-
-pub returns-else-is_active-clause-zeros : goal.returns-else-is_active-clause-zeros
-returns-else-is_active-clause-zeros g c = λ wider k from low. c.requires.zeros k (omega (arith, from)) low
-
-pub active_flags-requires-clause-least : goal.active_flags-requires-clause-least
-active_flags-requires-clause-least g c = λ s.
+    let runs = c.point_runs-runs.result in
+    let here : List ℤ = map g.T.Packed.value runs.here.now in
+    let up : List ℤ = map g.T.Packed.value runs.up.now in
+    let far : List ℤ = map g.T.Packed.value runs.far.now in
     let e : to_z w64 (of_z w64 c.args.least) ≡ c.args.least = search (rules, to_z-of_z) in
-    ap (λ l. int_le l s) e ∙ c.requires.least s
+    (flags_more v c.sizes.ensures.leveled c.args.y c.args.z c.requires.y c.requires.z c.args.x (min 9 (v.grid.nx - 8 * c.args.x))
+    (to_z w64 (of_z w64 c.args.least)) here up far c.args.flags.now c.put_eight.new.flags (omega (arith, c.requires.x)) refl
+    c.point_runs-runs.ensures.here c.point_runs-runs.ensures.up c.point_runs-runs.ensures.far
+    (λ s. ap (λ l. int_le l s) e ∙ c.requires.least s)
+    (λ i low near. c.put_eight.ensures.inside i (near c.requires.x))
+    c.put_eight.ensures.before c.requires.before).first
+
+pub returns-clause-zeros : goal.returns-clause-zeros
+returns-clause-zeros g c = λ k from low. c.put_eight.ensures.behind k (omega (arith, from)) ∙ c.requires.zeros k (omega (arith, from)) (omega (arith, low))

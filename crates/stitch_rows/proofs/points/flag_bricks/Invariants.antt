@@ -1,9 +1,12 @@
-use Rattle.std.proofs.Common.{◌+◌, ◌*◌, ◌<◌}
+use Rattle.std.proofs.Common.{◌-◌, ◌*◌}
 use Rattle.stitch_rows.specs.Rows.{AreZerosFrom, HasMoreFlags}
 use Rattle.stitch_rows.proofs.points.flag_bricks.Given as goal
 
 abbrev pub invariant-loop-x : goal.invariant-loop-x
 invariant-loop-x g l = record {
   flags : HasMoreFlags l.field l.y l.z (8 * l.x) l.flags;
-  zeros : 8 * l.x + 1 < l.field.grid.nx → AreZerosFrom (8 * l.x) l.flags;
+  zeros : AreZerosFrom (8 * l.x) l.flags;
 }
+
+abbrev pub decreases-loop-x : goal.decreases-loop-x
+decreases-loop-x g l = l.last - l.x

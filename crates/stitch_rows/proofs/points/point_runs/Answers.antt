@@ -1,5 +1,4 @@
-use Rattle.std.proofs.Common.{◌≡◌, ◌*◌, ◌∙◌, ap, map, subst}
-use Rattle.iso_defs.specs.Grid.{Grid}
+use Rattle.std.proofs.Common.{◌≡◌, ℕ, ◌+◌, ◌*◌, map, subst, arith}
 use Rattle.stitch_rows.specs.Bricks.{next_at}
 use Rattle.stitch_rows.specs.Runs.{IsRun}
 use Rattle.stitch_rows.proofs.points.point_runs.Goals as goal
@@ -7,12 +6,14 @@ use Rattle.stitch_rows.proofs.points.point_runs.Goals as goal
 pub returns : goal.returns
 returns g c =
     let v = c.args.field.now in
-    let eu : c.next_along.result ≡ next_at c.args.y v.grid.ny
-    = c.next_along.ensures.value ∙ ap (next_at c.args.y) (c.ny.ensures.value ∙ ap (λ (g : Grid). g.ny) c.sizes-sizes.ensures.value) in
-    let ef : c.next_along-2.result ≡ next_at c.args.z v.grid.nz
-    = c.next_along-2.ensures.value ∙ ap (next_at c.args.z) (c.nz.ensures.value ∙ ap (λ (g : Grid). g.nz) c.sizes-sizes.ensures.value) in
+    let x : ℕ = 8 * c.args.x in
+    let same_y : c.args.y + 0 ≡ c.args.y = omega arith in
+    let same_z : c.args.z + 0 ≡ c.args.z = omega arith in
     record {
-      here = c.run.ensures;
-      up = subst (λ y. IsRun v (8 * c.args.x) y c.args.z (map g.T.Packed.value c.run-2.result.now)) eu c.run-2.ensures;
-      far = subst (λ z. IsRun v (8 * c.args.x) c.args.y z (map g.T.Packed.value c.run-3.result.now)) ef c.run-3.ensures;
+      here = subst (λ n. IsRun v x n c.args.z (map g.T.Packed.value c.run.result.now)) same_y
+          (subst (λ n. IsRun v x (c.args.y + 0) n (map g.T.Packed.value c.run.result.now)) same_z c.run.ensures);
+      up = subst (λ n. IsRun v x n c.args.z (map g.T.Packed.value c.run-2.result.now)) c.requires.rows.up
+          (subst (λ n. IsRun v x (c.args.y + c.args.rows.up) n (map g.T.Packed.value c.run-2.result.now)) same_z c.run-2.ensures);
+      far = subst (λ n. IsRun v x n (next_at c.args.z v.grid.nz) (map g.T.Packed.value c.run-3.result.now)) same_y
+          (subst (λ n. IsRun v x (c.args.y + 0) n (map g.T.Packed.value c.run-3.result.now)) c.requires.rows.far c.run-3.ensures);
     }
