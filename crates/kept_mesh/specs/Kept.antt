@@ -3,12 +3,12 @@ use Rattle.std.specs.Prelude.{ℕ, ◌/◌, ◌%◌, ◌==◌, if◌then◌else�
 use Rattle.iso_defs.specs.Lists.{below}
 use Rattle.iso_defs.specs.Grid.{Grid}
 use Rattle.iso_defs.specs.Cell.{cell_signs}
-use Rattle.iso_defs.specs.Bricks.{brick_point, cell_case, cells_along, is_mixed, row_cases}
+use Rattle.iso_defs.specs.Bricks.{brick_point, cell_case, cells_along, entries, is_mixed, row_cases}
 use Rattle.iso_base.specs.Shifted.{field}
 use Rattle.iso_base.specs.Volume.{Volume}
 use Rattle.mesh_cache.specs.Cache.{Cache}
 use Rattle.mesh_cache.specs.Economy.{is_fresh}
-use Rattle.stitch_rows.specs.Named.{Named}
+use Rattle.stitch_rows.specs.Named.{Named, counts_of_entries}
 
 -- a volume at a level, with what is kept of its bricks
 pub record Kept : Type 0 where
@@ -30,6 +30,7 @@ named_by k = record {
   grid = k.volume.grid;
   cases = λ brick y z. if is_fresh brick k.level k.cache.items then looped_cases k.volume.grid (field k.volume.samples k.level) brick y z
       else row_cases k.volume.grid (field k.volume.samples k.level) brick y z;
+  counts = λ brick. counts_of_entries (entries k.volume.grid (field k.volume.samples k.level) brick);
   kept = λ brick. is_fresh brick k.level k.cache.items;
 }
 

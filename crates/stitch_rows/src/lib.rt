@@ -15,7 +15,7 @@ pub use active::ActiveRow;
 pub use bricks::count_along;
 pub use cases::case_row;
 pub use field::Field;
-pub use named::CellRows;
+pub use named::{CellRows, Counts};
 pub use points::{
     PointRuns, ROW, RankedRow, Rows, flag_row, point_runs, rank_row, rows_at, set_first,
 };

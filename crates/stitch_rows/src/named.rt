@@ -1,5 +1,6 @@
 //! Who names the cases of cells.
-ghost use Rattle.std.specs.Prelude.{◌≡◌, ◌+◌, ◌≤◌};
+ghost use Rattle.std.specs.Prelude.{◌≡◌, ◌+◌, ◌*◌, ◌<◌, ◌≤◌};
+ghost use Rattle.iso_defs.specs.Bricks.{brick_count};
 ghost use Rattle.stitch_rows.specs.Named.{IsCellRow, Named, row_cost};
 
 use arrayvec::ArrayVec;
@@ -7,8 +8,15 @@ use brick_store::BrickId;
 use iso_base::Steps;
 use std::sync::ledger::Ledger;
 
+/// How many centres and how many triangles some cells have.
+#[derive(Clone, Copy)]
+pub struct Counts {
+    pub centres: u32,
+    pub faces: u32,
+}
+
 /// Who names the cases of the cells of a volume, by the rows of its bricks. It is seen as the grid, the case numbers that it
-/// names for each row of each brick, and which bricks it names as kept; no call changes these.
+/// names for each row of each brick, what it counts in each brick, and which bricks it names as kept; no call changes these.
 pub trait CellRows {
     ghost named: { Self → Named };
 
@@ -27,4 +35,13 @@ pub trait CellRows {
         ensures same { named self.new ≡ named self.old }
         ensures least { steps.old ≤ steps.new }
         ensures most { steps.new ≤ steps.old + row_cost (named self.old) brick.0 };
+
+    /// How many centres and triangles the cells of a brick have. It raises the counter by at most 512, and not at all for a
+    /// kept brick.
+    fn count<L: Ledger>(&mut self, brick: BrickId, steps: &mut Steps<L>) -> Counts
+        requires { brick.0 < brick_count (named self.old).grid }
+        ensures counts { result ≡ (named self.old).counts brick.0 }
+        ensures same { named self.new ≡ named self.old }
+        ensures least { steps.old ≤ steps.new }
+        ensures most { steps.new ≤ steps.old + 64 * row_cost (named self.old) brick.0 };
 }
