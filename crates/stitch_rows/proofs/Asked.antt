@@ -1,5 +1,5 @@
 -- How many bricks are asked.
-use Rattle.std.proofs.Common.{◌≡◌, ℕ, ◌+◌, ◌*◌, Bool, true, false, ◌&&◌, cond, not, [], ◌∙◌, ap, refl, arith, ℤ}
+use Rattle.std.proofs.Common.{◌≡◌, ℕ, zero, suc, ◌+◌, ◌*◌, ◌<◌, ◌≤◌, Bool, true, false, ◌&&◌, cond, not, [], ◌∙◌, ap, refl, arith, ℤ}
 use Rattle.std.specs.List.{count_by, range_with_len}
 use Rattle.iso_defs.specs.Grid.{Grid}
 use Rattle.iso_defs.specs.Bricks.{is_active}
@@ -33,3 +33,20 @@ asked_one g s names brick active =
 pub asked_none : (g : Grid) (s : ℕ → ℤ) (names : Named) (a : ℕ) → asked_among g s names a 0 ≡ 0
 unfolding asked_among
 asked_none g s names a = refl
+
+-- one that is not
+asked_not : (g : Grid) (s : ℕ → ℤ) (names : Named) (brick : ℕ) → is_active g s brick ≡ false → asked_among g s names brick 1 ≡ 0
+unfolding asked_among is_asked
+asked_not g s names brick still =
+    let one : asked_among g s names brick 1 ≡ cond (is_asked g s names brick) 1 0 = count-cons (is_asked g s names) brick [] ∙ omega arith in
+    one ∙ ap (λ b. cond (b && not (names.kept brick)) 1 0) still
+
+-- so many that are not
+pub asked_still : (g : Grid) (s : ℕ → ℤ) (names : Named) (n a : ℕ) → ((b : ℕ) → a ≤ b → b < a + n → is_active g s b ≡ false) → asked_among g s names a n ≡ 0
+asked_still g s names zero a still = asked_none g s names a
+asked_still g s names (suc n) a still =
+    let first = asked_not g s names a (still a (omega arith) (omega arith)) in
+    let rest = asked_still g s names n (a + 1) (λ b from low. still b (omega arith) (omega arith)) in
+    let both : asked_among g s names a (1 + n) ≡ asked_among g s names a 1 + asked_among g s names (a + 1) n = asked_more g s names a 1 n in
+    let count : suc n ≡ 1 + n = omega arith in
+    ap (asked_among g s names a) count ∙ omega (arith, both, first, rest)

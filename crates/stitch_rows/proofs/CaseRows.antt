@@ -76,19 +76,13 @@ module _ (v : Leveled) (is : IsGrid v.grid) (x y z : ℕ) (hx : 8 * x + 1 < v.gr
               subst (IsCaseOf v (index v.grid k y z)) (sym e) (subst (λ n. IsCaseOf v (index v.grid n y z) (get_or run i 0)) point (run_at i within)))
         ]
 
-  -- those of a brick that is not active
-  pub quiet_more : (start end : ℕ) (old new : List ℕ) → is_active v.grid (heights v) brick ≡ false → start ≡ 8 * x → end ≡ min (start + 8) v.grid.nx
-      → ((k : ℕ) → start ≤ k → k < end → get_or new k 0 ≡ 0) → ((k : ℕ) → k < start → get_or new k 0 ≡ get_or old k 0)
-      → AreCasesTo v y z (8 * x) old → AreCasesTo v y z (8 * x + 8) new
-  quiet_more start end old new quiet at to inside before cases k in_row low =
-      elim (cases_lt k (8 * x)) [
-        | inl earlier ↦ subst (IsCaseOf v (index v.grid k y z)) (sym (before k (omega arith))) (cases k in_row earlier)
-        | inr here ↦ (
-            let i : ℕ = k - 8 * x in
-            let point : 8 * x + i ≡ k = omega arith in
-            let wide : 8 * x + (i + 1) < v.grid.nx = omega arith in
-            let there = row_there v.grid is x y z hx y_in z_in held hold (i + 1) 1 1 wide hy hz in
-            let none = quiet_cell v brick i held.y held.z (index v.grid k y z) quiet (omega arith) (is_row.y_low) (is_row.z_low) there
-            (point_is v.grid is x y z hx y_in z_in held hold i ∙ ap (λ n. index v.grid n y z) point) in
-            subst (IsCaseOf v (index v.grid k y z)) (sym (inside k (omega arith) (omega arith))) (quiet_case v (index v.grid k y z) none))
-      ]
+  -- the cells of a brick that is not active have no loops, as case 0 has none
+  pub quiet_at : is_active v.grid (heights v) brick ≡ false → (k : ℕ) → k + 1 < v.grid.nx → 8 * x ≤ k → k < 8 * x + 8 → IsCaseOf v (index v.grid k y z) 0
+  quiet_at quiet k in_row from low =
+      let i : ℕ = k - 8 * x in
+      let point : 8 * x + i ≡ k = omega arith in
+      let wide : 8 * x + (i + 1) < v.grid.nx = omega arith in
+      let there = row_there v.grid is x y z hx y_in z_in held hold (i + 1) 1 1 wide hy hz in
+      let none = quiet_cell v brick i held.y held.z (index v.grid k y z) quiet (omega arith) (is_row.y_low) (is_row.z_low) there
+      (point_is v.grid is x y z hx y_in z_in held hold i ∙ ap (λ n. index v.grid n y z) point) in
+      quiet_case v (index v.grid k y z) none

@@ -5,6 +5,7 @@ pub mod CellCases
 pub mod CaseRows
 pub mod Heights
 pub mod NextBricks
+pub mod NextCases
 pub mod FlagRows
 pub mod RunFlags
 pub mod StillFlags

@@ -1,6 +1,6 @@
 -- The next active brick, found by a tree.
-use Rattle.std.proofs.Common.{◌≡◌, ℕ, ◌+◌, ◌-◌, ◌*◌, ◌/◌, ◌<◌, ◌≤◌, Bool, true, false, List, get_or, length, min, set, eqb, eq-eqb, sym, ◌∙◌, ap, subst, arith, inl, inr, ℤ, ◌^◌}
-use Rattle.std.proofs.lemmas.Bool.{cases_Bool, eqb-true}
+use Rattle.std.proofs.Common.{◌≡◌, ℕ, ◌+◌, ◌-◌, ◌*◌, ◌/◌, ◌<◌, ◌≤◌, false, List, get_or, length, min, set, sym, ◌∙◌, ap, subst, arith, inl, inr, ℤ, ◌^◌}
+use Rattle.std.proofs.lemmas.Bool.{cases_lt}
 use Rattle.std.proofs.lemmas.List.{get_or-set_other, get_or-set_same}
 use Rattle.std.proofs.Math.Nat.{mul-le-mul_left, mul-le-mul_right}
 use Rattle.iso_defs.specs.Grid.{Grid}
@@ -10,14 +10,12 @@ use Rattle.iso_base.specs.Sizing.{IsGrid}
 use Rattle.iso_base.specs.Volume.{Volume}
 use Rattle.flat_mesh.specs.Lattice.{Leveled, heights}
 use Rattle.brick_store.specs.Next.{IsFirst}
-use Rattle.std.proofs.lemmas.Bool.{cases_lt}
 use Rattle.stitch_rows.specs.declared.active.ActiveLayer.{ActiveLayer}
 use Rattle.stitch_rows.specs.declared.active.ActiveRow.{ActiveRow}
 use Rattle.stitch_rows.specs.declared.bricks.BrickRow.{BrickRow}
-use Rattle.stitch_rows.specs.Bricks.{AreMarked, AreMarkedTo, AreNextTo, HoldRow, IsActive, IsMarkedLayer, IsNextFrom, IsStill, brick_at, first_brick}
+use Rattle.stitch_rows.specs.Bricks.{AreMarked, AreNextTo, HoldRow, IsMarkedLayer, IsNextFrom, brick_at, first_brick}
 use Rattle.stitch_rows.specs.Rows.{at_level}
 use Rattle.stitch_rows.proofs.Places.{few_bricks, number_in}
-use Rattle.stitch_rows.proofs.QuietBricks.{clash}
 
 pub next_found : (v : Volume) (f : Leveled) (level : ℤ) (from brick : ℕ) → at_level v level ≡ f → IsFirst (is_active v.grid (field v.samples level)) from (brick_count v.grid) brick → IsNextFrom f.grid (heights f) from brick
 next_found v f level from brick same n =
@@ -31,7 +29,7 @@ none_found v f level from same grid low none =
     subst (λ (f : Leveled). IsNextFrom f.grid (heights f) from 4294967295) same
     (record { least = omega arith; active = λ known. absurd (omega arith); none_before = λ b least below known. none b least known })
 
--- a brick before the next active one is still, and it itself is active
+-- a brick before the next active one is passed
 pub next_later : (v : Leveled) (from next : ℕ) → IsNextFrom v.grid (heights v) from next → (next ≡ from → ⊥) → IsNextFrom v.grid (heights v) (from + 1) next
 next_later v from next is apart = record {
   least = let low = is.least in let high = cases_lt from next in elim high [ inl h ↦ omega arith | inr h ↦ absurd (apart (omega arith)) ];
@@ -39,37 +37,7 @@ next_later v from next is apart = record {
   none_before = λ b least below known. is.none_before b (omega arith) below known;
 }
 
-pub still_now : (v : Leveled) (from next : ℕ) → IsNextFrom v.grid (heights v) from next → (next ≡ from → ⊥) → from < brick_count v.grid → IsStill v from
-still_now v from next is apart known =
-    let low = is.least in
-    let less : from < next = elim (cases_lt from next) [ inl h ↦ h | inr h ↦ absurd (apart (omega arith)) ] in
-    record { is = is.none_before from (omega arith) less known }
-
-pub active_now : (v : Leveled) (from next : ℕ) → IsNextFrom v.grid (heights v) from next → next ≡ from → from < brick_count v.grid → IsActive v from
-active_now v from next is same known = record { is = subst (λ b. is_active v.grid (heights v) b ≡ true) same (is.active (omega arith)) }
-
--- what tells whether a brick is active
-mark_is : (v : Leveled) (brick next : ℕ) → IsNextFrom v.grid (heights v) brick next → brick < brick_count v.grid → eqb next brick ≡ is_active v.grid (heights v) brick
-mark_is v brick next is known = elim (cases_Bool (eqb next brick)) [
-  | inl t ↦ t ∙ sym ((active_now v brick next is (eqb-true _ _ t) known).is)
-  | inr f ↦ f ∙ sym ((still_now v brick next is (λ e. clash (eqb next brick) (eq-eqb next brick e) f) known).is)
-]
-
--- one mark more
-pub mark_more : (v : Leveled) (first x next : ℕ) (old : List Bool) → x < length old → IsNextFrom v.grid (heights v) (first + x) next → AreMarkedTo v first x old
-    → AreMarkedTo v first (x + 1) (set old x (eqb next (first + x)))
-mark_more v first x next old room is marks = record {
-  each = λ k low known. elim (cases_lt k x) [
-    | inl earlier ↦ get_or-set_other old x k (eqb next (first + x)) false (λ e. omega arith) ∙ marks.each k earlier known
-    | inr here ↦ (
-        let same : k ≡ x = omega arith in
-        let mark : get_or (set old x (eqb next (first + x))) x false ≡ is_active v.grid (heights v) (first + x)
-        = get_or-set_same old x (eqb next (first + x)) false room ∙ mark_is v (first + x) next is (subst (λ n. first + n < brick_count v.grid) same known) in
-        subst (λ n. get_or (set old x (eqb next (first + x))) n false ≡ is_active v.grid (heights v) (first + n)) (sym same) mark)
-  ];
-}
-
--- and one note more
+-- one note more
 pub note_more : (v : Leveled) (first x next : ℕ) (old : List ℕ) → x < length old → IsNextFrom v.grid (heights v) (first + x) next → AreNextTo v first x old
     → AreNextTo v first (x + 1) (set old x next)
 note_more v first x next old room is notes = record {
@@ -81,19 +49,6 @@ note_more v first x next old room is notes = record {
         (subst (IsNextFrom v.grid (heights v) (first + x)) (sym (get_or-set_same old x next 0 room)) is))
   ];
 }
-
--- what marks say
-pub marked_active : (v : Leveled) (row : ActiveRow) (first x : ℕ) → AreMarked v row → row.first ≡ first → x < bricks_along v.grid 0 → first + x < brick_count v.grid
-    → get_or row.layer.active (row.start + x) false ≡ true → IsActive v (first + x)
-marked_active v row first x marks same low known is =
-    let at : row.first + x ≡ first + x = ap (λ n. n + x) same in
-    record { is = ap (is_active v.grid (heights v)) (sym at) ∙ (sym (marks.each x low (subst (λ n. n < brick_count v.grid) (sym at) known)) ∙ is) }
-
-pub marked_still : (v : Leveled) (row : ActiveRow) (first x : ℕ) → AreMarked v row → row.first ≡ first → x < bricks_along v.grid 0 → first + x < brick_count v.grid
-    → get_or row.layer.active (row.start + x) false ≡ false → IsStill v (first + x)
-marked_still v row first x marks same low known is =
-    let at : row.first + x ≡ first + x = ap (λ n. n + x) same in
-    record { is = ap (is_active v.grid (heights v)) (sym at) ∙ (sym (marks.each x low (subst (λ n. n < brick_count v.grid) (sym at) known)) ∙ is) }
 
 -- the least active brick from one of a row on
 pub noted : (v : Leveled) (is : IsGrid v.grid) (row : ActiveRow) (y z : ℕ) (held : BrickRow) → y < v.grid.ny → z < v.grid.nz → HoldRow v.grid y z held → AreMarked v row
@@ -118,7 +73,7 @@ row_in_layer v is y z hy hz =
     let here : first_brick g y z ≡ bricks_along g 0 * at + bricks_along g 0 * layer = omega arith in
     (omega arith, omega arith)
 
--- a layer's marks say it of a row of its bricks
+-- a layer's notes say it of a row of its bricks
 pub row_marked : (v : Leveled) (is : IsGrid v.grid) (layer : ActiveLayer) (y z first start : ℕ) → y < v.grid.ny → z < v.grid.nz → IsMarkedLayer v layer
     → layer.first ≡ first_brick v.grid 0 z → first ≡ first_brick v.grid y z → start ≡ first - layer.first
     → AreMarked v (record { first = first; start = start; y = y / 8; z = z / 8; layer = layer })
@@ -130,13 +85,10 @@ row_marked v is layer y z first start hy hz are begin e at =
     let room = within.1 in
     record {
       layer = are;
-      each = λ x less known.
-          let same : layer.first + (start + x) ≡ first + x = omega arith in
-          are.marks.each (start + x) (omega arith) (subst (λ n. n < brick_count v.grid) (sym same) known) ∙ ap (is_active v.grid (heights v)) same;
       next = λ x less known.
           let same : layer.first + (start + x) ≡ first + x = omega arith in
           subst (λ n. IsNextFrom v.grid (heights v) n (get_or layer.next_from (start + x) 0)) same
-          (are.next.each (start + x) (omega arith) (subst (λ n. n < brick_count v.grid) (sym same) known));
+          (are.each (start + x) (omega arith) (subst (λ n. n < brick_count v.grid) (sym same) known));
       start = start_low (bricks_along v.grid 0) (bricks_along v.grid 1) start few_x few_y (omega arith);
       rows = λ y2 z2 hy2 hz2 ey ez. e ∙ eighths v.grid y z y2 z2 (sym ey) (sym ez);
     }

@@ -1,5 +1,5 @@
 -- The bricks that hold a row of points.
-use Rattle.std.specs.Prelude.{◌≡◌, ℕ, ◌+◌, ◌-◌, ◌*◌, ◌/◌, ◌<◌, ◌≤◌, ℤ, Bool, true, false, min, List, slice_index, slice_index_or}
+use Rattle.std.specs.Prelude.{◌≡◌, ℕ, ◌+◌, ◌-◌, ◌*◌, ◌/◌, ◌<◌, ◌≤◌, ℤ, true, false, min, List, slice_index}
 use Rattle.iso_defs.specs.Grid.{Grid}
 use Rattle.iso_defs.specs.Bricks.{brick_count, bricks_along, is_active}
 use Rattle.flat_mesh.specs.Lattice.{Leveled, heights}
@@ -36,35 +36,23 @@ pub record HoldRows (g : Grid) (y z : ℕ) (rows : Rows) : Type 0 where
 pub record IsActive (v : Leveled) (brick : ℕ) : Type 0 where
   pub is : is_active v.grid (heights v) brick ≡ true
 
--- a brick is not
-pub record IsStill (v : Leveled) (brick : ℕ) : Type 0 where
-  pub is : is_active v.grid (heights v) brick ≡ false
-
 -- the least active brick from a number on, or a number behind all bricks
 pub record IsNextFrom (g : Grid) (s : ℕ → ℤ) (from next : ℕ) : Type 0 where
   pub least : from ≤ next
   pub active : next < brick_count g → is_active g s next ≡ true
   pub none_before : (b : ℕ) → from ≤ b → b < next → b < brick_count g → is_active g s b ≡ false
 
--- these say which of the first bricks of a row of bricks are active
-pub record AreMarkedTo (v : Leveled) (first count : ℕ) (marks : List Bool) : Type 0 where
-  pub each : (x : ℕ) → x < count → first + x < brick_count v.grid → slice_index_or marks x false ≡ is_active v.grid (heights v) (first + x)
-
 -- these say of the first bricks which are the least active ones from them on
 pub record AreNextTo (v : Leveled) (first count : ℕ) (next : List ℕ) : Type 0 where
   pub each : (x : ℕ) → x < count → first + x < brick_count v.grid → IsNextFrom v.grid (heights v) (first + x) (slice_index next x)
 
--- both of all bricks of a layer
-pub record IsMarkedLayer (v : Leveled) (layer : ActiveLayer) : Type 0 where
-  pub marks : AreMarkedTo v layer.first (bricks_along v.grid 0 * bricks_along v.grid 1) layer.active
-  pub next : AreNextTo v layer.first (bricks_along v.grid 0 * bricks_along v.grid 1) layer.next_from
+-- these are noted for all bricks of a layer
+abbrev pub IsMarkedLayer : Leveled → ActiveLayer → Type 0
+IsMarkedLayer v layer = AreNextTo v layer.first (bricks_along v.grid 0 * bricks_along v.grid 1) layer.next_from
 
--- and which of them hold some rows of points
+-- and for those of them that hold some rows of points
 pub record AreMarked (v : Leveled) (marks : ActiveRow) : Type 0 where
   pub layer : IsMarkedLayer v marks.layer
-  pub each :
-      (x : ℕ) → x < bricks_along v.grid 0 → marks.first + x < brick_count v.grid
-      → slice_index_or marks.layer.active (marks.start + x) false ≡ is_active v.grid (heights v) (marks.first + x)
   pub next :
       (x : ℕ) → x < bricks_along v.grid 0 → marks.first + x < brick_count v.grid
       → IsNextFrom v.grid (heights v) (marks.first + x) (slice_index marks.layer.next_from (marks.start + x))

@@ -1,8 +1,8 @@
 //! Which bricks of a row of bricks are active.
-ghost use Rattle.std.specs.Prelude.{◌≡◌, ℕ, ◌+◌, ◌-◌, ◌*◌, ◌<◌, ◌≤◌, ◌^◌, false, length, slice_index, slice_index_or};
+ghost use Rattle.std.specs.Prelude.{◌≡◌, ℕ, ◌+◌, ◌-◌, ◌*◌, ◌<◌, ◌≤◌, ◌^◌, length, slice_index};
 ghost use Rattle.iso_base.specs.Sizing.{IsGrid};
 ghost use Rattle.flat_mesh.specs.Lattice.{Leveled, heights};
-ghost use Rattle.stitch_rows.specs.Bricks.{AreMarked, AreMarkedTo, AreNextTo, IsMarkedLayer, IsNextFrom, first_brick};
+ghost use Rattle.stitch_rows.specs.Bricks.{AreMarked, AreNextTo, IsMarkedLayer, IsNextFrom, first_brick};
 
 use crate::bricks::{BrickRow, count_along};
 use crate::field::Field;
@@ -11,17 +11,16 @@ use crate::field::Field;
 const LAYER: usize = 16_641;
 
 /// Which bricks are active of a layer of bricks, from the one numbered `first` on: those that hold points of one slice. For each of them
-/// the least active brick from it on is noted too.
+/// the least active brick from it on is noted: the brick itself where it is active.
 #[derive(Drop)]
 pub struct ActiveLayer {
     pub first: u32,
-    pub active: [bool; LAYER],
     pub next_from: [u32; LAYER],
 }
 
-/// Which bricks are active of those that stand one after the other along x, from the one numbered `first` on: their marks begin at
-/// `start` among those of their layer. They hold the rows of points of which an eighth of the coordinates is `y` and `z`. A walk comes
-/// back to the rows of a layer slice after slice, and looks for its active bricks once.
+/// Which bricks are active of those that stand one after the other along x, from the one numbered `first` on: their notes begin at
+/// `start` among those of their layer. They hold the rows of points whose coordinates y and z, divided by eight and rounded down, are
+/// `y` and `z`. A walk comes back to the rows of a layer slice after slice, and looks for its active bricks once.
 #[derive(Drop)]
 pub struct ActiveRow {
     pub first: u32,
@@ -45,19 +44,16 @@ fn next_behind(field: &Field, brick: u32, next: u32) -> u32
     }
 }
 
-/// Marks which are active of so many bricks from a number on, and notes for each the least active one from it on.
-fn mark_bricks(field: &Field, first: u32, count: u32, active: &mut [bool], next_from: &mut [u32])
+/// Notes for each of so many bricks from a number on the least active one from it on.
+fn mark_bricks(field: &Field, first: u32, count: u32, next_from: &mut [u32])
     requires count { count ≤ 129 * 129 }
-    requires room { count ≤ length active.old }
-    requires space { count ≤ length next_from.old }
+    requires room { count ≤ length next_from.old }
     requires first { first ≤ 129 * 129 * 129 }
-    ensures marks { AreMarkedTo field.now first count active.new }
-    ensures next { AreNextTo field.now first count next_from.new }
+    ensures { AreNextTo field.now first count next_from.new }
 {
     let mut next = field.next_active(first);
     for x in 0..count {
         let brick = first + x;
-        active[x as usize] = next == brick;
         next_from[x as usize] = next;
         next = next_behind(field, brick, next);
     }
@@ -77,13 +73,7 @@ fn mark_layer(field: &Field, z: u32, layer: &mut ActiveLayer)
     }
     layer.first = row.first;
     let count = count_along(sizes.nx()) * count_along(sizes.ny());
-    mark_bricks(
-        field,
-        row.first,
-        count,
-        &mut layer.active,
-        &mut layer.next_from,
-    );
+    mark_bricks(field, row.first, count, &mut layer.next_from);
 }
 
 impl ActiveRow {
@@ -98,7 +88,6 @@ impl ActiveRow {
             z: u32::MAX,
             layer: ActiveLayer {
                 first: u32::MAX,
-                active: [false; LAYER],
                 next_from: [0; LAYER],
             },
         }
@@ -145,15 +134,5 @@ impl ActiveRow {
         ensures { self.now.first + result ≡ slice_index self.now.layer.next_from (self.now.start + x) }
     {
         self.layer.next_from[self.start + x as usize] - self.first
-    }
-
-    /// Whether the brick at a place of the row is active.
-    #[inline(always)]
-    pub(crate) fn is_active(&self, x: u32) -> bool
-        requires x { x < 129 }
-        requires start { self.now.start ≤ 129 * 128 }
-        ensures { result ≡ slice_index_or self.now.layer.active (self.now.start + x) false }
-    {
-        self.layer.active[self.start + x as usize]
     }
 }

@@ -69,43 +69,8 @@ fn active_cases<R: CellRows, L: Ledger>(
     put_run(run.as_slice(), 8 * x as usize, cases);
 }
 
-/// Writes the cases of the cells of a row that a brick has: those from 8 * x on, where zeros stand. A brick that is not active
-/// has no loops, and leaves them.
-fn brick_cases<R: CellRows, L: Ledger>(
-    field: &Field,
-    active: &ActiveRow,
-    rows: &mut R,
-    row: BrickRow,
-    x: u32,
-    y: u32,
-    z: u32,
-    cases: &mut [u16],
-    steps: &mut Steps<L>,
-)
-    requires active { AreMarked field.now active.now }
-    requires first { active.now.first ≡ row.first }
-    requires x { 8 * x + 1 < field.now.grid.nx }
-    requires y { y + 1 < field.now.grid.ny }
-    requires z { z + 1 < field.now.grid.nz }
-    requires row { HoldRow field.now.grid y z row }
-    requires cases { length cases.old ≡ field.now.grid.nx }
-    requires named { NamesCases (R.named rows.old) field.now.grid (heights field.now) }
-    requires before { AreCasesTo field.now y z (8 * x) cases.old }
-    requires zeros { AreZerosFrom (8 * x) cases.old }
-    ensures cases { AreCasesTo field.now y z (8 * x + 8) cases.new }
-    ensures zeros { AreZerosFrom (8 * x + 8) cases.new }
-    ensures same { R.named rows.new ≡ R.named rows.old }
-    ensures least { steps.old ≤ steps.new }
-    ensures most { steps.new ≤ steps.old + 8 * asked_among field.now.grid (heights field.now) (R.named rows.old) (row.first + x) 1 }
-{
-    let _ = field.sizes();
-    if active.is_active(x) {
-        active_cases(field, rows, row, x, y, z, cases, steps);
-    }
-}
-
 /// Writes for each cell of a row the number of a case that has its loops. It asks for each row of an active brick once, and
-/// for no row of another one.
+/// for no row of another one: the cells of a brick that is not active have no loops, so that it goes from one active brick to the next.
 pub fn case_row<R: CellRows, L: Ledger>(
     field: &Field,
     active: &ActiveRow,
@@ -128,8 +93,14 @@ pub fn case_row<R: CellRows, L: Ledger>(
 {
     let sizes = field.sizes();
     let row = BrickRow::of_cells(&sizes, y, z);
+    let last = count_along(sizes.nx()) - 1;
     put_zeros(cases);
-    for x in 0..count_along(sizes.nx()) {
-        brick_cases(field, active, rows, row, x, y, z, cases, steps);
+    let mut x = active.next(0);
+    while x < last {
+        active_cases(field, rows, row, x, y, z, cases, steps);
+        x = active.next(x + 1);
+    }
+    if x == last {
+        active_cases(field, rows, row, last, y, z, cases, steps);
     }
 }

@@ -1,7 +1,7 @@
 use Rattle.std.proofs.Common.{◌≡◌, ◌+◌, ◌*◌, ◌<◌, ◌∙◌, ap, ap₂, subst, arith}
 use Rattle.iso_defs.specs.Bricks.{bricks_along}
 use Rattle.iso_defs.specs.Grid.{Grid}
-use Rattle.stitch_rows.specs.Bricks.{AreMarkedTo, AreNextTo, first_brick}
+use Rattle.stitch_rows.specs.Bricks.{AreNextTo, first_brick}
 use Rattle.stitch_rows.proofs.NextBricks.{few_in_layer}
 use Rattle.stitch_rows.proofs.Places.{brick_in, few_bricks}
 use Rattle.stitch_rows.proofs.active.mark_layer.Goals as goal
@@ -21,15 +21,9 @@ mark_bricks-requires-clause-count c = few_in_layer c.count_along.result c.count_
 pub mark_bricks-requires-clause-room : goal.mark_bricks-requires-clause-room
 mark_bricks-requires-clause-room c = omega (arith, few_in_layer c.count_along.result c.count_along-2.result c.count_along.ensures.bound c.count_along-2.ensures.bound)
 
-pub mark_bricks-requires-clause-space : goal.mark_bricks-requires-clause-space
-mark_bricks-requires-clause-space c = omega (arith, few_in_layer c.count_along.result c.count_along-2.result c.count_along.ensures.bound c.count_along-2.ensures.bound)
-
 pub returns-clause-marked : goal.returns-clause-marked
 returns-clause-marked c =
     let v = c.args.field.now in
     let x : c.count_along.result ≡ bricks_along v.grid 0 = omega (arith, c.count_along.ensures.value, c.nx.ensures.value, ap (λ (g : Grid). g.nx) c.sizes-sizes.ensures.value) in
     let y : c.count_along-2.result ≡ bricks_along v.grid 1 = omega (arith, c.count_along-2.ensures.value, c.ny.ensures.value, ap (λ (g : Grid). g.ny) c.sizes-sizes.ensures.value) in
-    record {
-      marks = subst (λ n. AreMarkedTo v c.of-row.result.first n c.mark_bricks.new.active) (ap₂ ◌*◌ x y) c.mark_bricks.ensures.marks;
-      next = subst (λ n. AreNextTo v c.of-row.result.first n c.mark_bricks.new.next_from) (ap₂ ◌*◌ x y) c.mark_bricks.ensures.next;
-    }
+    subst (λ n. AreNextTo v c.of-row.result.first n c.mark_bricks.new.next_from) (ap₂ ◌*◌ x y) c.mark_bricks.ensures

@@ -1,49 +1,170 @@
-use Rattle.std.proofs.Common.{◌≡◌, ◌+◌, ◌*◌, ◌≤◌, sym, subst, ap, ◌∙◌, arith, refl}
+use Rattle.std.proofs.Common.{◌≡◌, ℕ, ◌+◌, ◌-◌, ◌*◌, ◌<◌, ◌≤◌, length, min, sym, subst, ap, ◌∙◌, arith, refl}
 use Rattle.iso_defs.specs.Bricks.{bricks_along}
 use Rattle.iso_defs.specs.Grid.{Grid}
 use Rattle.flat_mesh.specs.Lattice.{heights}
-use Rattle.stitch_rows.specs.Bricks.{first_brick}
+use Rattle.stitch_rows.specs.Bricks.{HoldRow, IsActive}
 use Rattle.stitch_rows.specs.Named.{Named, NamesCases, asked_among}
+use Rattle.stitch_rows.specs.Rows.{AreCasesTo, AreZerosFrom}
 use Rattle.stitch_rows.proofs.Asked.{asked_more}
+use Rattle.stitch_rows.proofs.NextCases.{asked_all, asked_to, is_active_at, least_of, next_is, quiet_more}
 use Rattle.stitch_rows.proofs.cases.case_row.Goals as goal
+
+-- where a place of a row is the lesser one
+at_place : (x n : ℕ) → x ≤ n → min x n ≡ x
+at_place x n low = omega arith
+
+pub next-x-requires-clause-least : goal.next-x-requires-clause-least
+next-x-requires-clause-least g c =
+    let v = c.args.field.now in
+    let grid = c.sizes-sizes.ensures.leveled.grid in
+    let row = c.of_cells-row.result in
+    let hold = subst (λ (g : Grid). HoldRow g c.args.y c.args.z row) c.sizes-sizes.ensures.value c.of_cells-row.ensures in
+    let some : 0 < bricks_along v.grid 0 = let least = grid.x.least in omega arith in
+    least_of v grid c.args.y c.args.z c.requires.y c.requires.z row hold c.args.active.now c.requires.active c.requires.first 0 some
 
 pub loop-x-init : goal.loop-x-init
 loop-x-init g c =
+    let v = c.args.field.now in
+    let grid = c.sizes-sizes.ensures.leveled.grid in
+    let row = c.of_cells-row.result in
+    let hold = subst (λ (g : Grid). HoldRow g c.args.y c.args.z row) c.sizes-sizes.ensures.value c.of_cells-row.ensures in
+    let some : 0 < bricks_along v.grid 0 = let least = grid.x.least in omega arith in
+    let next = next_is v grid c.args.y c.args.z c.requires.y c.requires.z row hold c.args.active.now c.requires.active c.requires.first 0 c.next-x.result some c.next-x.ensures in
+    let zeros = c.put_zeros.ensures in
+    let long : length c.put_zeros.new.out ≡ v.grid.nx = omega (arith, c.put_zeros.auto.out, c.requires.cases) in
     record {
-      cases = λ x in_row low. absurd (omega arith);
-      zeros = λ k from low. c.put_zeros.ensures k (omega arith) low;
+      active = λ known. record { is = next.active known };
+      cases = quiet_more v grid c.args.y c.args.z c.requires.y c.requires.z row hold 0 c.next-x.result c.put_zeros.new.out next long
+          (λ k from low. zeros k (omega arith) low) (λ k in_row low. absurd (omega arith));
+      zeros = λ k from low. zeros k (omega arith) low;
       same = refl;
       least = omega arith;
       most = omega arith;
     }
 
-pub brick_cases-requires-clause-named : goal.brick_cases-requires-clause-named
-brick_cases-requires-clause-named g c = subst (λ (names : Named). NamesCases names c.args.field.now.grid (heights c.args.field.now)) (sym c.loop-x.invariant.same) c.requires.named
+pub active_cases-requires-clause-active : goal.active_cases-requires-clause-active
+active_cases-requires-clause-active g c =
+    let v = c.args.field.now in
+    let grid = c.sizes-sizes.ensures.leveled.grid in
+    let row = c.of_cells-row.result in
+    let hold = subst (λ (g : Grid). HoldRow g c.args.y c.args.z row) c.sizes-sizes.ensures.value c.of_cells-row.ensures in
+    let count : c.count_along-last.result ≡ bricks_along v.grid 0
+    = omega (arith, c.count_along-last.ensures.value, c.nx.ensures.value, ap (λ (g : Grid). g.nx) c.sizes-sizes.ensures.value) in
+    is_active_at v grid c.args.y c.args.z c.requires.y c.requires.z row hold c.loop-x.x (omega (arith, count, c.loop-x-test.true)) c.loop-x.invariant.active
+
+pub next-x-requires-in-loop-x-clause-least : goal.next-x-requires-in-loop-x-clause-least
+next-x-requires-in-loop-x-clause-least g c =
+    let v = c.args.field.now in
+    let grid = c.sizes-sizes.ensures.leveled.grid in
+    let row = c.of_cells-row.result in
+    let hold = subst (λ (g : Grid). HoldRow g c.args.y c.args.z row) c.sizes-sizes.ensures.value c.of_cells-row.ensures in
+    let count : c.count_along-last.result ≡ bricks_along v.grid 0
+    = omega (arith, c.count_along-last.ensures.value, c.nx.ensures.value, ap (λ (g : Grid). g.nx) c.sizes-sizes.ensures.value) in
+    let low : c.loop-x.x + 1 < bricks_along v.grid 0 = omega (arith, count, c.loop-x-test.true) in
+    least_of v grid c.args.y c.args.z c.requires.y c.requires.z row hold c.args.active.now c.requires.active c.requires.first (c.loop-x.x + 1) low
+
+pub loop-x-smaller : goal.loop-x-smaller
+loop-x-smaller g c =
+    let v = c.args.field.now in
+    let grid = c.sizes-sizes.ensures.leveled.grid in
+    let row = c.of_cells-row.result in
+    let hold = subst (λ (g : Grid). HoldRow g c.args.y c.args.z row) c.sizes-sizes.ensures.value c.of_cells-row.ensures in
+    let count : c.count_along-last.result ≡ bricks_along v.grid 0
+    = omega (arith, c.count_along-last.ensures.value, c.nx.ensures.value, ap (λ (g : Grid). g.nx) c.sizes-sizes.ensures.value) in
+    let low : c.loop-x.x + 1 < bricks_along v.grid 0 = omega (arith, count, c.loop-x-test.true) in
+    let next = next_is v grid c.args.y c.args.z c.requires.y c.requires.z row hold c.args.active.now c.requires.active c.requires.first (c.loop-x.x + 1) c.next-x-in-loop-x.result low c.next-x-in-loop-x.ensures in
+    omega (arith, next.least, c.loop-x-test.true)
 
 pub loop-x-preserved : goal.loop-x-preserved
 loop-x-preserved g c =
     let v = c.args.field.now in
-    let first = c.of_cells-row.result.first in
+    let grid = c.sizes-sizes.ensures.leveled.grid in
+    let row = c.of_cells-row.result in
+    let hold = subst (λ (g : Grid). HoldRow g c.args.y c.args.z row) c.sizes-sizes.ensures.value c.of_cells-row.ensures in
+    let count : c.count_along-last.result ≡ bricks_along v.grid 0
+    = omega (arith, c.count_along-last.ensures.value, c.nx.ensures.value, ap (λ (g : Grid). g.nx) c.sizes-sizes.ensures.value) in
+    let names : Named = g.R.CellRows.named c.args.rows.now in
     let x = c.loop-x.x in
+    let low : c.loop-x.x + 1 < bricks_along v.grid 0 = omega (arith, count, c.loop-x-test.true) in
+    let next = next_is v grid c.args.y c.args.z c.requires.y c.requires.z row hold c.args.active.now c.requires.active c.requires.first (c.loop-x.x + 1) c.next-x-in-loop-x.result low c.next-x-in-loop-x.ensures in
+    let further : c.loop-x.x + 1 ≤ c.next-x-in-loop-x.result = let least = next.least in omega arith in
+    let behind : 8 * c.loop-x.x + 8 ≡ 8 * (c.loop-x.x + 1) = omega arith in
+    let long : length c.active_cases.new.cases ≡ v.grid.nx = omega (arith, c.active_cases.auto.cases, c.loop-x.auto.cases, c.put_zeros.auto.out, c.requires.cases) in
     let same = c.loop-x.invariant.same in
-    let more = asked_more v.grid (heights v) (g.R.CellRows.named c.args.rows.now) first x 1 in
-    let one = subst (λ (names : Named). c.brick_cases.new.steps ≤ c.loop-x.steps + 8 * asked_among v.grid (heights v) names (first + x) 1) same c.brick_cases.ensures.most in
+    let one = subst (λ (names : Named). c.active_cases.new.steps ≤ c.loop-x.steps + 8 * asked_among v.grid (heights v) names (row.first + x) 1) same c.active_cases.ensures.most in
+    let here = ap (asked_among v.grid (heights v) names row.first) (sym (at_place x (bricks_along v.grid 0) (omega (arith, low)))) in
     record {
-      cases = λ k in_row low. c.brick_cases.ensures.cases k in_row (omega arith);
-      zeros = λ k from low. c.brick_cases.ensures.zeros k (omega arith) low;
-      same = c.brick_cases.ensures.same ∙ same;
-      least = omega (arith, c.loop-x.invariant.least, c.brick_cases.ensures.least);
-      most = omega (arith, more, one, c.loop-x.invariant.most);
+      active = λ known. record { is = next.active known };
+      cases = quiet_more v grid c.args.y c.args.z c.requires.y c.requires.z row hold (c.loop-x.x + 1) c.next-x-in-loop-x.result c.active_cases.new.cases next long
+          (subst (λ n. AreZerosFrom n c.active_cases.new.cases) behind c.active_cases.ensures.zeros)
+          (subst (λ n. AreCasesTo v c.args.y c.args.z n c.active_cases.new.cases) behind c.active_cases.ensures.cases);
+      zeros = λ k from low. c.active_cases.ensures.zeros k (omega (arith, from, further)) low;
+      same = c.active_cases.ensures.same ∙ same;
+      least = omega (arith, c.loop-x.invariant.least, c.active_cases.ensures.least);
+      most = omega (
+        arith,
+        asked_to v grid c.args.y c.args.z c.requires.y c.requires.z row hold names (c.loop-x.x + 1) c.next-x-in-loop-x.result (omega (arith, low)) next,
+        asked_more v.grid (heights v) names row.first x 1,
+        one,
+        here,
+        c.loop-x.invariant.most,
+      );
     }
 
-pub returns-clause-cases : goal.returns-clause-cases
-returns-clause-cases g c = λ x in_row low.
-    c.loop-x.invariant.cases x in_row (omega (arith, c.loop-x-test.false, c.count_along-x-end.ensures.value, c.nx.ensures.value, ap (λ (g : Grid). g.nx) c.sizes-sizes.ensures.value))
-
-pub returns-clause-most : goal.returns-clause-most
-returns-clause-most g c =
+pub active_cases-requires-then-x-last-clause-active : goal.active_cases-requires-then-x-last-clause-active
+active_cases-requires-then-x-last-clause-active g c =
     let v = c.args.field.now in
-    let count : c.loop-x.x ≡ bricks_along v.grid 0
-    = omega (arith, c.loop-x-test.false, c.loop-x.auto.x-end, c.count_along-x-end.ensures.value, c.nx.ensures.value, ap (λ (g : Grid). g.nx) c.sizes-sizes.ensures.value) in
-    let a = subst (λ n. c.loop-x.steps ≤ c.args.steps.now + 8 * asked_among v.grid (heights v) (g.R.CellRows.named c.args.rows.now) c.of_cells-row.result.first n) count c.loop-x.invariant.most in
-    subst (λ n. c.loop-x.steps ≤ c.args.steps.now + 8 * asked_among v.grid (heights v) (g.R.CellRows.named c.args.rows.now) n (bricks_along v.grid 0)) (c.of_cells-row.ensures.first ∙ ap (λ (g : Grid). first_brick g c.args.y c.args.z) c.sizes-sizes.ensures.value) a
+    let grid = c.sizes-sizes.ensures.leveled.grid in
+    let row = c.of_cells-row.result in
+    let hold = subst (λ (g : Grid). HoldRow g c.args.y c.args.z row) c.sizes-sizes.ensures.value c.of_cells-row.ensures in
+    let count : c.count_along-last.result ≡ bricks_along v.grid 0
+    = omega (arith, c.count_along-last.ensures.value, c.nx.ensures.value, ap (λ (g : Grid). g.nx) c.sizes-sizes.ensures.value) in
+    subst (λ n. IsActive v (row.first + n)) c.if-x-last.true
+    (is_active_at v grid c.args.y c.args.z c.requires.y c.requires.z row hold c.loop-x.x (omega (arith, count, c.if-x-last.true)) c.loop-x.invariant.active)
+
+pub active_cases-requires-then-x-last-clause-before : goal.active_cases-requires-then-x-last-clause-before
+active_cases-requires-then-x-last-clause-before g c =
+    subst (λ n. AreCasesTo c.args.field.now c.args.y c.args.z (8 * n) c.loop-x.cases) c.if-x-last.true c.loop-x.invariant.cases
+
+pub active_cases-requires-then-x-last-clause-zeros : goal.active_cases-requires-then-x-last-clause-zeros
+active_cases-requires-then-x-last-clause-zeros g c = subst (λ n. AreZerosFrom (8 * n) c.loop-x.cases) c.if-x-last.true c.loop-x.invariant.zeros
+
+pub returns-then-x-last-clause-cases : goal.returns-then-x-last-clause-cases
+returns-then-x-last-clause-cases g c = λ x in_row low.
+    let size = ap (λ (g : Grid). g.nx) c.sizes-sizes.ensures.value in
+    c.active_cases-then-x-last.ensures.cases x in_row (omega (arith, c.count_along-last.ensures.value, c.nx.ensures.value, size))
+
+pub returns-then-x-last-clause-most : goal.returns-then-x-last-clause-most
+returns-then-x-last-clause-most g c =
+    let v = c.args.field.now in
+    let grid = c.sizes-sizes.ensures.leveled.grid in
+    let row = c.of_cells-row.result in
+    let hold = subst (λ (g : Grid). HoldRow g c.args.y c.args.z row) c.sizes-sizes.ensures.value c.of_cells-row.ensures in
+    let count : c.count_along-last.result ≡ bricks_along v.grid 0
+    = omega (arith, c.count_along-last.ensures.value, c.nx.ensures.value, ap (λ (g : Grid). g.nx) c.sizes-sizes.ensures.value) in
+    let names : Named = g.R.CellRows.named c.args.rows.now in
+    let last = c.count_along-last.result - 1 in
+    let same = c.loop-x.invariant.same in
+    let one = subst (λ (names : Named). c.active_cases-then-x-last.new.steps ≤ c.loop-x.steps + 8 * asked_among v.grid (heights v) names (row.first + last) 1) same
+    c.active_cases-then-x-last.ensures.most in
+    let here = ap (asked_among v.grid (heights v) names row.first) (at_place c.loop-x.x (bricks_along v.grid 0) (omega (arith, count, c.if-x-last.true)) ∙ c.if-x-last.true) in
+    let all = asked_all v grid c.args.y c.args.z c.requires.y c.requires.z row hold names (last + 1) (omega (arith, count, c.count_along-last.ensures.value, c.nx.ensures.grid)) in
+    omega (arith, asked_more v.grid (heights v) names row.first last 1, one, here, all, c.loop-x.invariant.most)
+
+pub returns-else-x-last-clause-cases : goal.returns-else-x-last-clause-cases
+returns-else-x-last-clause-cases g c = λ x in_row low.
+    let size = ap (λ (g : Grid). g.nx) c.sizes-sizes.ensures.value in
+    let beyond : c.count_along-last.result - 1 < c.loop-x.x = omega (arith, c.loop-x-test.false, c.if-x-last.false) in
+    c.loop-x.invariant.cases x in_row (omega (arith, beyond, c.count_along-last.ensures.value, c.nx.ensures.value, size))
+
+pub returns-else-x-last-clause-most : goal.returns-else-x-last-clause-most
+returns-else-x-last-clause-most g c =
+    let v = c.args.field.now in
+    let grid = c.sizes-sizes.ensures.leveled.grid in
+    let row = c.of_cells-row.result in
+    let hold = subst (λ (g : Grid). HoldRow g c.args.y c.args.z row) c.sizes-sizes.ensures.value c.of_cells-row.ensures in
+    let count : c.count_along-last.result ≡ bricks_along v.grid 0
+    = omega (arith, c.count_along-last.ensures.value, c.nx.ensures.value, ap (λ (g : Grid). g.nx) c.sizes-sizes.ensures.value) in
+    let names : Named = g.R.CellRows.named c.args.rows.now in
+    let all : min c.loop-x.x (bricks_along v.grid 0) ≡ bricks_along v.grid 0 = omega (arith, count, c.loop-x-test.false, c.if-x-last.false) in
+    omega (arith, asked_all v grid c.args.y c.args.z c.requires.y c.requires.z row hold names (min c.loop-x.x (bricks_along v.grid 0)) all, c.loop-x.invariant.most)

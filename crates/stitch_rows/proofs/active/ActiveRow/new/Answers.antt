@@ -4,11 +4,7 @@ use Rattle.stitch_rows.proofs.active.ActiveRow.new.Goals as goal
 
 pub returns : goal.returns
 returns c = λ v is. record {
-  layer = record {
-    marks = record { each = λ x low known. absurd (let few = few_bricks v.grid is in omega arith) };
-    next = record { each = λ x low known. absurd (let few = few_bricks v.grid is in omega arith) };
-  };
-  each = λ x low known. absurd (let few = few_bricks v.grid is in omega arith);
+  layer = record { each = λ x low known. absurd (let few = few_bricks v.grid is in omega arith) };
   next = λ x low known. absurd (let few = few_bricks v.grid is in omega arith);
   start = omega arith;
   rows = λ y z hy hz ey ez. absurd (let most = is.y.most in omega arith);
