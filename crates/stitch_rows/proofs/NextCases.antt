@@ -45,7 +45,8 @@ module _ (v : Leveled) (is : IsGrid v.grid) (y z : ℕ) (hy : y + 1 < v.grid.ny)
         let x : ℕ = k / 8 in
         let wide : 8 * x + 1 < v.grid.nx = omega arith in
         let still = next.none_before (held.first + x) (omega arith) (omega arith) (known x (omega arith)) in
-        subst (IsCaseOf v (index v.grid k y z)) (sym (zeros k from (omega arith))) (quiet_at v is x y z wide hy hz held hold still k in_row (omega arith) (omega arith)))
+        let quiet = quiet_at v is x y z wide hy hz held hold still k in_row (omega arith) (omega arith) in
+        subst (IsCaseOf v (index v.grid k y z)) (sym (zeros k from (omega arith))) quiet)
   ]
 
   -- between two such places no brick is asked
@@ -63,6 +64,7 @@ module _ (v : Leveled) (is : IsGrid v.grid) (y z : ℕ) (hy : y + 1 < v.grid.ny)
       let more = asked_more v.grid (heights v) names held.first a m in
       ap (asked_among v.grid (heights v) names held.first) (sym there) ∙ omega (arith, more, none)
 
-  pub asked_all : (names : Named) (n : ℕ) → n ≡ bricks_along v.grid 0 → asked_among v.grid (heights v) names held.first n ≡ asked_along v.grid (heights v) names y z
+  pub asked_all : (names : Named) (n : ℕ) → n ≡ bricks_along v.grid 0
+      → asked_among v.grid (heights v) names held.first n ≡ asked_along v.grid (heights v) names y z
   asked_all names n all =
       ap (asked_among v.grid (heights v) names held.first) all ∙ ap (λ b. asked_among v.grid (heights v) names b (bricks_along v.grid 0)) hold.first

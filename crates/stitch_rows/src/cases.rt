@@ -12,6 +12,7 @@ use crate::named::CellRows;
 use arrayvec::ArrayVec;
 use brick_store::BrickId;
 use iso_base::Steps;
+use std::simd::prelude::*;
 use std::sync::ledger::Ledger;
 
 /// Writes a run of numbers from a place on.
@@ -22,9 +23,10 @@ fn put_run(run: &[u16], start: usize, out: &mut [u16])
     ensures before { (k : ℕ) → k < start → slice_index out.new k ≡ slice_index out.old k }
     ensures behind { (k : ℕ) → start + length run.now ≤ k → slice_index out.new k ≡ slice_index out.old k }
 {
-    // Eight numbers are copied without a call.
+    // Eight numbers, as nearly all runs have, are all read before the first is written: by one load and one store, without a call
+    // and without a test whether the two lots overlap.
     if run.len() == 8 {
-        out[start..start + 8].copy_from_slice(&run[..8]);
+        u16x8::from_slice(run).copy_to_slice(&mut out[start..start + 8]);
         return;
     }
     out[start..start + run.len()].copy_from_slice(run);

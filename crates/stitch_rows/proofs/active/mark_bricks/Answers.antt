@@ -16,7 +16,8 @@ pub loop-x-preserved : goal.loop-x-preserved
 loop-x-preserved c =
     let v = c.args.field.now in
     let behind : c.args.first + c.loop-x.x + 1 ≡ c.args.first + (c.loop-x.x + 1) = omega arith in
-    let room : c.loop-x.x < length c.loop-x.next_from = omega (arith, c.loop-x-test.true, c.requires.count, c.loop-x.auto.x-end, c.loop-x.auto.next_from, c.requires.room) in
+    let room : c.loop-x.x < length c.loop-x.next_from
+    = omega (arith, c.loop-x-test.true, c.requires.count, c.loop-x.auto.x-end, c.loop-x.auto.next_from, c.requires.room) in
     record {
       next = subst (λ n. IsNextFrom v.grid (heights v) n c.next_behind-next.result) behind c.next_behind-next.ensures;
       noted = note_more v c.args.first c.loop-x.x c.loop-x.next c.loop-x.next_from room c.loop-x.invariant.next c.loop-x.invariant.noted;

@@ -3,7 +3,7 @@ use Rattle.iso_defs.specs.Bricks.{bricks_along}
 use Rattle.iso_defs.specs.Grid.{Grid}
 use Rattle.flat_mesh.specs.Lattice.{heights}
 use Rattle.stitch_rows.specs.Bricks.{HoldRow, IsActive}
-use Rattle.stitch_rows.specs.Named.{Named, NamesCases, asked_among}
+use Rattle.stitch_rows.specs.Named.{Named, asked_among}
 use Rattle.stitch_rows.specs.Rows.{AreCasesTo, AreZerosFrom}
 use Rattle.stitch_rows.proofs.Asked.{asked_more}
 use Rattle.stitch_rows.proofs.NextCases.{asked_all, asked_to, is_active_at, least_of, next_is, quiet_more}
@@ -29,7 +29,8 @@ loop-x-init g c =
     let row = c.of_cells-row.result in
     let hold = subst (λ (g : Grid). HoldRow g c.args.y c.args.z row) c.sizes-sizes.ensures.value c.of_cells-row.ensures in
     let some : 0 < bricks_along v.grid 0 = let least = grid.x.least in omega arith in
-    let next = next_is v grid c.args.y c.args.z c.requires.y c.requires.z row hold c.args.active.now c.requires.active c.requires.first 0 c.next-x.result some c.next-x.ensures in
+    let next = next_is v grid c.args.y c.args.z c.requires.y c.requires.z row hold c.args.active.now c.requires.active c.requires.first
+    0 c.next-x.result some c.next-x.ensures in
     let zeros = c.put_zeros.ensures in
     let long : length c.put_zeros.new.out ≡ v.grid.nx = omega (arith, c.put_zeros.auto.out, c.requires.cases) in
     record {
@@ -72,7 +73,8 @@ loop-x-smaller g c =
     let count : c.count_along-last.result ≡ bricks_along v.grid 0
     = omega (arith, c.count_along-last.ensures.value, c.nx.ensures.value, ap (λ (g : Grid). g.nx) c.sizes-sizes.ensures.value) in
     let low : c.loop-x.x + 1 < bricks_along v.grid 0 = omega (arith, count, c.loop-x-test.true) in
-    let next = next_is v grid c.args.y c.args.z c.requires.y c.requires.z row hold c.args.active.now c.requires.active c.requires.first (c.loop-x.x + 1) c.next-x-in-loop-x.result low c.next-x-in-loop-x.ensures in
+    let next = next_is v grid c.args.y c.args.z c.requires.y c.requires.z row hold c.args.active.now c.requires.active c.requires.first
+    (c.loop-x.x + 1) c.next-x-in-loop-x.result low c.next-x-in-loop-x.ensures in
     omega (arith, next.least, c.loop-x-test.true)
 
 pub loop-x-preserved : goal.loop-x-preserved
@@ -86,16 +88,20 @@ loop-x-preserved g c =
     let names : Named = g.R.CellRows.named c.args.rows.now in
     let x = c.loop-x.x in
     let low : c.loop-x.x + 1 < bricks_along v.grid 0 = omega (arith, count, c.loop-x-test.true) in
-    let next = next_is v grid c.args.y c.args.z c.requires.y c.requires.z row hold c.args.active.now c.requires.active c.requires.first (c.loop-x.x + 1) c.next-x-in-loop-x.result low c.next-x-in-loop-x.ensures in
+    let next = next_is v grid c.args.y c.args.z c.requires.y c.requires.z row hold c.args.active.now c.requires.active c.requires.first
+    (c.loop-x.x + 1) c.next-x-in-loop-x.result low c.next-x-in-loop-x.ensures in
     let further : c.loop-x.x + 1 ≤ c.next-x-in-loop-x.result = let least = next.least in omega arith in
     let behind : 8 * c.loop-x.x + 8 ≡ 8 * (c.loop-x.x + 1) = omega arith in
-    let long : length c.active_cases.new.cases ≡ v.grid.nx = omega (arith, c.active_cases.auto.cases, c.loop-x.auto.cases, c.put_zeros.auto.out, c.requires.cases) in
+    let long : length c.active_cases.new.cases ≡ v.grid.nx
+    = omega (arith, c.active_cases.auto.cases, c.loop-x.auto.cases, c.put_zeros.auto.out, c.requires.cases) in
     let same = c.loop-x.invariant.same in
-    let one = subst (λ (names : Named). c.active_cases.new.steps ≤ c.loop-x.steps + 8 * asked_among v.grid (heights v) names (row.first + x) 1) same c.active_cases.ensures.most in
+    let one = subst (λ (names : Named). c.active_cases.new.steps ≤ c.loop-x.steps + 8 * asked_among v.grid (heights v) names (row.first + x) 1) same
+    c.active_cases.ensures.most in
     let here = ap (asked_among v.grid (heights v) names row.first) (sym (at_place x (bricks_along v.grid 0) (omega (arith, low)))) in
     record {
       active = λ known. record { is = next.active known };
-      cases = quiet_more v grid c.args.y c.args.z c.requires.y c.requires.z row hold (c.loop-x.x + 1) c.next-x-in-loop-x.result c.active_cases.new.cases next long
+      cases = quiet_more v grid c.args.y c.args.z c.requires.y c.requires.z row hold (c.loop-x.x + 1) c.next-x-in-loop-x.result
+          c.active_cases.new.cases next long
           (subst (λ n. AreZerosFrom n c.active_cases.new.cases) behind c.active_cases.ensures.zeros)
           (subst (λ n. AreCasesTo v c.args.y c.args.z n c.active_cases.new.cases) behind c.active_cases.ensures.cases);
       zeros = λ k from low. c.active_cases.ensures.zeros k (omega (arith, from, further)) low;
@@ -145,10 +151,12 @@ returns-then-x-last-clause-most g c =
     let names : Named = g.R.CellRows.named c.args.rows.now in
     let last = c.count_along-last.result - 1 in
     let same = c.loop-x.invariant.same in
-    let one = subst (λ (names : Named). c.active_cases-then-x-last.new.steps ≤ c.loop-x.steps + 8 * asked_among v.grid (heights v) names (row.first + last) 1) same
-    c.active_cases-then-x-last.ensures.most in
-    let here = ap (asked_among v.grid (heights v) names row.first) (at_place c.loop-x.x (bricks_along v.grid 0) (omega (arith, count, c.if-x-last.true)) ∙ c.if-x-last.true) in
-    let all = asked_all v grid c.args.y c.args.z c.requires.y c.requires.z row hold names (last + 1) (omega (arith, count, c.count_along-last.ensures.value, c.nx.ensures.grid)) in
+    let one = subst (λ (names : Named). c.active_cases-then-x-last.new.steps ≤ c.loop-x.steps + 8 * asked_among v.grid (heights v) names (row.first + last) 1)
+    same c.active_cases-then-x-last.ensures.most in
+    let here = ap (asked_among v.grid (heights v) names row.first)
+    (at_place c.loop-x.x (bricks_along v.grid 0) (omega (arith, count, c.if-x-last.true)) ∙ c.if-x-last.true) in
+    let all = asked_all v grid c.args.y c.args.z c.requires.y c.requires.z row hold names (last + 1)
+    (omega (arith, count, c.count_along-last.ensures.value, c.nx.ensures.grid)) in
     omega (arith, asked_more v.grid (heights v) names row.first last 1, one, here, all, c.loop-x.invariant.most)
 
 pub returns-else-x-last-clause-cases : goal.returns-else-x-last-clause-cases
@@ -167,4 +175,5 @@ returns-else-x-last-clause-most g c =
     = omega (arith, c.count_along-last.ensures.value, c.nx.ensures.value, ap (λ (g : Grid). g.nx) c.sizes-sizes.ensures.value) in
     let names : Named = g.R.CellRows.named c.args.rows.now in
     let all : min c.loop-x.x (bricks_along v.grid 0) ≡ bricks_along v.grid 0 = omega (arith, count, c.loop-x-test.false, c.if-x-last.false) in
-    omega (arith, asked_all v grid c.args.y c.args.z c.requires.y c.requires.z row hold names (min c.loop-x.x (bricks_along v.grid 0)) all, c.loop-x.invariant.most)
+    let whole = asked_all v grid c.args.y c.args.z c.requires.y c.requires.z row hold names (min c.loop-x.x (bricks_along v.grid 0)) all in
+    omega (arith, whole, c.loop-x.invariant.most)

@@ -13,7 +13,8 @@ invariant-loop-x g l = record {
   zeros : AreZerosFrom (8 * l.x) l.cases;
   same : g.R.CellRows.named l.rows ≡ g.R.CellRows.named l.fn.rows;
   least : l.fn.steps ≤ l.steps;
-  most : l.steps ≤ l.fn.steps + 8 * asked_among l.field.grid (heights l.field) (g.R.CellRows.named l.fn.rows) l.row.first (min l.x (bricks_along l.field.grid 0));
+  most : l.steps
+      ≤ l.fn.steps + 8 * asked_among l.field.grid (heights l.field) (g.R.CellRows.named l.fn.rows) l.row.first (min l.x (bricks_along l.field.grid 0));
 }
 
 abbrev pub decreases-loop-x : goal.decreases-loop-x

@@ -1,5 +1,7 @@
-use Rattle.std.proofs.Common.{◌≡◌, ◌∙◌, ℕ, ◌+◌, ◌-◌, ◌<◌, ◌≤◌, ◌++◌, List, ap, get_or, length, arith}
-use Rattle.std.proofs.lemmas.List.{get_or-append_right, get_or_append_left, length-take, take_all}
+use Rattle.std.proofs.Common.{◌≡◌, ◌∙◌, ℕ, ◌+◌, ◌-◌, ◌<◌, ◌++◌, List, ap, drop, get_or, length, take, zero-add, arith}
+use Rattle.std.specs.Simd.Lanes.{chunk, put_chunk}
+use Rattle.std.proofs.lemmas.List.{get_or-append_right, get_or_append_left, length-drop, length-take, length-take-le}
+use Rattle.std.proofs.lemmas.Simd.{get_or-chunk, length-chunk, put_chunk_whole}
 use Rattle.stitch_rows.proofs.cases.put_run.Goals as goal
 
 -- a number of a run that stands between two lists
@@ -11,9 +13,15 @@ placed front run behind start k long low =
 
 pub returns-then-run-eq8-clause-inside : goal.returns-then-run-eq8-clause-inside
 returns-then-run-eq8-clause-inside c = λ k low.
-    let few : length c.args.run.now ≤ 8 = omega (arith, c.if-run-eq8.true) in
-    let whole : c.copy_from_slice.new.self ≡ c.args.run.now = c.copy_from_slice.ensures.after ∙ take_all 8 c.args.run.now few in
-    let long : length c.copy_from_slice.new.self ≡ length c.args.run.now = ap length whole in
+    let run : List ℕ = c.args.run.now in
+    let old : List ℕ = take (c.args.start + 8 - c.args.start) (drop c.args.start c.args.out.now) in
+    let eight : List ℕ = chunk 0 8 run in
+    let few : k < 8 = omega (arith, low, c.if-run-eq8.true) in
+    let long : length eight ≡ 8 = length-chunk 0 8 run (omega (arith, c.if-run-eq8.true)) in
+    let room : length old ≡ c.args.start + 8 - c.args.start
+    = length-take-le (c.args.start + 8 - c.args.start) (drop c.args.start c.args.out.now)
+    (omega (arith, length-drop c.args.start c.args.out.now, c.requires, c.if-run-eq8.true)) in
+    let whole : put_chunk 0 old eight ≡ eight = put_chunk_whole old eight (omega (arith, room, long)) in
     let front = length-take c.args.start c.args.out.now in
-    placed _ c.copy_from_slice.new.self _ c.args.start k (omega (arith, front, c.requires)) (omega (arith, low, long))
-    ∙ ap (λ run. get_or run k 0) whole
+    placed _ (put_chunk 0 old eight) _ c.args.start k (omega (arith, front, c.requires)) (omega (arith, few, long, ap length whole))
+    ∙ (ap (λ l. get_or l k 0) whole ∙ (get_or-chunk 0 8 run k 0 few ∙ ap (λ n. get_or run n 0) (zero-add k)))
