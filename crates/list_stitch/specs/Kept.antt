@@ -6,7 +6,7 @@ use Rattle.edge_points.specs.Rows.{RowNumbers}
 use Rattle.crossing_edges.specs.Flags.{flags_from}
 use Rattle.flat_mesh.specs.Lattice.{Leveled, heights}
 use Rattle.stitch.specs.Numbers.{AreCounts, AreRowRanks}
-use Rattle.stitch.specs.declared.counts.Counts.{Counts}
+use Rattle.stitch_rows.specs.declared.named.Counts.{Counts}
 use Rattle.list_stitch.specs.declared.cases.CellCases.{CellCases}
 use Rattle.list_stitch.specs.Cases.{HaveCases}
 

@@ -8,7 +8,7 @@ use Rattle.stitch_rows.specs.Bricks.{first_brick}
 use Rattle.stitch_rows.specs.Rows.{AreCases}
 use Rattle.stitch_rows.specs.Named.{Named, asked_among}
 use Rattle.stitch.specs.Spans.{centres_among, triangles_among}
-use Rattle.stitch.specs.declared.counts.Counts.{Counts}
+use Rattle.stitch_rows.specs.declared.named.Counts.{Counts}
 use Rattle.flat_mesh.specs.Faces.{loops_at}
 use Rattle.iso_defs.specs.Rows.{row_count}
 use Rattle.crossing_edges.specs.Flags.{rank}

@@ -1,29 +1,22 @@
 //! How many centres and triangles a mesh has.
 ghost use Rattle.std.specs.Prelude.{◌≡◌, ◌+◌, ◌*◌, ◌/◌, ◌%◌, ◌<◌, ◌≤◌, length};
+ghost use Rattle.iso_defs.specs.Bricks.{brick_count};
 ghost use Rattle.iso_defs.specs.Rows.{row_count};
 ghost use Rattle.flat_mesh.specs.Centres.{IsCellAt};
 ghost use Rattle.flat_mesh.specs.Lattice.{heights};
-ghost use Rattle.stitch_rows.specs.Bricks.{AreMarked};
-ghost use Rattle.stitch_rows.specs.Named.{NamesCases};
+ghost use Rattle.stitch_rows.specs.Named.{NamesCases, asked_among};
 ghost use Rattle.stitch_rows.specs.Rows.{IsCaseOf};
-ghost use Rattle.stitch.specs.Numbers.{AreCounts, AreRowRanks, IsCaseRow, asked_before, asked_in_row};
+ghost use Rattle.stitch.specs.Numbers.{AreCounts, IsCaseRow};
 
 use crate::ranks::row_at;
-use crate::walk::{have_no_loops, next_cases};
+use crate::walk::have_no_loops;
+use brick_store::BrickId;
 use case_table::CaseRow;
 use cell_loops::{centre_count, triangle_count};
-use edge_points::RowRanks;
 use flat_mesh::{Cell, Heights};
 use iso_base::{Point, Steps};
 use std::sync::ledger::Ledger;
-use stitch_rows::{ActiveRow, CellRows, Field, ROW, count_along};
-
-/// How many centres and how many triangles some cells have.
-#[derive(Clone, Copy)]
-pub struct Counts {
-    pub centres: u32,
-    pub faces: u32,
-}
+use stitch_rows::{CellRows, Counts, Field, count_along};
 
 /// Counts a cell.
 #[inline(always)]
@@ -99,71 +92,33 @@ pub fn count_cells<H: Heights>(field: &H, row: u32, cases: &[u16], counts: Count
     counts
 }
 
-/// Counts the cells of the row that a row of points begins. `cases` is a buffer.
-fn count_row<R: CellRows, L: Ledger>(
-    field: &Field,
-    active: &mut ActiveRow,
-    rows: &mut R,
-    ranks: &RowRanks,
-    total: u32,
-    row: u32,
-    cases: &mut [u16],
-    counts: Counts,
-    steps: &mut Steps<L>,
-) -> Counts
-    requires marked { AreMarked field.now active.old }
-    requires named { NamesCases (R.named rows.old) field.now.grid (heights field.now) }
-    requires ranks { AreRowRanks field.now ranks.now total }
-    requires row { row < row_count field.now.grid }
-    requires cases { length cases.old ≡ field.now.grid.nx }
-    requires counts { AreCounts field.now (field.now.grid.nx * row) counts }
-    ensures counts { AreCounts field.now (field.now.grid.nx * (row + 1)) result }
-    ensures marked { AreMarked field.now active.new }
-    ensures same { R.named rows.new ≡ R.named rows.old }
-    ensures least { steps.old ≤ steps.new }
-    ensures most { steps.new ≤ steps.old + 8 * asked_in_row field.now (R.named rows.old) row }
-{
-    if !next_cases(field, active, rows, ranks, total, row, cases, steps) {
-        return counts;
-    }
-    count_cells(field, row, cases, counts)
-}
-
-/// How many centres and triangles there are in all.
+/// How many centres and triangles there are in all, brick by brick: each cell stands in one brick, and a brick that is not active
+/// has none.
 pub fn count_all<R: CellRows, L: Ledger>(
     field: &Field,
     rows: &mut R,
-    ranks: &RowRanks,
-    total: u32,
     steps: &mut Steps<L>,
 ) -> Counts
     requires named { NamesCases (R.named rows.old) field.now.grid (heights field.now) }
-    requires ranks { AreRowRanks field.now ranks.now total }
     ensures counts { AreCounts field.now (field.now.grid.nx * row_count field.now.grid) result }
     ensures same { R.named rows.new ≡ R.named rows.old }
     ensures least { steps.old ≤ steps.new }
-    ensures most { steps.new ≤ steps.old + 8 * asked_before field.now (R.named rows.old) (row_count field.now.grid) }
+    ensures most { steps.new ≤ steps.old + 512 * asked_among field.now.grid (heights field.now) (R.named rows.old) 0 (brick_count field.now.grid) }
 {
-    let sizes = field.sizes();
-    let mut cases = [0; ROW];
-    let cases = &mut cases[..sizes.nx() as usize];
+    let _ = field.sizes();
+    let bricks = field.brick_count();
     let mut counts = Counts {
         centres: 0,
         faces: 0,
     };
-    let mut active = ActiveRow::new();
-    for row in 0..sizes.ny() * sizes.nz() {
-        counts = count_row(
-            field,
-            &mut active,
-            rows,
-            ranks,
-            total,
-            row,
-            cases,
-            counts,
-            steps,
-        );
+    let mut brick = field.next_active(0);
+    while brick < bricks {
+        let more = rows.count(BrickId(brick), steps);
+        counts = Counts {
+            centres: counts.centres + more.centres,
+            faces: counts.faces + more.faces,
+        };
+        brick = field.next_active(brick + 1);
     }
     counts
 }

@@ -88,7 +88,7 @@ fn write_mesh<R: CellRows, K: Sink, L: Ledger>(
 {
     let _ = field.sizes();
     let total = rank_rows(field, ranks);
-    let counts = count_all(field, rows, ranks, total, steps);
+    let counts = count_all(field, rows, steps);
     let vertices = total + counts.centres;
     let mut block = Block::new();
     put_head(style.format, vertices, counts.faces, &mut block);

@@ -1,5 +1,6 @@
 //! A volume in bricks at a level: its shifted values, and its active bricks.
 ghost use Rattle.std.specs.Prelude.{◌≡◌, ◌+◌, ◌*◌, ◌<◌, ◌≤◌, ◌^◌, All, length, map, unsigned_abs};
+ghost use Rattle.iso_defs.specs.Bricks.{brick_count};
 ghost use Rattle.iso_defs.specs.Grid.{index};
 ghost use Rattle.iso_base.specs.Samples.{IsSample};
 ghost use Rattle.iso_base.specs.Shifted.{shifted};
@@ -110,8 +111,15 @@ impl<'a> Field<'a> {
         &copies[start..start + count]
     }
 
+    /// The number of bricks.
+    pub fn brick_count(&self) -> u32
+        ensures { result ≡ brick_count self.now.grid }
+    {
+        self.store.brick_count()
+    }
+
     /// The least active brick from a number on, or a number behind all bricks.
-    pub(crate) fn next_active(&self, from: u32) -> u32
+    pub fn next_active(&self, from: u32) -> u32
         ensures { IsNextFrom self.now.grid (heights self.now) from result }
     {
         let _ = self.store.sizes();
