@@ -1,17 +1,19 @@
 //! Meshes written while their volume is walked, beside those of extraction from scratch.
 ghost use Rattle.std.specs.Prelude.{◌≡◌, IfSome, false};
-ghost use Rattle.iso_defs.specs.Bricks.{row_cases};
+ghost use Rattle.iso_defs.specs.Bricks.{entries, row_cases};
 ghost use Rattle.iso_base.specs.Shifted.{field};
+ghost use Rattle.stitch_rows.specs.Named.{counts_of_entries};
 
 use crate::stores::sizes_of;
 use arrayvec::ArrayVec;
-use brick_mesh::extract_row;
+use brick_mesh::{extract_brick, extract_row};
 use brick_store::{BrickId, BrickStore};
 use crossing_edges::Numbers;
 use edge_points::RowRanks;
 use flat_mesh::extract_flat;
 use iso_base::{Level, Memory, Point, SampleKind, Sizes, Steps, VoxelData, Written};
 use iso_io::{Failed, MemSink};
+use kept_mesh::count_entries;
 use list_stitch::ListMesh;
 use mesh_text::TwoWayFormat;
 use mesh_write::{STAGE, put_mesh_as};
@@ -21,13 +23,14 @@ use std::marker::Brand;
 use std::sync::ledger::{Blank, Ledger};
 use std::test::Fail;
 use stitch::{CellRows, Style, write_obj, write_ply};
+use stitch_rows::Counts;
 use volume_gen::generated;
 use voxel_list::VoxelList;
 
 /// More bytes than a text of these tests has.
 const ROOM: u32 = 4_000_000;
 
-/// Names the cases of each row of a brick when it is asked for it.
+/// Names the cases of each row of a brick, and counts in a brick, when it is asked for it.
 #[derive(Drop)]
 struct FreshRows<'a> {
     store: &'a BrickStore,
@@ -38,6 +41,7 @@ impl<'a> CellRows for FreshRows<'a> {
     ghost named = { λ r. record {
       grid = r.store.now.grid;
       cases = row_cases r.store.now.grid (field r.store.now.samples r.level);
+      counts = λ brick. counts_of_entries (entries r.store.now.grid (field r.store.now.samples r.level) brick);
       kept = λ _. false;
     } };
 
@@ -50,6 +54,12 @@ impl<'a> CellRows for FreshRows<'a> {
         steps: &mut Steps<L>,
     ) {
         extract_row(self.store, brick, y, z, self.level, rows, steps);
+    }
+
+    fn count<L: Ledger>(&mut self, brick: BrickId, steps: &mut Steps<L>) -> Counts {
+        let mut entries = ArrayVec::new();
+        extract_brick(self.store, brick, self.level, &mut entries, steps);
+        count_entries(entries.as_slice())
     }
 }
 

@@ -4,3 +4,4 @@ pub mod Ascending
 pub mod Waits
 pub mod Names
 pub mod Filled
+pub mod Counted

@@ -27,4 +27,5 @@ pub names_cases : (k : Kept) → NamesCases (named_by k) k.volume.grid (field k.
 names_cases k = record {
   grid = refl;
   each = λ brick y z active row. either (record { grid = k.volume.grid; samples = k.volume.samples; level = k.level }) (is_fresh brick k.level k.cache.items) brick y z;
+  counts = λ brick active. refl;
 }

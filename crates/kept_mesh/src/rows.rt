@@ -9,6 +9,7 @@ ghost use Rattle.stitch_rows.specs.Named.{IsCellRow};
 ghost use Rattle.kept_mesh.specs.Kept.{named_by};
 ghost use Rattle.kept_mesh.specs.Planes.{IsHeld, IsPlane, IsPlaneAt};
 
+use crate::counts::{count_anew, count_pages};
 use crate::planes::{PLANES, Plane, no_planes, plane_of};
 use arrayvec::ArrayVec;
 use brick_mesh::extract_row;
@@ -18,6 +19,7 @@ use mesh_cache::MeshCache;
 use std::marker::Model;
 use std::sync::ledger::Ledger;
 use stitch::CellRows;
+use stitch_rows::Counts;
 
 /// Whether a plane is that plane of that brick.
 #[inline(always)]
@@ -141,5 +143,13 @@ impl<'a> CellRows for KeptRows<'a> {
             return;
         }
         extract_row(store, brick, y, z, level, rows, steps);
+    }
+
+    fn count<L: Ledger>(&mut self, brick: BrickId, steps: &mut Steps<L>) -> Counts {
+        let (store, cache, level) = (self.store, self.cache, self.level);
+        if let Some(entries) = cache.kept_entries(brick, level) {
+            return count_pages(entries);
+        }
+        count_anew(store, brick, level, steps)
     }
 }

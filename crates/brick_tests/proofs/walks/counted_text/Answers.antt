@@ -6,10 +6,12 @@ pub write_ply-written-requires-clause-named : goal.write_ply-written-requires-cl
 write_ply-written-requires-clause-named g c = record {
   grid = refl;
   each = λ brick y z active row. own_loops (record { grid = c.args.store.now.grid; samples = c.args.store.now.samples; level = c.args.level }) brick y z;
+  counts = λ brick active. refl;
 }
 
 pub write_obj-written-requires-clause-named : goal.write_obj-written-requires-clause-named
 write_obj-written-requires-clause-named g c = record {
   grid = refl;
   each = λ brick y z active row. own_loops (record { grid = c.args.store.now.grid; samples = c.args.store.now.samples; level = c.args.level }) brick y z;
+  counts = λ brick active. refl;
 }

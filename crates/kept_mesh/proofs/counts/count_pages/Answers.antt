@@ -1,0 +1,54 @@
+use Rattle.std.proofs.Common.{◌≡◌, ◌≢◌, ◌∙◌, ℕ, ◌%◌, ◌<◌, All, List, ap, drop, length, subst, sym, take, arith}
+use Rattle.std.proofs.lemmas.Bool.{eqb-false, eqb-true}
+use Rattle.std.proofs.lemmas.List.{length-drop, length-take}
+use Rattle.std.proofs.lemmas.List.Elements.{All-drop, All-take}
+use Rattle.stitch_rows.specs.Named.{centres_of_entries, triangles_of_entries}
+use Rattle.kept_mesh.proofs.Counted.{centres_rest, few_centres, few_faces, none_left, same_counts, triangles_rest}
+use Rattle.kept_mesh.proofs.counts.count_pages.Goals as goal
+
+pub count_page-counts-requires-clause-cases : goal.count_page-counts-requires-clause-cases
+count_page-counts-requires-clause-cases c =
+    subst (All (λ e. e % 1024 < 656)) (sym c.front-in-loop-left.ensures) (All-take (λ e. e % 1024 < 656) 32 c.loop-left.left c.loop-left.invariant.cases)
+
+pub count_page-counts-requires-clause-centres : goal.count_page-counts-requires-clause-centres
+count_page-counts-requires-clause-centres c =
+    let front : centres_of_entries c.front-in-loop-left.result.now ≡ centres_of_entries (take 32 c.loop-left.left) = ap centres_of_entries c.front-in-loop-left.ensures in
+    omega (arith, front, c.loop-left.invariant.centres, c.requires.few, few_centres c.args.entries c.requires.cases, centres_rest c.loop-left.left 32)
+
+pub count_page-counts-requires-clause-faces : goal.count_page-counts-requires-clause-faces
+count_page-counts-requires-clause-faces c =
+    let front : triangles_of_entries c.front-in-loop-left.result.now ≡ triangles_of_entries (take 32 c.loop-left.left) = ap triangles_of_entries c.front-in-loop-left.ensures in
+    omega (arith, front, c.loop-left.invariant.faces, c.requires.few, few_faces c.args.entries c.requires.cases, triangles_rest c.loop-left.left 32)
+
+pub loop-left-smaller : goal.loop-left-smaller
+loop-left-smaller c =
+    let front : length c.front.result.now ≡ length (take 32 c.loop-left.left) = ap length c.front.ensures in
+    let rest : length c.rest-left.result ≡ length (drop 32 c.loop-left.left) = ap length c.rest-left.ensures in
+    let some : length c.front.result.now ≢ 0 = eqb-false _ 0 (sym c.is_empty.ensures ∙ c.loop-left-test.true) in
+    let fewer : length c.rest-left.result < length c.loop-left.left
+    = omega (arith, some, front, rest, length-take 32 c.loop-left.left, length-drop 32 c.loop-left.left) in
+    fewer
+
+pub loop-left-preserved : goal.loop-left-preserved
+loop-left-preserved c =
+    let left : List ℕ = c.loop-left.left in
+    record {
+      cases = subst (All (λ e. e % 1024 < 656)) (sym c.rest-left.ensures) (All-drop (λ e. e % 1024 < 656) 32 left c.loop-left.invariant.cases);
+      centres = (
+          let front : centres_of_entries c.front-in-loop-left.result.now ≡ centres_of_entries (take 32 c.loop-left.left) = ap centres_of_entries c.front-in-loop-left.ensures in
+          let rest : centres_of_entries c.rest-left.result ≡ centres_of_entries (drop 32 c.loop-left.left) = ap centres_of_entries c.rest-left.ensures in
+          omega (arith, front, rest, c.count_page-counts.ensures.centres, c.loop-left.invariant.centres, centres_rest c.loop-left.left 32));
+      faces = (
+          let front : triangles_of_entries c.front-in-loop-left.result.now ≡ triangles_of_entries (take 32 c.loop-left.left) = ap triangles_of_entries c.front-in-loop-left.ensures in
+          let rest : triangles_of_entries c.rest-left.result ≡ triangles_of_entries (drop 32 c.loop-left.left) = ap triangles_of_entries c.rest-left.ensures in
+          omega (arith, front, rest, c.count_page-counts.ensures.faces, c.loop-left.invariant.faces, triangles_rest c.loop-left.left 32));
+    }
+
+pub returns : goal.returns
+returns c =
+    let front : length c.front.result.now ≡ length (take 32 c.loop-left.left) = ap length c.front.ensures in
+    let none : length c.front.result.now ≡ 0 = eqb-true _ _ (sym c.is_empty.ensures ∙ c.loop-left-test.false) in
+    let end = none_left c.loop-left.left (omega (arith, none, front, length-take 32 c.loop-left.left)) in
+    let centres : c.loop-left.counts.centres ≡ centres_of_entries c.args.entries = omega (arith, c.loop-left.invariant.centres, end.0) in
+    let faces : c.loop-left.counts.faces ≡ triangles_of_entries c.args.entries = omega (arith, c.loop-left.invariant.faces, end.1) in
+    same_counts _ _ centres faces
