@@ -17,6 +17,7 @@ use brick_store::{BrickId, BrickStore};
 use iso_base::{Level, Steps};
 use mesh_cache::MeshCache;
 use std::marker::Model;
+use std::simd::prelude::*;
 use std::sync::ledger::Ledger;
 use stitch::CellRows;
 use stitch_rows::Counts;
@@ -67,13 +68,11 @@ fn put_cases(row: &[u16], width: u8, rows: &mut ArrayVec<u16, 8>)
     requires width { width ≤ 8 }
     ensures { rows.new.items ≡ take width row.now }
 {
-    rows.clear();
-    // Eight cases are copied without a call.
-    if width == 8 {
-        rows.try_extend_from_slice(&row[..8]).unwrap();
-        return;
+    // Eight cases are moved at once.
+    *rows = ArrayVec::from_array_in((), u16x8::from_slice(row).to_array());
+    if width < 8 {
+        rows.truncate(width as usize);
     }
-    rows.try_extend_from_slice(&row[..width as usize]).unwrap();
 }
 
 /// Replaces the rows by the cases of a row of a plane.
