@@ -6,6 +6,7 @@ use arrayvec::ArrayVec;
 use brick_mesh::{extract_brick, extract_row};
 use brick_store::{BrickId, BrickStore};
 use iso_base::{Level, Memory, Point, SampleKind, Sizes, Steps, VoxelData};
+use kept_mesh::count_entries;
 use std::alloc::Global;
 use std::marker::Brand;
 use std::sync::ledger::{Blank, Ledger};
@@ -90,6 +91,16 @@ fn no_cell_with_a_crossing_edge(rt: HostRuntime) {
     extract::<Brand>(&store, level, &mut entries, &mut rows, Blank::new(1));
     assert!(rt; entries.is_empty());
     assert_eq!(rt; rows.as_slice(), [655].as_slice());
+}
+
+/// A cell with two corners above, across a face, has two loops of three edges where the face holds them apart, and one loop of
+/// six, round a centre, where it joins them.
+#[test]
+fn entries_are_counted(rt: HostRuntime) {
+    let apart = count_entries(&[10]);
+    assert_eq!(rt; (apart.centres, apart.faces), (0, 2));
+    let both = count_entries(&[10, 1024 + 11]);
+    assert_eq!(rt; (both.centres, both.faces), (1, 8));
 }
 
 /// The state after a state, of numbers that look like chance.
