@@ -1,5 +1,6 @@
 -- How many centres and triangles the cells of entries have.
-use Rattle.std.proofs.Common.{◌≡◌, ◌∙◌, ℕ, zero, suc, ◌+◌, ◌*◌, ◌%◌, ◌<◌, ◌≤◌, All, Bool, true, false, cond, List, [], ◌∷◌, length, get_or, drop, take, refl, sym, ap, ap₂, subst, arith}
+use Rattle.std.proofs.Common.{◌≡◌, ◌∙◌, refl, sym, ap, ap₂, subst, arith, ℕ, zero, suc, ◌+◌, ◌*◌, ◌%◌, ◌<◌, ◌≤◌}
+use Rattle.std.proofs.Common.{All, Bool, true, false, cond, List, [], ◌∷◌, length, get_or, drop, take}
 use Rattle.std.proofs.lemmas.List.{drop_all}
 use Rattle.std.proofs.lemmas.List.Elements.{All-cons, All-nil}
 use Rattle.std.proofs.lemmas.List.Sums.{sum_by-drop_more, sum_by-le, sum_by-take-drop}
@@ -35,11 +36,13 @@ same_counts a b centres faces = ap₂ pair centres faces
 
 module _ (es : List ℕ) (n : ℕ) where
   -- the first of the entries that are left
-  pub centres_next : n < length es → centres_of_entries (drop n es) ≡ length (row_centres (get_or es n 0 % 1024)) + centres_of_entries (drop (n + 1) es)
+  pub centres_next : n < length es
+      → centres_of_entries (drop n es) ≡ length (row_centres (get_or es n 0 % 1024)) + centres_of_entries (drop (n + 1) es)
   unfolding centres_of_entries
   centres_next low = sum_by-drop_more (λ e. length (row_centres (e % 1024))) es n 0 low
 
-  pub triangles_next : n < length es → triangles_of_entries (drop n es) ≡ length (row_triangles (get_or es n 0 % 1024)) + triangles_of_entries (drop (n + 1) es)
+  pub triangles_next : n < length es
+      → triangles_of_entries (drop n es) ≡ length (row_triangles (get_or es n 0 % 1024)) + triangles_of_entries (drop (n + 1) es)
   unfolding triangles_of_entries
   triangles_next low = sum_by-drop_more (λ e. length (row_triangles (e % 1024))) es n 0 low
 

@@ -7,20 +7,29 @@ count_entry-counts-requires-clause-case c = c.requires.cases c.loop-entry.entry-
 
 pub count_entry-counts-requires-clause-centres : goal.count_entry-counts-requires-clause-centres
 count_entry-counts-requires-clause-centres c =
-    omega (arith, c.requires.centres, c.loop-entry.invariant.centres, centres_next c.args.page.now c.loop-entry.entry-index (omega (arith, c.loop-entry-test.true)))
+    let next = centres_next c.args.page.now c.loop-entry.entry-index (omega (arith, c.loop-entry-test.true)) in
+    omega (arith, c.requires.centres, c.loop-entry.invariant.centres, next)
 
 pub count_entry-counts-requires-clause-faces : goal.count_entry-counts-requires-clause-faces
 count_entry-counts-requires-clause-faces c =
-    omega (arith, c.requires.faces, c.loop-entry.invariant.faces, triangles_next c.args.page.now c.loop-entry.entry-index (omega (arith, c.loop-entry-test.true)))
+    let next = triangles_next c.args.page.now c.loop-entry.entry-index (omega (arith, c.loop-entry-test.true)) in
+    omega (arith, c.requires.faces, c.loop-entry.invariant.faces, next)
 
 pub loop-entry-preserved : goal.loop-entry-preserved
-loop-entry-preserved c = record {
-  centres = omega (arith, c.count_entry-counts.ensures.centres, c.loop-entry.invariant.centres, centres_next c.args.page.now c.loop-entry.entry-index (omega (arith, c.loop-entry-test.true)));
-  faces = omega (arith, c.count_entry-counts.ensures.faces, c.loop-entry.invariant.faces, triangles_next c.args.page.now c.loop-entry.entry-index (omega (arith, c.loop-entry-test.true)));
-}
+loop-entry-preserved c =
+    let centres = centres_next c.args.page.now c.loop-entry.entry-index (omega (arith, c.loop-entry-test.true)) in
+    let faces = triangles_next c.args.page.now c.loop-entry.entry-index (omega (arith, c.loop-entry-test.true)) in
+    record {
+      centres = omega (arith, c.count_entry-counts.ensures.centres, c.loop-entry.invariant.centres, centres);
+      faces = omega (arith, c.count_entry-counts.ensures.faces, c.loop-entry.invariant.faces, faces);
+    }
 
 pub returns-clause-centres : goal.returns-clause-centres
-returns-clause-centres c = omega (arith, c.loop-entry.invariant.centres, centres_end c.args.page.now c.loop-entry.entry-index (omega (arith, c.loop-entry-test.false)))
+returns-clause-centres c =
+    let end = centres_end c.args.page.now c.loop-entry.entry-index (omega (arith, c.loop-entry-test.false)) in
+    omega (arith, c.loop-entry.invariant.centres, end)
 
 pub returns-clause-faces : goal.returns-clause-faces
-returns-clause-faces c = omega (arith, c.loop-entry.invariant.faces, triangles_end c.args.page.now c.loop-entry.entry-index (omega (arith, c.loop-entry-test.false)))
+returns-clause-faces c =
+    let end = triangles_end c.args.page.now c.loop-entry.entry-index (omega (arith, c.loop-entry-test.false)) in
+    omega (arith, c.loop-entry.invariant.faces, end)

@@ -1,4 +1,4 @@
-use Rattle.std.proofs.Common.{◌≡◌, ◌≢◌, ◌∙◌, ℕ, ◌%◌, ◌<◌, All, List, ap, drop, length, subst, sym, take, arith}
+use Rattle.std.proofs.Common.{◌≡◌, ◌≢◌, ◌∙◌, ℕ, ◌+◌, ◌%◌, ◌<◌, All, List, ap, ap₂, drop, length, refl, subst, sym, take, arith}
 use Rattle.std.proofs.lemmas.Bool.{eqb-false, eqb-true}
 use Rattle.std.proofs.lemmas.List.{length-drop, length-take}
 use Rattle.std.proofs.lemmas.List.Elements.{All-drop, All-take}
@@ -8,17 +8,27 @@ use Rattle.kept_mesh.proofs.counts.count_pages.Goals as goal
 
 pub count_page-counts-requires-clause-cases : goal.count_page-counts-requires-clause-cases
 count_page-counts-requires-clause-cases c =
-    subst (All (λ e. e % 1024 < 656)) (sym c.front-in-loop-left.ensures) (All-take (λ e. e % 1024 < 656) 32 c.loop-left.left c.loop-left.invariant.cases)
+    subst (All (λ e. e % 1024 < 656)) (sym c.front-in-loop-left.ensures)
+    (All-take (λ e. e % 1024 < 656) 32 c.loop-left.left c.loop-left.invariant.cases)
+
+-- those of the first page and of the rest
+centres_split : (left front rest : List ℕ) → front ≡ take 32 left → rest ≡ drop 32 left
+    → centres_of_entries front + centres_of_entries rest ≡ centres_of_entries left
+centres_split left front rest f r = ap₂ (λ a b. centres_of_entries a + centres_of_entries b) f r ∙ centres_rest left 32
+
+triangles_split : (left front rest : List ℕ) → front ≡ take 32 left → rest ≡ drop 32 left
+    → triangles_of_entries front + triangles_of_entries rest ≡ triangles_of_entries left
+triangles_split left front rest f r = ap₂ (λ a b. triangles_of_entries a + triangles_of_entries b) f r ∙ triangles_rest left 32
 
 pub count_page-counts-requires-clause-centres : goal.count_page-counts-requires-clause-centres
 count_page-counts-requires-clause-centres c =
-    let front : centres_of_entries c.front-in-loop-left.result.now ≡ centres_of_entries (take 32 c.loop-left.left) = ap centres_of_entries c.front-in-loop-left.ensures in
-    omega (arith, front, c.loop-left.invariant.centres, c.requires.few, few_centres c.args.entries c.requires.cases, centres_rest c.loop-left.left 32)
+    let split = centres_split c.loop-left.left c.front-in-loop-left.result.now (drop 32 c.loop-left.left) c.front-in-loop-left.ensures refl in
+    omega (arith, split, c.loop-left.invariant.centres, c.requires.few, few_centres c.args.entries c.requires.cases)
 
 pub count_page-counts-requires-clause-faces : goal.count_page-counts-requires-clause-faces
 count_page-counts-requires-clause-faces c =
-    let front : triangles_of_entries c.front-in-loop-left.result.now ≡ triangles_of_entries (take 32 c.loop-left.left) = ap triangles_of_entries c.front-in-loop-left.ensures in
-    omega (arith, front, c.loop-left.invariant.faces, c.requires.few, few_faces c.args.entries c.requires.cases, triangles_rest c.loop-left.left 32)
+    let split = triangles_split c.loop-left.left c.front-in-loop-left.result.now (drop 32 c.loop-left.left) c.front-in-loop-left.ensures refl in
+    omega (arith, split, c.loop-left.invariant.faces, c.requires.few, few_faces c.args.entries c.requires.cases)
 
 pub loop-left-smaller : goal.loop-left-smaller
 loop-left-smaller c =
@@ -32,16 +42,12 @@ loop-left-smaller c =
 pub loop-left-preserved : goal.loop-left-preserved
 loop-left-preserved c =
     let left : List ℕ = c.loop-left.left in
+    let front = c.front-in-loop-left.ensures in
+    let rest = c.rest-left.ensures in
     record {
-      cases = subst (All (λ e. e % 1024 < 656)) (sym c.rest-left.ensures) (All-drop (λ e. e % 1024 < 656) 32 left c.loop-left.invariant.cases);
-      centres = (
-          let front : centres_of_entries c.front-in-loop-left.result.now ≡ centres_of_entries (take 32 c.loop-left.left) = ap centres_of_entries c.front-in-loop-left.ensures in
-          let rest : centres_of_entries c.rest-left.result ≡ centres_of_entries (drop 32 c.loop-left.left) = ap centres_of_entries c.rest-left.ensures in
-          omega (arith, front, rest, c.count_page-counts.ensures.centres, c.loop-left.invariant.centres, centres_rest c.loop-left.left 32));
-      faces = (
-          let front : triangles_of_entries c.front-in-loop-left.result.now ≡ triangles_of_entries (take 32 c.loop-left.left) = ap triangles_of_entries c.front-in-loop-left.ensures in
-          let rest : triangles_of_entries c.rest-left.result ≡ triangles_of_entries (drop 32 c.loop-left.left) = ap triangles_of_entries c.rest-left.ensures in
-          omega (arith, front, rest, c.count_page-counts.ensures.faces, c.loop-left.invariant.faces, triangles_rest c.loop-left.left 32));
+      cases = subst (All (λ e. e % 1024 < 656)) (sym rest) (All-drop (λ e. e % 1024 < 656) 32 left c.loop-left.invariant.cases);
+      centres = omega (arith, c.count_page-counts.ensures.centres, c.loop-left.invariant.centres, centres_split left _ _ front rest);
+      faces = omega (arith, c.count_page-counts.ensures.faces, c.loop-left.invariant.faces, triangles_split left _ _ front rest);
     }
 
 pub returns : goal.returns
