@@ -64,3 +64,13 @@ case_next other es at cell low =
 -- a front of a list, and then the rest
 pub case_rest : (other : ℕ) (es : List ℕ) (n cell : ℕ) → last_case (last_case other (take n es) cell) (drop n es) cell ≡ last_case other es cell
 case_rest other es n cell = sym (case_join other (take n es) (drop n es) cell) ∙ ap (λ l. last_case other l cell) (take-append-drop n es)
+
+-- entries of planes before a plane, and then the rest
+pub case_later : (z : ℕ) (es : List ℕ) (from : ℕ) → from ≤ length es → ((i : ℕ) → i < from → get_or es i 0 < 65536 * z)
+    → (other k : ℕ) → k < 64 → last_case other (drop from es) (64 * z + k) ≡ last_case other es (64 * z + k)
+case_later z es from within before other k low =
+    let none : last_case other (take from es) (64 * z + k) ≡ other = no_case other (take from es) (64 * z + k) (λ i there.
+    let i_low : i < from = omega (arith, there, length-take from es) in
+    let at : get_or (take from es) i 0 ≡ get_or es i 0 = get_or-take from es i 0 i_low in
+    ne_eqb (get_or (take from es) i 0 / 1024) (64 * z + k) (omega (arith, at, before i i_low, low))) in
+    sym (ap (λ o. last_case o (drop from es) (64 * z + k)) none) ∙ case_rest other es from (64 * z + k)

@@ -27,17 +27,26 @@ fn put_case(entry: u32, z: u8, cases: &mut [u16; CELLS])
     }
 }
 
-/// Writes the cases of those of some ascending entries whose cells lie in a plane across z.
+/// Writes the cases of those of some ascending entries whose cells lie in a plane across z, from the first of them on, which is found
+/// by halves.
 #[inline(always)]
 fn put_page(page: &[u32], z: u8, cases: &mut [u16; CELLS])
+    requires z { z < 8 }
     requires some { 0 < length page.now }
     requires begins { IsPartitionedBy (λ e. nat_lt e (65536 * z)) page.now }
+    requires ends { IsPartitionedBy (λ e. nat_lt e (65536 * z + 65536)) page.now }
     ensures { (k : ℕ) → k < 64 → slice_index cases.new k ≡ last_case (slice_index cases.old k) page.now (64 * z + k) }
 {
     if plane_of_entry(page[page.len() - 1]) < u32::from(z) {
         return;
     }
-    for entry in page {
+    let least = 65_536 * u32::from(z);
+    let from = page.partition_point(|entry| *entry < least);
+    let later = &page[from..];
+    for entry in later {
+        if plane_of_entry(*entry) != u32::from(z) {
+            return;
+        }
         put_case(*entry, z, cases);
     }
 }

@@ -103,7 +103,7 @@ fn write_mesh<R: CellRows, K: Sink, L: Ledger>(
 
 /// Appends the text of the mesh of a volume in bricks at a level, as PLY, and says how many vertices, faces and bytes were
 /// written. The mesh is never held, and no memory is taken. `Failed` comes only where the sink's count rose; a front of the
-/// text was then taken. Each row of an active brick is asked for at most three times, and no row of another brick.
+/// text was then taken. Each active brick is asked once for its counts and each of its rows at most twice, and no other brick.
 pub fn write_ply<R: CellRows, K: Sink, L: Ledger>(
     store: &BrickStore,
     tree: &SpanTree,

@@ -17,6 +17,11 @@ put_page-requires-clause-begins c =
     subst (IsPartitionedBy (λ e. ltb e (65536 * c.args.z))) (sym c.front-in-loop-left.ensures)
     (parted_take (λ e. ltb e (65536 * c.args.z)) c.loop-left.left c.loop-left.invariant.begins 32)
 
+pub put_page-requires-clause-ends : goal.put_page-requires-clause-ends
+put_page-requires-clause-ends c =
+    subst (IsPartitionedBy (λ e. ltb e (65536 * c.args.z + 65536))) (sym c.front-in-loop-left.ensures)
+    (parted_take (λ e. ltb e (65536 * c.args.z + 65536)) c.loop-left.left c.loop-left.invariant.ends 32)
+
 pub loop-left-smaller : goal.loop-left-smaller
 loop-left-smaller c =
     let some : 0 < length c.front.result.now = c.begin_by.ensures.some c.loop-left-test.true in
