@@ -9,6 +9,7 @@ pub mod NextCases
 pub mod FlagRows
 pub mod RunFlags
 pub mod StillFlags
+pub mod StillRows
 pub mod LoopCases
 pub mod Corners
 pub mod EightLanes

@@ -52,6 +52,10 @@ AreFlagsTo v y z count flags = (x : ℕ) → x < v.grid.nx → x < count → sli
 abbrev pub AreFlags : Leveled → ℕ → ℕ → List ℕ → Type 0
 AreFlags v y z flags = (x : ℕ) → x < v.grid.nx → slice_index flags x ≡ flags_at v.grid (heights v) (row_start v.grid y z + x)
 
+-- no crossing edge begins at a point of a row
+pub record IsStill (v : Leveled) (y z : ℕ) : Type 0 where
+  pub none : (x : ℕ) → x < v.grid.nx → flags_at v.grid (heights v) (row_start v.grid y z + x) ≡ 0
+
 -- those of the first points, and of all where at most one more is left
 pub record HasMoreFlags (v : Leveled) (y z count : ℕ) (flags : List ℕ) : Type 0 where
   pub first : AreFlagsTo v y z count flags

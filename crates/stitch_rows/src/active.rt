@@ -1,8 +1,9 @@
 //! Which bricks of a row of bricks are active.
-ghost use Rattle.std.specs.Prelude.{◌≡◌, ℕ, ◌+◌, ◌-◌, ◌*◌, ◌<◌, ◌≤◌, ◌^◌, length, slice_index};
+ghost use Rattle.std.specs.Prelude.{◌≡◌, ℕ, ◌+◌, ◌-◌, ◌*◌, ◌<◌, ◌≤◌, ◌^◌, IsTrue, length, slice_index};
 ghost use Rattle.iso_base.specs.Sizing.{IsGrid};
 ghost use Rattle.flat_mesh.specs.Lattice.{Leveled, heights};
 ghost use Rattle.stitch_rows.specs.Bricks.{AreMarked, AreNextTo, IsMarkedLayer, IsNextFrom, first_brick};
+ghost use Rattle.stitch_rows.specs.Rows.{IsStill};
 
 use crate::bricks::{BrickRow, count_along};
 use crate::field::Field;
@@ -123,6 +124,20 @@ impl ActiveRow {
             return;
         }
         self.mark_anew(field, y, z);
+    }
+
+    /// Whether no brick of the row is active: no crossing edge begins at a point of the row of points then.
+    #[inline(always)]
+    pub fn is_still(&self, field: &Field, y: u32, z: u32) -> bool
+        requires active { AreMarked field.now self.now }
+        requires first { self.now.first ≡ first_brick field.now.grid y z }
+        requires y { y < field.now.grid.ny }
+        requires z { z < field.now.grid.nz }
+        ensures { IsTrue result → IsStill field.now y z }
+    {
+        let _ = (y, z);
+        let sizes = field.sizes();
+        self.next(0) >= count_along(sizes.nx())
     }
 
     /// Where the least active brick stands that is at a place of the row or behind it: beyond the row where there is none in it.

@@ -65,6 +65,7 @@ impl<'a> Field<'a> {
     }
 
     /// The sizes of the grid.
+    #[inline(always)]
     pub fn sizes(&self) -> Sizes
         ensures value { result ≡ self.now.grid }
         ensures leveled { IsLeveled self.now }
