@@ -1,5 +1,5 @@
 -- How many crossing edges begin in a row of points, and before it.
-use Rattle.std.proofs.Common.{◌≡◌, ℕ, zero, suc, ◌+◌, ◌*◌, ◌^◌, ◌<◌, ◌≤◌, List, [], ◌∷◌, All, length, get_or, set, take, refl, sym, ◌∙◌, ap, subst, arith, zero-add}
+use Rattle.std.proofs.Common.{◌≡◌, ℕ, ℤ, zero, suc, ◌+◌, ◌*◌, ◌^◌, ◌<◌, ◌≤◌, List, [], ◌∷◌, All, length, get_or, set, take, refl, sym, ◌∙◌, ap, subst, arith, zero-add, add-zero}
 use Rattle.std.specs.List.{sum, sum_by}
 use Rattle.std.proofs.lemmas.List.{get_or-set_other, get_or-set_same, get_or_default, length-set}
 use Rattle.std.proofs.lemmas.List.FromFn.{get_or-map-range_with_len}
@@ -8,14 +8,14 @@ use Rattle.std.proofs.Math.Nat.{mul-le-mul_left}
 use Rattle.iso_defs.specs.Grid.{Grid, point_count}
 use Rattle.iso_defs.specs.Rows.{row_count}
 use Rattle.iso_base.specs.Sizing.{IsGrid}
-use Rattle.crossing_edges.specs.Flags.{edges_in, flags_from, rank}
-use Rattle.crossing_edges.proofs.Counting.{length-flags_from, rank_along}
+use Rattle.crossing_edges.specs.Flags.{edges_in, flags_at, flags_from, rank}
+use Rattle.crossing_edges.proofs.Counting.{length-flags_from, rank_along, rank_next}
 use Rattle.edge_points.specs.Rows.{RowNumbers, sums_before}
 use Rattle.flat_mesh.specs.Lattice.{Leveled, heights}
 use Rattle.flat_mesh.specs.Rows.{row_start}
 use Rattle.flat_mesh.proofs.FirstNumbers.{rank_low}
 use Rattle.flat_mesh.proofs.Quiet.{quiet_rows}
-use Rattle.stitch_rows.specs.Rows.{AreFlags}
+use Rattle.stitch_rows.specs.Rows.{AreFlags, IsStill}
 use Rattle.stitch_rows.proofs.FlagRows.{flags_list}
 use Rattle.stitch.specs.Numbers.{AreQuiet, AreRowRanks}
 
@@ -33,6 +33,20 @@ row_sum v y z sum flags len each e =
     let all : take n fs ≡ fs = ap (λ k. take k fs) (sym (length-flags_from v.grid (heights v) a n)) ∙ whole fs in
     rank_along v.grid (heights v) a n n (omega arith)
     ∙ ap (λ k. rank v.grid (heights v) (3 * a) + k) (ap (sum_by edges_in) (all ∙ sym (flags_list v y z flags len each)) ∙ sym e)
+
+-- where no edge begins at some points
+still_along : (g : Grid) (s : ℕ → ℤ) (a n : ℕ) → ((x : ℕ) → x < n → flags_at g s (a + x) ≡ 0) → rank g s (3 * (a + n)) ≡ rank g s (3 * a)
+still_along g s a zero none = ap (λ m. rank g s (3 * m)) (add-zero a)
+still_along g s a (suc n) none =
+    let behind : a + suc n ≡ a + n + 1 = omega arith in
+    ap (λ m. rank g s (3 * m)) behind
+    ∙ (rank_next g s (a + n) ∙ (ap (λ f. rank g s (3 * (a + n)) + edges_in f) (none n (omega arith))
+    ∙ (add-zero (rank g s (3 * (a + n))) ∙ still_along g s a n (λ x low. none x (omega arith)))))
+
+-- none begins in a row
+pub still_sum : (v : Leveled) (y z : ℕ) → IsStill v y z
+    → rank v.grid (heights v) (3 * (row_start v.grid y z + v.grid.nx)) ≡ rank v.grid (heights v) (3 * row_start v.grid y z) + 0
+still_sum v y z still = still_along v.grid (heights v) (row_start v.grid y z) v.grid.nx still.none ∙ sym (add-zero (rank v.grid (heights v) (3 * row_start v.grid y z)))
 
 -- a row of cells with its two rows of points, and the same of the next slice
 pub rows_in : (g : Grid) (y z : ℕ) → y + 1 < g.ny → z + 1 < g.nz → y + g.ny * z + g.ny + 2 ≤ row_count g

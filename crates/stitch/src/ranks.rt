@@ -14,7 +14,7 @@ use flat_mesh::Heights;
 use iso_base::Sizes;
 use stitch_rows::{ActiveRow, Field, ROW, flag_row};
 
-/// How many crossing edges begin in a row of points. `flags` is a buffer.
+/// How many crossing edges begin in a row of points: none where no brick that holds the row is active. `flags` is a buffer.
 fn row_edges(field: &Field, active: &mut ActiveRow, y: u32, z: u32, flags: &mut [u8]) -> u32
     requires marked { AreMarked field.now active.old }
     requires y { y < field.now.grid.ny }
@@ -26,6 +26,9 @@ fn row_edges(field: &Field, active: &mut ActiveRow, y: u32, z: u32, flags: &mut 
 {
     let _ = field.sizes();
     active.mark(field, y, z);
+    if active.is_still(field, y, z) {
+        return 0;
+    }
     flag_row(field, active, y, z, flags);
     count_all_edges(flags)
 }
