@@ -112,6 +112,34 @@ impl<'a> Field<'a> {
         &copies[start..start + count]
     }
 
+    /// The same where more points than the nine of the brick are in the row, from where they begin among the samples of all bricks.
+    #[inline(always)]
+    pub(crate) fn full_run<'c, T: Packed>(
+        &self,
+        copies: &'c [T],
+        row: BrickRow,
+        up: u8,
+        far: u8,
+        x: u32,
+        y: u32,
+        z: u32,
+        start: usize,
+    ) -> &'c [T]
+        requires copies { AreAllCopies self.now.grid self.now.samples (map T.value copies.now) }
+        requires x { 8 * x + 9 < self.now.grid.nx }
+        requires y { y + up < self.now.grid.ny }
+        requires z { z + far < self.now.grid.nz }
+        requires up { up ≤ 1 }
+        requires far { far ≤ 1 }
+        requires row { HoldRow self.now.grid y z row }
+        requires start { start ≡ 729 * (row.first + x) + 9 * (row.y + up + 9 * (row.z + far)) }
+        ensures { IsRun self.now (8 * x) (y + up) (z + far) (map T.value result.now) }
+    {
+        let _ = (row, up, far, x, y, z);
+        let _ = self.store.sizes();
+        &copies[start..start + 9]
+    }
+
     /// The number of bricks.
     pub fn brick_count(&self) -> u32
         ensures { result ≡ brick_count self.now.grid }

@@ -89,6 +89,43 @@ pub fn point_runs<'c, T: Packed>(
     }
 }
 
+/// Where the samples of a row of points begin in its first brick, among those of all bricks.
+#[inline(always)]
+fn row_place(row: BrickRow) -> usize
+    ensures { result ≡ 729 * row.first + 9 * (row.y + 9 * row.z) }
+{
+    729 * row.first as usize + 9 * (row.y as usize + 9 * row.z as usize)
+}
+
+/// The samples of nine points of a row that a brick holds, and of the next ones, where more points are behind them in the row. `place`
+/// is where those of its first brick begin: how far from there the others are is told by x and the next rows alone.
+#[inline(always)]
+fn full_runs<'c, T: Packed>(
+    field: &Field,
+    copies: &'c [T],
+    rows: Rows,
+    place: usize,
+    x: u32,
+    y: u32,
+    z: u32,
+) -> PointRuns<'c, T>
+    requires copies { AreAllCopies field.now.grid field.now.samples (map T.value copies.now) }
+    requires x { 8 * x + 9 < field.now.grid.nx }
+    requires y { y < field.now.grid.ny }
+    requires z { z < field.now.grid.nz }
+    requires rows { HoldRows field.now.grid y z rows }
+    requires place { place ≡ 729 * rows.here.first + 9 * (rows.here.y + 9 * rows.here.z) }
+    ensures { AreRuns T.value field.now (8 * x) y z result }
+{
+    let start = place + 729 * x as usize;
+    let (up, far) = (start + 9 * rows.up as usize, start + 81 * rows.far as usize);
+    PointRuns {
+        here: field.full_run(copies, rows.here, 0, 0, x, y, z, start),
+        up: field.full_run(copies, rows.here, rows.up, 0, x, y, z, up),
+        far: field.full_run(copies, rows.here, 0, rows.far, x, y, z, far),
+    }
+}
+
 /// Writes the flags of the points of a row that a brick holds: of eight of them, those from 8 * x on, where zeros stand and more are
 /// left than the point behind them.
 #[inline(always)]
@@ -96,6 +133,7 @@ fn brick_flags<T: Flagged>(
     field: &Field,
     copies: &[T],
     rows: Rows,
+    place: usize,
     least: i64,
     x: u32,
     y: u32,
@@ -107,6 +145,7 @@ fn brick_flags<T: Flagged>(
     requires y { y < field.now.grid.ny }
     requires z { z < field.now.grid.nz }
     requires rows { HoldRows field.now.grid y z rows }
+    requires place { place ≡ 729 * rows.here.first + 9 * (rows.here.y + 9 * rows.here.z) }
     requires least { (s : ℤ) → int_le least s ≡ is_above_level s field.now.level }
     requires flags { length flags.old ≡ field.now.grid.nx }
     requires before { AreFlagsTo field.now y z (8 * x) flags.old }
@@ -115,7 +154,7 @@ fn brick_flags<T: Flagged>(
     ensures zeros { AreZerosFrom (8 * x + 8) flags.new }
 {
     let _ = field.sizes();
-    let runs = point_runs(field, copies, rows, x, y, z);
+    let runs = full_runs(field, copies, rows, place, x, y, z);
     let start = 8 * x as usize;
     put_eight(runs.here, runs.up, runs.far, least, start, flags);
 }
@@ -169,12 +208,13 @@ fn flag_bricks<T: Flagged>(
 {
     let sizes = field.sizes();
     let rows = rows_at(&sizes, y, z);
+    let place = row_place(rows.here);
     let least = field.level().least_above();
     let last = count_along(sizes.nx()) - 1;
     put_zeros(flags);
     let mut x = active.next(0);
     while x < last {
-        brick_flags(field, copies, rows, least, x, y, z, flags);
+        brick_flags(field, copies, rows, place, least, x, y, z, flags);
         x = active.next(x + 1);
     }
     if x == last {

@@ -6,25 +6,25 @@ use Rattle.stitch_rows.proofs.Heights.{run_count}
 use Rattle.stitch_rows.proofs.points.brick_flags.Goals as goal
 
 pub put_eight-requires-clause-here : goal.put_eight-requires-clause-here
-put_eight-requires-clause-here g c = omega (arith, run_count _ _ _ _ _ _ c.point_runs-runs.ensures.here, c.requires.x)
+put_eight-requires-clause-here g c = omega (arith, run_count _ _ _ _ _ _ c.full_runs-runs.ensures.here, c.requires.x)
 
 pub put_eight-requires-clause-up : goal.put_eight-requires-clause-up
-put_eight-requires-clause-up g c = omega (arith, run_count _ _ _ _ _ _ c.point_runs-runs.ensures.here, run_count _ _ _ _ _ _ c.point_runs-runs.ensures.up)
+put_eight-requires-clause-up g c = omega (arith, run_count _ _ _ _ _ _ c.full_runs-runs.ensures.here, run_count _ _ _ _ _ _ c.full_runs-runs.ensures.up)
 
 pub put_eight-requires-clause-far : goal.put_eight-requires-clause-far
-put_eight-requires-clause-far g c = omega (arith, run_count _ _ _ _ _ _ c.point_runs-runs.ensures.here, run_count _ _ _ _ _ _ c.point_runs-runs.ensures.far)
+put_eight-requires-clause-far g c = omega (arith, run_count _ _ _ _ _ _ c.full_runs-runs.ensures.here, run_count _ _ _ _ _ _ c.full_runs-runs.ensures.far)
 
 pub returns-clause-flags : goal.returns-clause-flags
 returns-clause-flags g c =
     let v = c.args.field.now in
-    let runs = c.point_runs-runs.result in
+    let runs = c.full_runs-runs.result in
     let here : List ℤ = map g.T.Packed.value runs.here.now in
     let up : List ℤ = map g.T.Packed.value runs.up.now in
     let far : List ℤ = map g.T.Packed.value runs.far.now in
     let e : to_z w64 (of_z w64 c.args.least) ≡ c.args.least = search (rules, to_z-of_z) in
     (flags_more v c.sizes.ensures.leveled c.args.y c.args.z c.requires.y c.requires.z c.args.x (min 9 (v.grid.nx - 8 * c.args.x))
     (to_z w64 (of_z w64 c.args.least)) here up far c.args.flags.now c.put_eight.new.flags (omega (arith, c.requires.x)) refl
-    c.point_runs-runs.ensures.here c.point_runs-runs.ensures.up c.point_runs-runs.ensures.far
+    c.full_runs-runs.ensures.here c.full_runs-runs.ensures.up c.full_runs-runs.ensures.far
     (λ s. ap (λ l. int_le l s) e ∙ c.requires.least s)
     (λ i low near. c.put_eight.ensures.inside i (near c.requires.x))
     c.put_eight.ensures.before c.requires.before).first
