@@ -1,6 +1,6 @@
 -- Where nothing outside fails and what a command needs is there, it is carried out, or memory is wanting.
-use Rattle.std.proofs.Common.{◌≡◌, ◌⊎◌, ℕ, ◌<◌, ◌≤◌, List, [], length, Some, None, Ok, Err, MatchOption, IfSome, refl, sym, ap, ◌∙◌, subst, inl, inr, arith}
-use Rattle.std.specs.Prelude.{Option, Result, unwrap_or}
+use Rattle.std.proofs.Common.{◌≡◌, ◌⊎◌, ℕ, ◌<◌, ◌≤◌, List, [], length, Some, None, Ok, Err, MatchOption, IfSome, refl, sym, ap, ◌∙◌, subst, inl, inr}
+use Rattle.std.specs.Prelude.{Option, unwrap_or}
 use Rattle.std.specs.FinMap.{get}
 use Rattle.iso_base.specs.Triangles.{Mesh}
 use Rattle.iso_base.specs.Volume.{Volume}
@@ -14,42 +14,23 @@ use Rattle.endings.specs.Status.{status_of}
 use Rattle.iso_defs.specs.Grid.{Grid}
 use Rattle.commands.specs.Generating.{WritesGenerated}
 use Rattle.commands.specs.Checks.{Checks, mesh_in, mesh_limit}
-use Rattle.commands.specs.Meaning.{mesh_given, points_given}
-use Rattle.commands.specs.Outcome.{Call, Converts, Rejects, Streams}
+use Rattle.point_command.specs.Meaning.{points_given}
+use Rattle.commands.specs.Meaning.{mesh_given}
+use Rattle.point_command.specs.Running.{IsDoneOrWanting}
+use Rattle.point_command.specs.Outcome.{Streams}
+use Rattle.commands.specs.Outcome.{Call, Rejects}
 use Rattle.commands.specs.Serving.{CanServe, IsCarriedOut, Serves, asked_for}
 use Rattle.commands.specs.Sessions.{Asked, RunsSession, StaysShut, answer_of}
-use Rattle.commands.specs.Volumes.{volume_limit, volume_of}
+use Rattle.point_command.specs.Volumes.{volume_limit, volume_of}
 use Rattle.command_words.specs.declared.request.Request.{Request}
 use Rattle.command_words.specs.declared.request.Request.TheVariants as requests
 use Rattle.mesh_text.specs.declared.format.TwoWayFormat.{TwoWayFormat}
-use Rattle.endings.specs.declared.answer.VolumeFault.{VolumeFault}
 use Rattle.endings.specs.declared.answer.Answer.{Answer}
 use Rattle.endings.specs.declared.answer.Answer.TheVariants as answers
 use Rattle.endings.specs.declared.answer.Status.TheVariants as statuses
-use Rattle.commands.proofs.Told.{at_told, if_told}
+use Rattle.point_command.proofs.Converted.{converted, not_both, not_long}
+use Rattle.point_command.proofs.Told.{at_told, if_told}
 use Rattle.commands.proofs.Soaks.{soaked_whole}
-
-abbrev IsDoneOrMemory : Answer → Type 0
-IsDoneOrMemory a = (status_of a ≡ statuses.Done) ⊎ (status_of a ≡ statuses.Memory)
-
-not_both : {A E : Type 0} (r : Result A E) (x : A) (e : E) → r ≡ Ok x → r ≡ Err e → ⊥
-not_both r x e p q = absurd cc
-
-not_long : (limit : ℕ) (bytes : List ℕ) → length bytes ≤ limit → limit < length bytes → ⊥
-not_long limit bytes within long = absurd (omega (arith, within, long))
-
-pub converted : (given : List ℕ → Result (List ℕ) VolumeFault) (s : Streams) (a : Answer) (bytes text : List ℕ) → Converts given s a → s.input.left ≡ Some bytes → length bytes ≤ volume_limit → given bytes ≡ Ok text
-    → (Rose s.input.faults s.input_after.faults → ⊥) → (Rose s.output.faults s.output_after.faults → ⊥) → IsDoneOrMemory a
-converted given s answers.Done bytes text h told within gives reads writes = inl refl
-converted given s answers.MeshRefused bytes text h told within gives reads writes = absurd h
-converted given s answers.BadWords bytes text h told within gives reads writes = absurd h
-converted given s (answers.BadVolume fault) bytes text h told within gives reads writes = absurd (not_both (given bytes) text fault gives (at_told (λ all. given all ≡ Err fault) s.input.left bytes told h.1))
-converted given s answers.InputFault bytes text h told within gives reads writes = absurd (reads h.0)
-converted given s answers.InputTooLong bytes text h told within gives reads writes = absurd (not_long volume_limit bytes within (at_told (λ all. volume_limit < length all) s.input.left bytes told h.0))
-converted given s answers.OutputFault bytes text h told within gives reads writes = absurd (writes h.3.cause)
-converted given s answers.Memory bytes text h told within gives reads writes = inr refl
-converted given s answers.ShelfFault bytes text h told within gives reads writes = absurd h
-converted given s (answers.BadMesh fault) bytes text h told within gives reads writes = absurd h
 
 abbrev IsCheckedOrMemory : Answer → Type 0
 IsCheckedOrMemory a = (status_of a ≡ statuses.Done) ⊎ (status_of a ≡ statuses.MeshRefused) ⊎ (status_of a ≡ statuses.Memory)
@@ -121,7 +102,7 @@ sessions : (asked : Asked) (call : Call) (a : Answer) (script : List ℕ) (files
 sessions asked call a script files bytes v (inl h) told within files_told has few gives reads writes = shut asked call a files bytes v h files_told has few gives
 sessions asked call a script files bytes v (inr h) told within files_told has few gives reads writes = inl (ap status_of h.answer_is ∙ ended _ h.ending h.lines script h.ends told within reads writes)
 
-generates : (seed : ℕ) (sizes : Grid) (s : Streams) (a : Answer) → WritesGenerated seed sizes s a → (Rose s.output.faults s.output_after.faults → ⊥) → IsDoneOrMemory a
+generates : (seed : ℕ) (sizes : Grid) (s : Streams) (a : Answer) → WritesGenerated seed sizes s a → (Rose s.output.faults s.output_after.faults → ⊥) → IsDoneOrWanting (status_of a)
 generates seed sizes s answers.Done h writes = inl refl
 generates seed sizes s answers.MeshRefused h writes = absurd h
 generates seed sizes s answers.BadWords h writes = absurd h

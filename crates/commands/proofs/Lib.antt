@@ -1,10 +1,7 @@
-pub mod Told
-pub mod Passed
 pub mod ReadVolumes
 pub mod Texts
 pub mod Generated
 pub mod Few
-pub mod FileEdges
 pub mod Openings
 pub mod Completing
 pub mod Headline

@@ -1,5 +1,5 @@
--- Volumes that were read.
-use Rattle.std.proofs.Common.{◌≡◌, ℕ, ◌≤◌, List, length, Some, None, Ok, Err, IfOk, IfSome, IfErr, refl, sym, ap, ◌∙◌, ℤ}
+-- Volumes that were read, in their pad.
+use Rattle.std.proofs.Common.{◌≡◌, ℕ, ◌≤◌, List, length, Some, None, Ok, Err, IfOk, IfSome, IfErr, refl, ap, ℤ}
 use Rattle.std.specs.Prelude.{Option, Result}
 use Rattle.std.specs.FinMap.{get}
 use Rattle.iso_base.specs.Volume.{Volume}
@@ -10,23 +10,11 @@ use Rattle.voxel_list.specs.declared.pad.PadFault.{PadFault}
 use Rattle.voxel_list.specs.declared.pad.PadFault.TheVariants as pads
 use Rattle.iso_io.specs.Files.{Files}
 use Rattle.nrrd.specs.Files.{IsRead}
-use Rattle.nrrd.specs.Nrrd.{nrrd_of, Fails}
-use Rattle.nrrd.specs.declared.fault.NrrdFault.{NrrdFault}
-use Rattle.nrrd.specs.declared.fault.NrrdFault.TheVariants as faults
-use Rattle.commands.specs.declared.volumes.NoVolume.{NoVolume}
-use Rattle.commands.specs.declared.volumes.NoVolume.TheVariants as reasons
-use Rattle.commands.specs.Volumes.{IsNotRaised, IsNoVolume, of_read, pad_refusal, raised, volume_refusal, volume_limit, volume_of, with_pad}
-use Rattle.endings.specs.declared.answer.VolumeFault.{VolumeFault}
-use Rattle.endings.specs.declared.answer.VolumeFault.TheVariants.{Nrrd}
-
--- the volume of what was read
-pub read_volume : (pad : Option ℤ) (level : ℤ) (bytes : List ℕ) (v : Volume) (r : Result Volume VolumeFault) → IsRead bytes v → with_pad pad level v ≡ r → volume_of pad level bytes ≡ r
-unfolding volume_of
-read_volume pad level bytes v r h e = ap (of_read pad level) h.1 ∙ ap (with_pad pad level) (sym h.2) ∙ e
-
-pub not_read : (pad : Option ℤ) (level : ℤ) (bytes : List ℕ) (fault : NrrdFault) → nrrd_of bytes ≡ Err fault → volume_of pad level bytes ≡ Err (Nrrd fault)
-unfolding volume_of
-not_read pad level bytes fault e = ap (of_read pad level) e
+use Rattle.point_command.specs.Volumes.{IsNoVolume, pad_refusal, raised, volume_limit, volume_of, with_pad}
+use Rattle.point_command.specs.declared.reasons.NoVolume.{NoVolume}
+use Rattle.point_command.specs.declared.reasons.NoVolume.TheVariants as reasons
+use Rattle.point_command.proofs.ReadVolumes.{read_volume}
+use Rattle.commands.specs.Volumes.{IsNotRaised}
 
 -- what is true of the bytes that were read is true of the file's
 pub of_file : (P : List ℕ → Type 0) (o : Option Files) (name bytes : List ℕ) → IfSome o (λ files. get files name ≡ Some bytes) → length bytes ≤ volume_limit → P bytes
@@ -53,22 +41,3 @@ ok_alone o level bytes v e h = rw e (read_volume None level bytes v (Ok v) h ref
 pub not_raised : (pad level : ℤ) (v : Volume) (fault : PadFault) → ((size : SizeFault) → fault ≡ pads.Size size → sized (grown v.grid) ≡ Err size) → IsNotRaised pad level v (pad_refusal fault)
 not_raised pad level v (pads.Size size) h = ap (raised pad level v) (h size refl)
 not_raised pad level v pads.Memory h = tt
-
--- a refusal of the reader, as the reason why there is no volume
-pub no_volume : (pad : Option ℤ) (level : ℤ) (bytes : List ℕ) (fault : NrrdFault) → Fails fault (nrrd_of bytes) → IsNoVolume pad level bytes (volume_refusal fault)
-no_volume pad level bytes faults.NotNrrd h = not_read pad level bytes faults.NotNrrd h
-no_volume pad level bytes (faults.HeaderTooLong n) h = not_read pad level bytes (faults.HeaderTooLong n) h
-no_volume pad level bytes (faults.BadLine line) h = not_read pad level bytes (faults.BadLine line) h
-no_volume pad level bytes (faults.RepeatedField field) h = not_read pad level bytes (faults.RepeatedField field) h
-no_volume pad level bytes (faults.MissingField field) h = not_read pad level bytes (faults.MissingField field) h
-no_volume pad level bytes (faults.BadValue field) h = not_read pad level bytes (faults.BadValue field) h
-no_volume pad level bytes faults.UnsupportedKind h = not_read pad level bytes faults.UnsupportedKind h
-no_volume pad level bytes (faults.UnsupportedEncoding word) h = not_read pad level bytes (faults.UnsupportedEncoding word) h
-no_volume pad level bytes (faults.Detached line) h = not_read pad level bytes (faults.Detached line) h
-no_volume pad level bytes (faults.SkipUnsupported field) h = not_read pad level bytes (faults.SkipUnsupported field) h
-no_volume pad level bytes (faults.NotThreeAxes n) h = not_read pad level bytes (faults.NotThreeAxes n) h
-no_volume pad level bytes (faults.Size fault) h = not_read pad level bytes (faults.Size fault) h
-no_volume pad level bytes faults.NoEndian h = not_read pad level bytes faults.NoEndian h
-no_volume pad level bytes (faults.ShortSamples needed present) h = not_read pad level bytes (faults.ShortSamples needed present) h
-no_volume pad level bytes faults.Memory h = tt
-no_volume pad level bytes (faults.BadSample place) h = not_read pad level bytes (faults.BadSample place) h

@@ -4,12 +4,13 @@ use Rattle.std.specs.Prelude.{Option, Result}
 use Rattle.iso_base.specs.Volume.{Volume}
 use Rattle.iso_io.specs.Seen.{Tape}
 use Rattle.mesh_text.specs.declared.format.TwoWayFormat.{TwoWayFormat}
-use Rattle.commands.specs.Meaning.{mesh_given, text_of_volume, text_by}
-use Rattle.commands.specs.Outcome.{Converts, ReadWhole, Streams, WritesGiven}
-use Rattle.commands.specs.Volumes.{HoldsNone, IsNoVolume, volume_answer, volume_limit, volume_of}
-use Rattle.commands.specs.declared.volumes.NoVolume.{NoVolume}
-use Rattle.commands.specs.declared.volumes.NoVolume.TheVariants as reasons
-use Rattle.commands.proofs.Told.{if_told, of_whole}
+use Rattle.point_command.specs.Meaning.{text_by}
+use Rattle.commands.specs.Meaning.{mesh_given, text_of_volume}
+use Rattle.point_command.specs.Outcome.{Converts, ReadWhole, Streams, WritesGiven}
+use Rattle.point_command.specs.Volumes.{HoldsNone, IsNoVolume, volume_answer, volume_limit, volume_of}
+use Rattle.point_command.specs.declared.reasons.NoVolume.{NoVolume}
+use Rattle.point_command.specs.declared.reasons.NoVolume.TheVariants as reasons
+use Rattle.point_command.proofs.Told.{if_told, of_whole}
 use Rattle.endings.specs.declared.answer.VolumeFault.{VolumeFault}
 use Rattle.endings.specs.declared.answer.Answer.{Answer}
 use Rattle.endings.specs.declared.answer.Answer.TheVariants as answers

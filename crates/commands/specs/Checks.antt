@@ -12,7 +12,7 @@ use Rattle.mesh_read.specs.Obj.{obj_of}
 use Rattle.mesh_read.specs.declared.fault.MeshFault.{MeshFault}
 use Rattle.mesh_check.specs.Said.{said}
 use Rattle.endings.specs.Verdicts.{verdict_text}
-use Rattle.commands.specs.Outcome.{NothingWritten, ReadWhole, Streams, Writes, WritesFront}
+use Rattle.point_command.specs.Outcome.{NothingWritten, ReadWhole, Streams, Writes, WritesFront}
 use Rattle.mesh_text.specs.declared.format.TwoWayFormat.{TwoWayFormat}
 use Rattle.mesh_text.specs.declared.format.TwoWayFormat.TheVariants.{Ply, Obj}
 use Rattle.endings.specs.declared.answer.Answer.{Answer}

@@ -3,7 +3,7 @@ use Rattle.std.specs.Prelude.{◌≡◌, ℕ, List, Option, Ok, IfSome, ℤ}
 use Rattle.iso_base.specs.Volume.{Volume}
 use Rattle.iso_io.specs.Seen.{Feed}
 use Rattle.bench_core.specs.Surface.{IsWatertight}
-use Rattle.commands.specs.Volumes.{volume_of}
+use Rattle.point_command.specs.Volumes.{volume_of}
 use Rattle.endings.specs.declared.answer.Answer.{Answer}
 use Rattle.endings.specs.declared.answer.Answer.TheVariants as answers
 

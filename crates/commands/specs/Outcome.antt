@@ -1,23 +1,13 @@
 -- What a call of the program does to the outside, and by which answer it ends.
-use Rattle.std.specs.Prelude.{◌≡◌, ℕ, ◌<◌, ◌≤◌, List, length, Option, None, Result, Ok, Err, IfSome}
-use Rattle.std.specs.Io.KnownBytes.{Appends, IsAtEnd}
-use Rattle.iso_io.specs.Causes.{Rose}
-use Rattle.iso_io.specs.Seen.{Feed, Tape, AppendsFront}
+use Rattle.std.specs.Prelude.{◌≡◌, ℕ, Option, None}
+use Rattle.iso_io.specs.Seen.{Feed, Tape}
 use Rattle.iso_io.specs.Shelves.{Store}
 use Rattle.bench_core.specs.Keeping.{Workbench}
-use Rattle.commands.specs.Volumes.{volume_limit}
-use Rattle.endings.specs.declared.answer.VolumeFault.{VolumeFault}
+use Rattle.point_command.specs.Outcome.{Streams, streams_between}
 use Rattle.endings.specs.declared.answer.Answer.{Answer}
 use Rattle.endings.specs.declared.answer.Answer.TheVariants as answers
 
--- what the input and the output are seen as before a call and after it
-pub record Streams : Type 0 where
-  pub input : Feed
-  pub input_after : Feed
-  pub output : Tape
-  pub output_after : Tape
-
--- and the shelf, the bench that is left, and the counter of classified cells
+-- the input and the output, the shelf, the bench that is left, and the counter of classified cells
 pub record Call : Type 0 where
   pub streams : Streams
   pub store : Store
@@ -25,16 +15,6 @@ pub record Call : Type 0 where
   pub left : Option Workbench
   pub steps : ℕ
   pub steps_after : ℕ
-
--- the input and the output of a call, by how they are seen and what they are before it and after it
-abbrev pub streams_between : {S K : Type 0} → (S → Feed) → (K → Tape) → S → S → K → K → Streams
-streams_between feed tape input input_after output output_after =
-    record { input = feed input; input_after = feed input_after; output = tape output; output_after = tape output_after }
-
--- those of a call that reads nothing
-abbrev pub unread_between : {K : Type 0} → Feed → (K → Tape) → K → K → Streams
-unread_between input tape output output_after =
-    record { input = input; input_after = input; output = tape output; output_after = tape output_after }
 
 -- a call, by its streams, how its shelf is seen, and what is left
 abbrev pub call_with : {H : Type 0} → Streams → (H → Store) → H → H → Option Workbench → ℕ → ℕ → Call
@@ -52,53 +32,11 @@ abbrev pub call_between : {S K H : Type 0} → (S → Feed) → (K → Tape) →
 call_between feed tape store input input_after output output_after shelf shelf_after left steps steps_after =
     call_with (streams_between feed tape input input_after output output_after) store shelf shelf_after left steps steps_after
 
--- the input was read to its end, and has no more than this many bytes
-pub record ReadWhole (limit : ℕ) (call : Streams) : Type 0 where
-  pub ended : IsAtEnd call.input_after.left
-  pub within : IfSome call.input.left (λ bytes. length bytes ≤ limit)
-
--- the output was not touched
-abbrev pub NothingWritten : Streams → Type 0
-NothingWritten call = call.output_after ≡ call.output
-
--- a text was appended to the output, and what lies beside it stays
-pub record Writes (call : Streams) (text : List ℕ) : Type 0 where
-  pub gained : Appends call.output.taken call.output_after.taken text
-  pub beside : call.output_after.beside ≡ call.output.beside
-
--- the output failed, a front of a text was appended to it, and what lies beside it stays
-pub record WritesFront (call : Streams) (text : List ℕ) : Type 0 where
-  pub cause : Rose call.output.faults call.output_after.faults
-  pub gained : AppendsFront call.output.taken call.output_after.taken text
-  pub beside : call.output_after.beside ≡ call.output.beside
-
 -- the shelf was not touched, no bench is left, and no cell was classified
 pub record LeavesShelf (call : Call) : Type 0 where
   pub same : call.store_after ≡ call.store
   pub none : call.left ≡ None
   pub steps : call.steps_after ≡ call.steps
-
--- A command that reads a volume from its input and then writes. `given` is the text that an input gives, or why it gives none.
-abbrev pub Converts : (List ℕ → Result (List ℕ) VolumeFault) → Streams → Answer → Type 0
-Converts given call answers.Done =
-    (text : List ℕ) × ReadWhole volume_limit call × IfSome call.input.left (λ bytes. given bytes ≡ Ok text) × Writes call text
-Converts given call answers.OutputFault =
-    (text : List ℕ) × ReadWhole volume_limit call × IfSome call.input.left (λ bytes. given bytes ≡ Ok text) × WritesFront call text
-Converts given call answers.InputFault = Rose call.input.faults call.input_after.faults × NothingWritten call
-Converts given call answers.InputTooLong = IfSome call.input.left (λ bytes. volume_limit < length bytes) × NothingWritten call
-Converts given call (answers.BadVolume fault) =
-    ReadWhole volume_limit call × IfSome call.input.left (λ bytes. given bytes ≡ Err fault) × NothingWritten call
-Converts given call answers.Memory = NothingWritten call
-Converts given call answer = ⊥
-
--- what becomes of the output where the input gives a text, or why it gives none, by the answer
-abbrev pub WritesGiven : Result (List ℕ) VolumeFault → Tape → Tape → Answer → Type 0
-WritesGiven given old new answers.Done = (text : List ℕ) × (given ≡ Ok text) × Appends old.taken new.taken text × (new.beside ≡ old.beside)
-WritesGiven given old new answers.OutputFault =
-    (text : List ℕ) × (given ≡ Ok text) × Rose old.faults new.faults × AppendsFront old.taken new.taken text × (new.beside ≡ old.beside)
-WritesGiven given old new (answers.BadVolume fault) = (given ≡ Err fault) × (new ≡ old)
-WritesGiven given old new answers.Memory = new ≡ old
-WritesGiven given old new answer = ⊥
 
 -- what is no command line is refused, and nothing is read, written or left
 pub record Rejects (call : Call) (answer : Answer) : Type 0 where

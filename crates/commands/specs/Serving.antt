@@ -9,11 +9,13 @@ use Rattle.session.specs.Sessions.{script_limit}
 use Rattle.commands.specs.Checks.{Checks, mesh_in, mesh_limit}
 use Rattle.commands.specs.Generating.{Generates}
 use Rattle.commands.specs.Headline.{ShowsMesh}
-use Rattle.commands.specs.Meaning.{mesh_given, points_given}
-use Rattle.commands.specs.Outcome.{Call, Converts, LeavesShelf, Rejects}
+use Rattle.point_command.specs.Meaning.{points_given}
+use Rattle.commands.specs.Meaning.{mesh_given}
+use Rattle.point_command.specs.Outcome.{Converts}
+use Rattle.commands.specs.Outcome.{Call, LeavesShelf, Rejects}
 use Rattle.commands.specs.Sessions.{Asked, RunsSession}
 use Rattle.commands.specs.Soaking.{DoesSoak}
-use Rattle.commands.specs.Volumes.{volume_limit, volume_of}
+use Rattle.point_command.specs.Volumes.{volume_limit, volume_of}
 use Rattle.command_words.specs.Words.{request_of}
 use Rattle.command_words.specs.declared.request.Request.{Request}
 use Rattle.command_words.specs.declared.request.Request.TheVariants as requests

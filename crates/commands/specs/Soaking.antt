@@ -20,7 +20,8 @@ use Rattle.session.specs.Table.{may_want_memory}
 use Rattle.session.specs.declared.response.Response.{Response}
 use Rattle.session.specs.declared.response.Response.TheVariants.{Line}
 use Rattle.session.specs.Worlds.{CountsBy, World, replies_text, scene_of, world}
-use Rattle.commands.specs.Outcome.{Call, LeavesShelf, NothingWritten}
+use Rattle.point_command.specs.Outcome.{NothingWritten}
+use Rattle.commands.specs.Outcome.{Call, LeavesShelf}
 use Rattle.commands.specs.Sessions.{world_after}
 use Rattle.commands.specs.declared.soak.Pace.{Pace}
 use Rattle.commands.specs.declared.soak.Pace.TheVariants.{On, Wanting, Fault}

@@ -3,7 +3,7 @@ ghost use Rattle.std.specs.Prelude.{◌≡◌, ◌^◌, ◌≤◌, length, Ok, I
 ghost use Rattle.iso_io.specs.Seen.{Puts};
 ghost use Rattle.mesh_read.specs.Answers.{Answers};
 ghost use Rattle.commands.specs.Checks.{answer_to, Checks, HasMesh, HasNoMesh, HasVerdict, IsNoMesh, is_broken, mesh_in};
-ghost use Rattle.commands.specs.Outcome.{streams_between};
+ghost use Rattle.point_command.specs.Outcome.{streams_between};
 ghost use Rattle.endings.specs.Verdicts.{verdict_text};
 
 use endings::{Answer, verdict_line};

@@ -20,7 +20,6 @@ ghost use Rattle.command_words.specs.declared.request.Request.TheVariants.{Extra
 use crate::checks::check;
 use crate::generate::generate;
 use crate::meshes::extract;
-use crate::points::points;
 use crate::sessions::run_on_file;
 use crate::soak::soak;
 use bench_core::{Bench, Capacity};
@@ -28,6 +27,7 @@ use command_words::{Request, read_words};
 use endings::{Answer, Status, put_note};
 use iso_base::Steps;
 use iso_io::{Shelf, Sink, Source};
+use point_command::points;
 use std::alloc::Global;
 use std::sync::ledger::Ledger;
 

@@ -2,7 +2,7 @@
 
 ghost use Rattle.iso_io.specs.Seen.{Feed};
 ghost use Rattle.commands.specs.Generating.{WritesGenerated};
-ghost use Rattle.commands.specs.Outcome.{unread_between};
+ghost use Rattle.point_command.specs.Outcome.{unread_between};
 
 use endings::Answer;
 use iso_base::Sizes;

@@ -6,7 +6,6 @@ mod checks;
 mod command_line;
 mod generate;
 mod meshes;
-mod points;
 mod sessions;
 mod soak;
 mod volumes;

@@ -10,9 +10,9 @@ ghost use Rattle.bench_core.specs.Machine.{IsAbovePad};
 ghost use Rattle.bench_core.specs.Surface.{IsWatertight};
 ghost use Rattle.commands.specs.Headline.{IsMeshWatertight, ShowsMesh};
 ghost use Rattle.endings.specs.declared.answer.Answer.TheVariants as answers;
-ghost use Rattle.commands.specs.Outcome.{Converts, WritesGiven, streams_between};
+ghost use Rattle.point_command.specs.Outcome.{Converts, WritesGiven, streams_between};
 
-use crate::volumes::{NoVolume, bytes_of_input, volume_in};
+use crate::volumes::volume_in;
 use bench_core::watertight;
 use crossing_edges::{Numbers, SampleList};
 use endings::Answer;
@@ -22,6 +22,7 @@ use iso_io::{Failed, Sink, Source};
 use list_stitch::{ListMesh, Style};
 use mesh_text::TwoWayFormat;
 use nrrd::{FileVolume, RawVolume, read_file_volume};
+use point_command::{NoVolume, bytes_of_input};
 use std::alloc::Global;
 use voxel_list::VoxelList;
 

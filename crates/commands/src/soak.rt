@@ -6,7 +6,8 @@ ghost use Rattle.volume_gen.specs.Soak.{soak_lines};
 ghost use Rattle.script.specs.Commands.{read_of};
 ghost use Rattle.session.specs.Responses.{response_text};
 ghost use Rattle.session.specs.Worlds.{world};
-ghost use Rattle.commands.specs.Outcome.{call_with, unread_between};
+ghost use Rattle.point_command.specs.Outcome.{unread_between};
+ghost use Rattle.commands.specs.Outcome.{call_with};
 ghost use Rattle.commands.specs.Soaking.{DoesSoak, RunsLines, Shows, SoaksLine, is_ply, is_want_response, soak_level, soak_limits, soak_sizes, soak_volume};
 
 use arrayvec::ArrayString;

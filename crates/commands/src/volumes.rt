@@ -1,84 +1,20 @@
 //! Volumes of files, opened for a command.
-ghost use Rattle.std.specs.Prelude.{◌≡◌, ◌≤◌, length, ℤ, Option, None, Some, Ok, IfOk, IfErr, IfSome};
+ghost use Rattle.std.specs.Prelude.{◌≡◌, ◌≤◌, ℤ, Option, None, Some, Ok, IfOk, IfErr, IfSome};
 ghost use Rattle.iso_base.specs.Samples.{IsSample};
-ghost use Rattle.iso_io.specs.Seen.{ReadsAll};
 ghost use Rattle.nrrd.specs.Files.{IsRead};
 ghost use Rattle.bench_core.specs.Machine.{begin_fault, IsAbovePad};
-ghost use Rattle.commands.specs.Volumes.{volume_limit, FileIs, HoldsNone, HoldsVolume, IsNotRaised, IsNoVolume, LacksVolume, volume_of, with_pad};
+ghost use Rattle.point_command.specs.Volumes.{HoldsNone, IsNoVolume, volume_of, with_pad};
+ghost use Rattle.commands.specs.Volumes.{FileIs, HoldsVolume, IsNotRaised, LacksVolume};
 
 use brick_store::BrickStore;
 use endings::{Answer, VolumeFault};
 use file_bricks::bricks_of_file;
-use iso_base::{Level, Memory};
-use iso_io::{Shelf, Source, read_all_of};
-use nrrd::{NrrdFault, read_volume};
+use iso_base::Level;
+use iso_io::{Shelf, Source};
+use nrrd::read_volume;
+use point_command::{NoVolume, VOLUME_LIMIT, bytes_of_input};
 use std::alloc::Global;
-use voxel_list::{PadFault, VoxelList};
-
-/// The most bytes of a volume file.
-const LIMIT: u64 = 640_065_536;
-
-/// Why the bytes of a file hold no volume to work on.
-#[derive(Clone, Copy)]
-pub enum NoVolume {
-    /// They hold none, it takes no pad, or the level is not above the pad.
-    Refused(VolumeFault),
-    /// Memory could not be had.
-    Memory,
-}
-
-impl From<NrrdFault> for NoVolume {
-    ghost use Rattle.std.specs.Prelude.{◌≡◌};
-    ghost use Rattle.commands.specs.Volumes.{volume_refusal};
-
-    ghost from_gives = { λ fault reason. reason ≡ volume_refusal fault };
-
-    fn from(fault: NrrdFault) -> NoVolume {
-        match fault {
-            NrrdFault::Memory => NoVolume::Memory,
-            fault => NoVolume::Refused(VolumeFault::Nrrd(fault)),
-        }
-    }
-}
-
-impl From<PadFault> for NoVolume {
-    ghost use Rattle.std.specs.Prelude.{◌≡◌};
-    ghost use Rattle.commands.specs.Volumes.{pad_refusal};
-
-    ghost from_gives = { λ fault reason. reason ≡ pad_refusal fault };
-
-    fn from(fault: PadFault) -> NoVolume {
-        match fault {
-            PadFault::Size(fault) => NoVolume::Refused(VolumeFault::Pad(fault)),
-            PadFault::Memory => NoVolume::Memory,
-        }
-    }
-}
-
-impl From<Memory> for NoVolume {
-    ghost use Rattle.std.specs.Prelude.{◌≡◌};
-    ghost use Rattle.commands.specs.declared.volumes.NoVolume.TheVariants.{Memory};
-
-    ghost from_gives = { λ _ reason. reason ≡ Memory };
-
-    fn from(_: Memory) -> NoVolume {
-        NoVolume::Memory
-    }
-}
-
-impl From<NoVolume> for Answer {
-    ghost use Rattle.std.specs.Prelude.{◌≡◌};
-    ghost use Rattle.commands.specs.Volumes.{volume_answer};
-
-    ghost from_gives = { λ reason answer. answer ≡ volume_answer reason };
-
-    fn from(reason: NoVolume) -> Answer {
-        match reason {
-            NoVolume::Refused(fault) => Answer::BadVolume(fault),
-            NoVolume::Memory => Answer::Memory,
-        }
-    }
-}
+use voxel_list::VoxelList;
 
 /// The volume of the bytes of a file, which are let go.
 fn unpadded(alloc: Global, bytes: Vec<u8>) -> Result<VoxelList, NoVolume>
@@ -125,15 +61,6 @@ pub fn volume_in(
         Some(pad) => padded(alloc, volume, pad, level),
         None => Ok(volume),
     }
-}
-
-/// The bytes of the whole input.
-pub fn bytes_of_input<S: Source>(alloc: Global, input: &mut S) -> Result<Vec<u8>, Answer>
-    ensures all { IfOk result (λ v. ReadsAll (S.seen input.old) (S.seen input.new) v.items) }
-    ensures within { IfOk result (λ v. length v.items ≤ volume_limit) }
-    ensures fault { (pad : Option ℤ) (level : ℤ) → IfErr result (λ answer. HoldsNone pad level (S.seen input.old) (S.seen input.new) answer) }
-{
-    Ok(read_all_of(alloc, input, LIMIT)?)
 }
 
 /// The volume of the whole input.
@@ -189,6 +116,6 @@ pub fn bricks_on_shelf<H: Shelf>(
     ensures above { IfOk result (λ v. begin_fault v.pad level ≡ None) }
     ensures fault { IfErr result (λ answer. LacksVolume pad level name.now (H.seen shelf.old) (H.seen shelf.new) answer) }
 {
-    let bytes = shelf.read(alloc, name, LIMIT)?;
+    let bytes = shelf.read(alloc, name, VOLUME_LIMIT)?;
     Ok(bricks_in(alloc, bytes, pad, level)?)
 }

@@ -1,4 +1,4 @@
-use Rattle.commands.specs.Outcome.{streams_between}
+use Rattle.point_command.specs.Outcome.{streams_between}
 use Rattle.commands.proofs.Written.{not_held, not_held_done}
 use Rattle.std.proofs.Common.{refl}
 use Rattle.commands.proofs.meshes.extract.Goals as goal

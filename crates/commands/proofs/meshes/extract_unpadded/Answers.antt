@@ -2,9 +2,10 @@ use Rattle.std.proofs.Common.{◌≡◌, ◌∙◌, None, ap, refl, subst, sym}
 use Rattle.iso_base.specs.Volume.{unpadded}
 use Rattle.nrrd.specs.Files.{IsRead, file_voxels}
 use Rattle.commands.specs.Meaning.{mesh_given}
-use Rattle.commands.specs.Outcome.{WritesGiven}
-use Rattle.commands.specs.Volumes.{volume_answer, volume_refusal}
-use Rattle.commands.proofs.ReadVolumes.{no_volume, ok_alone}
+use Rattle.point_command.specs.Outcome.{WritesGiven}
+use Rattle.point_command.specs.Volumes.{volume_answer, volume_refusal}
+use Rattle.point_command.proofs.ReadVolumes.{no_volume}
+use Rattle.commands.proofs.ReadVolumes.{ok_alone}
 use Rattle.commands.proofs.Written.{of_volume, refused}
 use Rattle.commands.proofs.meshes.extract_unpadded.Goals as goal
 

@@ -1,5 +1,6 @@
 use Rattle.std.proofs.Common.{Some, refl}
-use Rattle.commands.specs.Outcome.{call_with, unread_between}
+use Rattle.point_command.specs.Outcome.{unread_between}
+use Rattle.commands.specs.Outcome.{call_with}
 use Rattle.commands.proofs.Soaks.{opened_soak}
 use Rattle.commands.proofs.soak.soak.Goals as goal
 

@@ -1,9 +1,10 @@
 use Rattle.std.proofs.Common.{subst}
 use Rattle.nrrd.specs.Nrrd.{nrrd_of, Fails}
 use Rattle.nrrd.specs.Files.{IsRead}
-use Rattle.commands.specs.Volumes.{IsNoVolume, volume_refusal}
-use Rattle.commands.proofs.Passed.{passed_on}
-use Rattle.commands.proofs.ReadVolumes.{no_volume, ok_alone}
+use Rattle.point_command.specs.Volumes.{IsNoVolume, volume_refusal}
+use Rattle.point_command.proofs.Passed.{passed_on}
+use Rattle.point_command.proofs.ReadVolumes.{no_volume}
+use Rattle.commands.proofs.ReadVolumes.{ok_alone}
 use Rattle.commands.proofs.volumes.bricks_in.Goals as goal
 
 pub returns-in_ok-bricks_of_file-in-None-clause-volume : goal.returns-in_ok-bricks_of_file-in-None-clause-volume

@@ -1,6 +1,7 @@
 use Rattle.std.proofs.Common.{ap, ◌∙◌, Err}
-use Rattle.commands.specs.Volumes.{IsNotRaised, pad_refusal}
-use Rattle.commands.proofs.Passed.{passed_on}
+use Rattle.point_command.specs.Volumes.{pad_refusal}
+use Rattle.commands.specs.Volumes.{IsNotRaised}
+use Rattle.point_command.proofs.Passed.{passed_on}
 use Rattle.commands.proofs.ReadVolumes.{not_raised}
 use Rattle.commands.proofs.volumes.padded.Goals as goal
 

@@ -1,8 +1,8 @@
 use Rattle.std.proofs.Common.{sym, ap, ◌∙◌, subst}
 use Rattle.nrrd.specs.Nrrd.{nrrd_of, Fails}
-use Rattle.commands.specs.Volumes.{IsNoVolume, volume_refusal}
-use Rattle.commands.proofs.Passed.{passed_on}
-use Rattle.commands.proofs.ReadVolumes.{no_volume}
+use Rattle.point_command.specs.Volumes.{IsNoVolume, volume_refusal}
+use Rattle.point_command.proofs.Passed.{passed_on}
+use Rattle.point_command.proofs.ReadVolumes.{no_volume}
 use Rattle.commands.proofs.volumes.unpadded.Goals as goal
 
 pub returns-clause-volume : goal.returns-clause-volume

@@ -1,5 +1,5 @@
-use Rattle.commands.specs.Volumes.{IsNoVolume}
-use Rattle.commands.proofs.Passed.{passed_on}
+use Rattle.point_command.specs.Volumes.{IsNoVolume}
+use Rattle.point_command.proofs.Passed.{passed_on}
 use Rattle.commands.proofs.ReadVolumes.{ok_in_pad, no_in_pad, ok_alone}
 use Rattle.commands.proofs.volumes.volume_in.Goals as goal
 

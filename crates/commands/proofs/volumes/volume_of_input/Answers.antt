@@ -1,5 +1,5 @@
-use Rattle.commands.specs.Volumes.{HoldsNone}
-use Rattle.commands.proofs.Passed.{passed_on}
+use Rattle.point_command.specs.Volumes.{HoldsNone}
+use Rattle.point_command.proofs.Passed.{passed_on}
 use Rattle.commands.proofs.volumes.volume_of_input.Goals as goal
 
 pub returns-in_err-bytes-clause-fault : goal.returns-in_err-bytes-clause-fault

@@ -9,11 +9,11 @@ use Rattle.mesh_text.specs.Lines.{points_head}
 use Rattle.mesh_write.specs.Edges.{ArePlaced, placed_lines}
 use Rattle.mesh_write.proofs.Crossings.{are_placed}
 use Rattle.file_points.specs.Edges.{AreEdgesOf, AreEdgesOfFile}
-use Rattle.commands.specs.Meaning.{points_of, points_given, text_by}
-use Rattle.commands.specs.Volumes.{HoldsEdges, volume_limit}
-use Rattle.commands.proofs.ReadVolumes.{read_volume}
-use Rattle.commands.proofs.Texts.{few_edges, points_text_is}
-use Rattle.commands.proofs.Told.{if_told}
+use Rattle.point_command.specs.Meaning.{points_of, points_given, text_by}
+use Rattle.point_command.specs.Volumes.{HoldsEdges, volume_limit}
+use Rattle.point_command.proofs.ReadVolumes.{read_volume}
+use Rattle.point_command.proofs.Texts.{few_edges, points_text_is}
+use Rattle.point_command.proofs.Told.{if_told}
 
 -- they are those of a volume
 pub known_edges : (bytes : List ℕ) (level : ℤ) (grid : Grid) (names places : List ℕ) → AreEdgesOfFile bytes level grid names places → (v : Voxels) × AreEdgesOf v level grid names places

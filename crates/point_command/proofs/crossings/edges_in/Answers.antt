@@ -1,9 +1,9 @@
 use Rattle.std.proofs.Common.{None, subst}
 use Rattle.nrrd.specs.Nrrd.{nrrd_of, Fails}
-use Rattle.commands.specs.Volumes.{IsNoVolume, volume_refusal}
-use Rattle.commands.proofs.Passed.{passed_on}
-use Rattle.commands.proofs.ReadVolumes.{no_volume}
-use Rattle.commands.proofs.points.edges_in.Goals as goal
+use Rattle.point_command.specs.Volumes.{IsNoVolume, volume_refusal}
+use Rattle.point_command.proofs.Passed.{passed_on}
+use Rattle.point_command.proofs.ReadVolumes.{no_volume}
+use Rattle.point_command.proofs.crossings.edges_in.Goals as goal
 
 pub returns-in_err-edges_of_file-clause-fault : goal.returns-in_err-edges_of_file-clause-fault
 returns-in_err-edges_of_file-clause-fault c =

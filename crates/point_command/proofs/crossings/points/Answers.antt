@@ -1,5 +1,5 @@
-use Rattle.commands.proofs.FileEdges.{edges_text, gives_edges}
-use Rattle.commands.proofs.points.points.Goals as goal
+use Rattle.point_command.proofs.FileEdges.{edges_text, gives_edges}
+use Rattle.point_command.proofs.crossings.points.Goals as goal
 
 pub put_text-requires-clause-known : goal.put_text-requires-clause-known
 put_text-requires-clause-known g c = (c.args.level, c.in-Ok.ensures.known.0, c.in-Ok.ensures.known.1)

@@ -6,11 +6,12 @@ ghost use Rattle.iso_io.specs.Seen.{Puts};
 ghost use Rattle.mesh_text.specs.Lines.{points_head};
 ghost use Rattle.mesh_write.specs.Edges.{placed_lines};
 ghost use Rattle.file_points.specs.Edges.{AreEdgesOf, AreEdgesOfFile};
-ghost use Rattle.commands.specs.Meaning.{points_given};
-ghost use Rattle.commands.specs.Outcome.{Converts, streams_between};
-ghost use Rattle.commands.specs.Volumes.{HoldsEdges, HoldsNone, IsNoVolume};
+ghost use Rattle.point_command.specs.Meaning.{points_given};
+ghost use Rattle.point_command.specs.Outcome.{Converts, streams_between};
+ghost use Rattle.point_command.specs.Volumes.{HoldsEdges, HoldsNone, IsNoVolume};
 
-use crate::volumes::{NoVolume, bytes_of_input};
+use crate::input::bytes_of_input;
+use crate::reasons::NoVolume;
 use endings::Answer;
 use file_points::{FileEdges, edges_of_file};
 use iso_base::Level;

@@ -1,8 +1,8 @@
 use Rattle.std.proofs.Common.{None}
-use Rattle.commands.specs.Volumes.{HoldsNone}
-use Rattle.commands.proofs.FileEdges.{edges_told, known_edges}
-use Rattle.commands.proofs.Passed.{passed_on}
-use Rattle.commands.proofs.points.edges_of_input.Goals as goal
+use Rattle.point_command.specs.Volumes.{HoldsNone}
+use Rattle.point_command.proofs.FileEdges.{edges_told, known_edges}
+use Rattle.point_command.proofs.Passed.{passed_on}
+use Rattle.point_command.proofs.crossings.edges_of_input.Goals as goal
 
 pub returns-clause-known : goal.returns-clause-known
 returns-clause-known g c = known_edges _ _ _ _ _ c.in_ok-edges_in.ensures.edges

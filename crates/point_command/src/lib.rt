@@ -1,0 +1,14 @@
+//! The points at which the surface of a volume crosses lattice edges, as a command: over any input and output, by which answer
+//! it ends, and what it then has written; and the program that knows this command alone.
+#![tactic(auto)]
+
+mod crossings;
+mod input;
+mod reasons;
+mod run;
+mod words;
+
+pub use crossings::points;
+pub use input::{VOLUME_LIMIT, bytes_of_input};
+pub use reasons::NoVolume;
+pub use run::run_points;
