@@ -8,7 +8,7 @@ use Rattle.iso_base.specs.declared.fault.BenchFault.{BenchFault}
 use Rattle.iso_base.specs.declared.fault.BenchFault.TheVariants as faults
 use Rattle.iso_base.specs.declared.fault.Written.{Written}
 use Rattle.iso_base.specs.declared.format.MeshFormat.{MeshFormat}
-use Rattle.iso_io.specs.declared.Failed.{Failed}
+use Rattle.byte_streams.specs.declared.Failed.{Failed}
 use Rattle.iso_io.specs.Shelves.{Store, Stores, FilesCut, with_file}
 use Rattle.voxel_list.specs.Areas.{Area}
 use Rattle.flat_mesh.specs.Mesh.{FlatMesh}

@@ -1,7 +1,7 @@
 //! Windows of a volume as files of a shelf.
 
 ghost use Rattle.std.specs.Prelude.{◌≡◌, ◌⊎◌, [], IfErr, IfOk, None, OnOk, Some};
-ghost use Rattle.iso_io.specs.Seen.{Puts};
+ghost use Rattle.byte_streams.specs.Seen.{Puts};
 ghost use Rattle.iso_io.specs.Shelves.{Stores, file_tape};
 ghost use Rattle.window_mesh.specs.Crops.{IsWindowOfMesh};
 ghost use Rattle.window_write.specs.Lines.{IsNear, steps_of, text_of, written_of};

@@ -12,7 +12,7 @@ use crossing_edges::Numbers;
 use edge_points::RowRanks;
 use flat_mesh::extract_flat;
 use iso_base::{Level, Memory, Point, SampleKind, Sizes, Steps, VoxelData, Written};
-use iso_io::{Failed, MemSink};
+use byte_streams::{Failed, MemSink};
 use kept_mesh::count_entries;
 use list_stitch::ListMesh;
 use mesh_text::TwoWayFormat;

@@ -4,8 +4,8 @@ use Rattle.std.specs.Prelude.{Option, unwrap_or}
 use Rattle.std.specs.FinMap.{get}
 use Rattle.iso_base.specs.Triangles.{Mesh}
 use Rattle.iso_base.specs.Volume.{Volume}
-use Rattle.iso_io.specs.Causes.{Rose}
-use Rattle.iso_io.specs.Files.{Files}
+use Rattle.byte_streams.specs.Causes.{Rose}
+use Rattle.byte_streams.specs.Files.{Files}
 use Rattle.iso_io.specs.Shelves.{Lacks, content}
 use Rattle.session.specs.Sessions.{Course, EndsAfter, script_limit}
 use Rattle.session.specs.declared.ending.Ending.{Ending}

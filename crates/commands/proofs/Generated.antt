@@ -1,6 +1,6 @@
 -- A text was written, or a front of it, and nothing was read.
 use Rattle.std.proofs.Common.{ℕ, List, Ok, Err}
-use Rattle.iso_io.specs.Seen.{Feed, Puts, Tape}
+use Rattle.byte_streams.specs.Seen.{Feed, Puts, Tape}
 use Rattle.point_command.specs.Outcome.{Streams, Writes, WritesFront}
 
 abbrev unread : Feed → Tape → Tape → Streams

@@ -8,7 +8,7 @@ use Rattle.iso_base.specs.declared.sizes.SizeFault.{SizeFault}
 use Rattle.voxel_list.specs.Padding.{grown}
 use Rattle.voxel_list.specs.declared.pad.PadFault.{PadFault}
 use Rattle.voxel_list.specs.declared.pad.PadFault.TheVariants as pads
-use Rattle.iso_io.specs.Files.{Files}
+use Rattle.byte_streams.specs.Files.{Files}
 use Rattle.nrrd.specs.Files.{IsRead}
 use Rattle.point_command.specs.Volumes.{IsNoVolume, pad_refusal, raised, volume_limit, volume_of, with_pad}
 use Rattle.point_command.specs.declared.reasons.NoVolume.{NoVolume}

@@ -1,7 +1,7 @@
 -- What each line of a session that asked for a mesh did.
 use Rattle.std.proofs.Common.{◌≡◌, ◌⊎◌, ℕ, List, [], ◌∷◌, ◌++◌, true, false, Ok, Some, None, IfSome, MatchOption, refl, sym, ap, ◌∙◌, subst, inl, inr, append_assoc, ℤ}
 use Rattle.std.specs.Prelude.{Option}
-use Rattle.iso_io.specs.Files.{Files}
+use Rattle.byte_streams.specs.Files.{Files}
 use Rattle.bench_core.specs.Keeping.{Workbench}
 use Rattle.bench_core.specs.Machine.{IsState, State}
 use Rattle.session.proofs.Running.{kept_followed}

@@ -1,7 +1,7 @@
 -- How a soak ends, and what it leaves.
 use Rattle.std.proofs.Common.{◌≡◌, ◌⊎◌, ℕ, List, [], ◌∷◌, ◌++◌, Some, MatchOption, refl, sym, ap, subst, inl, inr}
 use Rattle.std.specs.Prelude.{Option}
-use Rattle.iso_io.specs.Causes.{Rose}
+use Rattle.byte_streams.specs.Causes.{Rose}
 use Rattle.bench_core.specs.Keeping.{Workbench, first_bench}
 use Rattle.volume_gen.specs.Soak.{soak_lines}
 use Rattle.session.specs.Worlds.{World, world}

@@ -3,7 +3,7 @@ use Rattle.std.proofs.Common.{◌≡◌, ℕ, List, ap, ℤ, Ok, refl, subst, is
 use Rattle.std.specs.Prelude.{Option, Result, Bool}
 use Rattle.iso_base.specs.Volume.{Volume}
 use Rattle.iso_base.specs.Shifted.{field}
-use Rattle.iso_io.specs.Seen.{Tape, Puts}
+use Rattle.byte_streams.specs.Seen.{Tape, Puts}
 use Rattle.flat_mesh.specs.Mesh.{FlatMesh, mesh_of}
 use Rattle.mesh_write.specs.Mesh.{ply_of, obj_of, text_of}
 use Rattle.bench_core.specs.Texts.{obj_text, ply_text}

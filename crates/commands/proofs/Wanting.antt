@@ -7,7 +7,7 @@ use Rattle.iso_base.specs.declared.fault.BenchFault.TheVariants as faults
 use Rattle.iso_defs.specs.Texts.{line}
 use Rattle.iso_defs.specs.Grid.{Grid}
 use Rattle.iso_base.specs.declared.point.Point.{Point}
-use Rattle.iso_io.specs.Files.{Files}
+use Rattle.byte_streams.specs.Files.{Files}
 use Rattle.mesh_cache.specs.Cache.{Cache}
 use Rattle.voxel_list.specs.Areas.{Area}
 use Rattle.bench_core.specs.Keeping.{without_points}

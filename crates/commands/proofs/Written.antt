@@ -2,7 +2,7 @@
 use Rattle.std.proofs.Common.{◌≡◌, ℕ, ◌≤◌, List, length, Ok, Err, IfSome, refl, sym, ap, subst, ℤ}
 use Rattle.std.specs.Prelude.{Option, Result}
 use Rattle.iso_base.specs.Volume.{Volume}
-use Rattle.iso_io.specs.Seen.{Tape}
+use Rattle.byte_streams.specs.Seen.{Tape}
 use Rattle.mesh_text.specs.declared.format.TwoWayFormat.{TwoWayFormat}
 use Rattle.point_command.specs.Meaning.{text_by}
 use Rattle.commands.specs.Meaning.{mesh_given, text_of_volume}

@@ -1,7 +1,7 @@
 -- When each status may come, by what was asked for.
 use Rattle.std.specs.Prelude.{◌≡◌, ◌⊎◌, ◌<◌, length, true, Option, None, Some, Err, IfSome, MatchOption}
 use Rattle.iso_base.specs.declared.verdict.Verdict.{Verdict}
-use Rattle.iso_io.specs.Causes.{Rose}
+use Rattle.byte_streams.specs.Causes.{Rose}
 use Rattle.iso_io.specs.Shelves.{Lacks, content}
 use Rattle.mesh_read.specs.declared.fault.MeshFault.{MeshFault}
 use Rattle.session.specs.Sessions.{script_limit}

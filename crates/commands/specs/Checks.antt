@@ -5,8 +5,8 @@ use Rattle.iso_defs.specs.Verdict.{IsVerdict}
 use Rattle.iso_base.specs.Triangles.{Mesh, triangles_of}
 use Rattle.iso_base.specs.declared.verdict.Verdict.{Verdict}
 use Rattle.iso_base.specs.declared.verdict.Verdict.TheVariants as verdicts
-use Rattle.iso_io.specs.Causes.{Rose}
-use Rattle.iso_io.specs.Seen.{Feed}
+use Rattle.byte_streams.specs.Causes.{Rose}
+use Rattle.byte_streams.specs.Seen.{Feed}
 use Rattle.mesh_read.specs.Ply.{ply_of}
 use Rattle.mesh_read.specs.Obj.{obj_of}
 use Rattle.mesh_read.specs.declared.fault.MeshFault.{MeshFault}

@@ -1,7 +1,7 @@
 -- The headline, where a mesh is extracted.
 use Rattle.std.specs.Prelude.{◌≡◌, ℕ, List, Option, Ok, IfSome, ℤ}
 use Rattle.iso_base.specs.Volume.{Volume}
-use Rattle.iso_io.specs.Seen.{Feed}
+use Rattle.byte_streams.specs.Seen.{Feed}
 use Rattle.bench_core.specs.Surface.{IsWatertight}
 use Rattle.point_command.specs.Volumes.{volume_of}
 use Rattle.endings.specs.declared.answer.Answer.{Answer}

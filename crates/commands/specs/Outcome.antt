@@ -1,6 +1,6 @@
 -- What a call of the program does to the outside, and by which answer it ends.
 use Rattle.std.specs.Prelude.{◌≡◌, ℕ, Option, None}
-use Rattle.iso_io.specs.Seen.{Feed, Tape}
+use Rattle.byte_streams.specs.Seen.{Feed, Tape}
 use Rattle.iso_io.specs.Shelves.{Store}
 use Rattle.bench_core.specs.Keeping.{Workbench}
 use Rattle.point_command.specs.Outcome.{Streams, streams_between}

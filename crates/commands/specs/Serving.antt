@@ -2,8 +2,8 @@
 use Rattle.std.specs.Prelude.{◌≡◌, ◌⊎◌, ℕ, ◌≤◌, List, length, MatchOption, Option, Some, Ok, ℤ}
 use Rattle.iso_base.specs.Volume.{Volume}
 use Rattle.iso_base.specs.Triangles.{Mesh}
-use Rattle.iso_io.specs.Causes.{Rose}
-use Rattle.iso_io.specs.Files.{Files}
+use Rattle.byte_streams.specs.Causes.{Rose}
+use Rattle.byte_streams.specs.Files.{Files}
 use Rattle.std.specs.FinMap.{get}
 use Rattle.session.specs.Sessions.{script_limit}
 use Rattle.commands.specs.Checks.{Checks, mesh_in, mesh_limit}

@@ -3,8 +3,8 @@ use Rattle.std.specs.Prelude.{◌≡◌, ◌⊎◌, ℕ, ◌≤◌, Bool, true, 
 use Rattle.std.specs.Io.KnownBytes.{Appends}
 use Rattle.iso_defs.specs.Grid.{Grid}
 use Rattle.iso_base.specs.Volume.{Volume, unpadded}
-use Rattle.iso_io.specs.Causes.{Rose}
-use Rattle.iso_io.specs.Seen.{Tape}
+use Rattle.byte_streams.specs.Causes.{Rose}
+use Rattle.byte_streams.specs.Seen.{Tape}
 use Rattle.iso_base.specs.declared.fault.BenchFault.TheVariants.{Memory}
 use Rattle.mesh_cache.specs.Cache.{Limits}
 use Rattle.bench_core.specs.Keeping.{Workbench, first_bench}

@@ -3,8 +3,8 @@ use Rattle.std.specs.Prelude.{◌≡◌, ◌⊎◌, ℕ, ◌<◌, ◌≤◌, Lis
 use Rattle.std.specs.FinMap.{get}
 use Rattle.std.specs.Io.KnownBytes.{IsAtEnd}
 use Rattle.iso_base.specs.Volume.{Volume}
-use Rattle.iso_io.specs.Causes.{Rose}
-use Rattle.iso_io.specs.Seen.{Feed}
+use Rattle.byte_streams.specs.Causes.{Rose}
+use Rattle.byte_streams.specs.Seen.{Feed}
 use Rattle.iso_io.specs.Shelves.{Store, Lacks, content}
 use Rattle.point_command.specs.Volumes.{volume_limit, volume_of, with_pad}
 use Rattle.point_command.specs.declared.reasons.NoVolume.{NoVolume}

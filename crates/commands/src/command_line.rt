@@ -1,6 +1,6 @@
 //! All that the program does.
 ghost use Rattle.std.specs.Prelude.{◌≡◌, ◌↔◌, ℕ, ℤ, List, Option, map, string_bytes, None, Some};
-ghost use Rattle.iso_io.specs.Causes.{Rose};
+ghost use Rattle.byte_streams.specs.Causes.{Rose};
 ghost use Rattle.command_words.specs.Words.{HasCapacity, HasSamplePad, IsCapacity, request_of};
 ghost use Rattle.endings.specs.Notes.{note_of};
 ghost use Rattle.endings.specs.Status.{status_of};

@@ -1,6 +1,6 @@
 //! Generated volumes.
 
-ghost use Rattle.iso_io.specs.Seen.{Feed};
+ghost use Rattle.byte_streams.specs.Seen.{Feed};
 ghost use Rattle.commands.specs.Generating.{WritesGenerated};
 ghost use Rattle.point_command.specs.Outcome.{unread_between};
 

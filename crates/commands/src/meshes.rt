@@ -4,7 +4,7 @@ ghost use Rattle.std.specs.Prelude.{◌≡◌, ℤ, is_some, length, None, Ok, A
 ghost use Rattle.iso_defs.specs.Grid.{point_count};
 ghost use Rattle.iso_base.specs.Volume.{Volume, unpadded};
 ghost use Rattle.iso_base.specs.Samples.{IsSample};
-ghost use Rattle.iso_io.specs.Seen.{Puts};
+ghost use Rattle.byte_streams.specs.Seen.{Puts};
 ghost use Rattle.commands.specs.Meaning.{mesh_given, text_of_volume};
 ghost use Rattle.bench_core.specs.Machine.{IsAbovePad};
 ghost use Rattle.bench_core.specs.Surface.{IsWatertight};

@@ -1,6 +1,6 @@
 //! The soak: the script of a seed, run on the volume that it generates.
 ghost use Rattle.std.specs.Prelude.{◌≡◌, ℕ, List, Some, None, Ok, IfOk};
-ghost use Rattle.iso_io.specs.Seen.{Feed};
+ghost use Rattle.byte_streams.specs.Seen.{Feed};
 ghost use Rattle.bench_core.specs.Keeping.{first_bench};
 ghost use Rattle.volume_gen.specs.Soak.{soak_lines};
 ghost use Rattle.script.specs.Commands.{read_of};

@@ -1,8 +1,8 @@
 -- A text that is written where it can be.
 use Rattle.std.specs.Prelude.{◌≡◌, ◌⊎◌, ℕ, ◌≤◌, List}
 use Rattle.std.specs.Io.KnownBytes.{Appends}
-use Rattle.iso_io.specs.Causes.{Rose}
-use Rattle.iso_io.specs.Seen.{Tape, AppendsFront}
+use Rattle.byte_streams.specs.Causes.{Rose}
+use Rattle.byte_streams.specs.Seen.{Tape, AppendsFront}
 
 -- the text was appended, or the count rose and a front of it was
 pub record Tries (old new : Tape) (text : List ℕ) : Type 0 where

@@ -5,9 +5,9 @@ use Rattle.std.proofs.Math.Nat.{mul-le-mul_left}
 use Rattle.std.proofs.lemmas.List.FromFn.{length-map-range_with_len}
 use Rattle.iso_defs.specs.Grid.{Grid}
 use Rattle.iso_base.specs.Volume.{Volume, inner_grid, sample}
-use Rattle.iso_io.specs.Seen.{Tape, Puts, Stages}
-use Rattle.iso_io.proofs.Putting.{puts_both}
-use Rattle.iso_io.proofs.Staging.{stages_unwritten}
+use Rattle.byte_streams.specs.Seen.{Tape, Puts, Stages}
+use Rattle.byte_streams.proofs.Putting.{puts_both}
+use Rattle.byte_streams.proofs.Staging.{stages_unwritten}
 use Rattle.nrrd.specs.Writing.{row_of, rows_of}
 use Rattle.nrrd.proofs.RowsAgain.{row_at}
 use Rattle.inner_volume.specs.Held.{AreHeld}

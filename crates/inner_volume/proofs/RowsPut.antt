@@ -6,8 +6,8 @@ use borrow.Rule.Slice.PartMut.{put_mid}
 use Rattle.std.proofs.lemmas.List.Elements.{All-append, All-drop, All-take}
 use Rattle.std.proofs.lemmas.Grind.{flat_map-append}
 use Rattle.std.proofs.Math.Nat.{mul-le-mul_left}
-use Rattle.iso_io.specs.Seen.{Tape, Puts}
-use Rattle.iso_io.proofs.Putting.{HasPut, has_none, has_put, has_all, put_failed}
+use Rattle.byte_streams.specs.Seen.{Tape, Puts}
+use Rattle.byte_streams.proofs.Putting.{HasPut, has_none, has_put, has_all, put_failed}
 use Rattle.iso_base.specs.Samples.{IsOfKind}
 use Rattle.iso_base.specs.declared.kind.SampleKind.{SampleKind}
 use Rattle.nrrd_text.specs.Samples.{sample_bytes}

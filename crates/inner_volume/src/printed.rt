@@ -3,7 +3,7 @@
 ghost use Rattle.std.specs.Prelude.{◌≡◌, ◌+◌, ◌*◌, ◌<◌, ◌≤◌, length, map, take, drop, flat_map, All, Ok, IfOk};
 ghost use Rattle.iso_base.specs.Volume.{inner_grid};
 ghost use Rattle.iso_base.specs.Samples.{IsOfKind};
-ghost use Rattle.iso_io.specs.Seen.{Puts, Stages};
+ghost use Rattle.byte_streams.specs.Seen.{Puts, Stages};
 ghost use Rattle.iso_io.specs.Shelves.{Stores, file_tape};
 ghost use Rattle.nrrd.specs.Nrrd.{nrrd_of};
 ghost use Rattle.nrrd.specs.Writing.{coded_line, rows_of};
@@ -16,9 +16,10 @@ use crate::rows::copy_rows;
 use brick_store::BrickStore;
 use iso_base::{SampleKind, Sizes};
 use iso_io::{Failed, Shelf, ShelfFile, Sink, write_all_of};
-use mesh_text::{Counted, Digits, Fours};
+use mesh_text::Fours;
 use nrrd::{coded_head_bytes, put_coded_head};
 use nrrd_text::{SampleLines, gather_hex, gather_text};
+use number_digits::{Counted, Digits};
 use packed_samples::{Packed, PackedRun};
 
 /// The most samples in the rows that bricks have of a plane: nine rows of 1,026.

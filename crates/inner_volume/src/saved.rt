@@ -3,7 +3,7 @@
 ghost use Rattle.std.specs.Prelude.{◌≡◌, ◌⊎◌, ◌+◌, ◌-◌, ◌≤◌, length, map, take, All, Ok, IfOk, OnErr};
 ghost use Rattle.iso_base.specs.Volume.{inner_grid};
 ghost use Rattle.iso_base.specs.Samples.{IsOfKind};
-ghost use Rattle.iso_io.specs.Seen.{Puts};
+ghost use Rattle.byte_streams.specs.Seen.{Puts};
 ghost use Rattle.iso_io.specs.Shelves.{Stores, file_tape};
 ghost use Rattle.nrrd.specs.Nrrd.{nrrd_of};
 ghost use Rattle.nrrd.specs.Writing.{samples_text};

@@ -1,8 +1,8 @@
 -- Counts of faults of the system's adapters.
 use Rattle.std.proofs.Common.{◌≡◌, ℕ, if◌then◌else◌, Ok, Err, subst, arith, IfOk}
 use Rattle.std.specs.Prelude.{Result, IsErrOf}
-use Rattle.iso_io.specs.Causes.{Rose}
-use Rattle.iso_io.specs.Memory.{one_more}
+use Rattle.byte_streams.specs.Causes.{Rose}
+use Rattle.byte_streams.specs.Memory.{one_more}
 use Rattle.iso_io.specs.Shelves.{is_failed}
 use Rattle.iso_io.specs.declared.shelf.ShelfError.{ShelfError}
 use Rattle.iso_io.specs.declared.shelf.ShelfError.TheVariants.{Failed}

@@ -10,10 +10,10 @@ use Rattle.std.specs.Cmp.{eq_by_cmp_equiv}
 use Rattle.std.specs.FinMap.{get, insert, remove, get-insert, get-remove, same_map, slice_cmp-IsAntisymmetric, nat_cmp-IsAntisymmetric}
 use Rattle.std.specs.Borrow.{GName}
 use Rattle.std.specs.Io.KnownBytes.{Appends}
-use Rattle.iso_io.specs.Files.{Files}
-use Rattle.iso_io.specs.Seen.{Side, Writes, Puts, AppendsFront}
+use Rattle.byte_streams.specs.Files.{Files}
+use Rattle.byte_streams.specs.Seen.{Side, Writes, Puts, AppendsFront}
 use Rattle.iso_io.specs.Shelves.{Store, content, with_file, with_appended, FilesCut, Has, Starts, Grows, Stores, file_tape, others_of}
-use Rattle.iso_io.proofs.Known.{Appends-nil}
+use Rattle.byte_streams.proofs.Known.{Appends-nil}
 
 equal : (o : Ordering) → is_eq o ≡ true → o ≡ Equal
 equal Less e = absurd cc

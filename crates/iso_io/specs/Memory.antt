@@ -1,48 +1,11 @@
--- Sources and sinks in memory.
-use Rattle.std.specs.Prelude.{◌≡◌, ◌⊎◌, ℕ, ◌+◌, ◌-◌, ◌^◌, ◌<◌, min, false, List, [], length, take, Option, None, Some, Contains}
+-- A shelf in memory.
+use Rattle.std.specs.Prelude.{◌≡◌, ◌⊎◌, ℕ, ◌+◌, ◌<◌, false, List, length, Some, Contains}
 use Rattle.std.specs.Prelude.{refl}
 use Rattle.std.specs.Coded.{Coded, code_by, coded×, coded_ℕ, coded_list}
-use Rattle.iso_io.specs.Files.{no_files}
+use Rattle.byte_streams.specs.Files.{no_files}
+use Rattle.byte_streams.specs.Memory.{one_more}
 use Rattle.iso_io.specs.Places.{Places, content_in, has_place, placed, placed_behind, fitting, places_code}
 use Rattle.iso_io.specs.Shelves.{Store}
-use Rattle.iso_io.specs.Seen.{Feed, Tape}
-
--- the bytes still to come, the most that a read gives, the calls that fail, and how many calls and faults there were
-pub record FedBytes : Type 0 where
-  pub left : List ℕ
-  pub piece : ℕ
-  pub failing : List ℕ
-  pub calls : ℕ
-  pub faults : ℕ
-
--- the bytes taken, the room for all, the most that a write takes, where there is such a bound, the calls that fail, and how many
--- calls and faults there were
-pub record KeptBytes : Type 0 where
-  pub taken : List ℕ
-  pub room : ℕ
-  pub piece : Option ℕ
-  pub failing : List ℕ
-  pub calls : ℕ
-  pub faults : ℕ
-
--- one more, which stops at the end of its type
-abbrev pub one_more : ℕ → ℕ
-one_more n = min (n + 1) (2 ^ 64 - 1)
-
--- what a write takes of the bytes where there is room for it
-abbrev pub taken_of : Option ℕ → List ℕ → List ℕ
-taken_of None bytes = bytes
-taken_of (Some piece) bytes = take piece bytes
-
-abbrev pub feed_of : FedBytes → Feed
-feed_of m = record { left = Some m.left; faults = m.faults }
-
-abbrev pub tape_of : KeptBytes → Tape
-tape_of m = record { taken = Some m.taken; faults = m.faults; beside = record { held = []; others = Some ([], no_files) } }
-
--- the next write is one of those that fail, or what it takes does not fit
-abbrev pub RefusesWrite : KeptBytes → List ℕ → Type 0
-RefusesWrite m bytes = Contains m.failing (one_more m.calls) ⊎ (m.room < length m.taken + length (taken_of m.piece bytes))
 
 -- files in places, the most that a failing append takes, the calls that fail, and how many calls and faults there were
 pub record KeptFiles : Type 0 where

@@ -3,9 +3,9 @@ use Rattle.std.specs.Prelude.{◌≡◌, ◌⊎◌, ℕ, List, [], ◌∷◌, �
 use Rattle.std.specs.Option.{option_map, option_and_then}
 use Rattle.std.specs.FinMap.{get, insert, remove}
 use Rattle.std.specs.Borrow.{GName}
-use Rattle.iso_io.specs.Causes.{HasCause}
-use Rattle.iso_io.specs.Files.{Files}
-use Rattle.iso_io.specs.Seen.{Tape}
+use Rattle.byte_streams.specs.Causes.{HasCause}
+use Rattle.byte_streams.specs.Files.{Files}
+use Rattle.byte_streams.specs.Seen.{Tape}
 use Rattle.iso_io.specs.declared.shelf.ShelfError.{ShelfError}
 use Rattle.iso_io.specs.declared.shelf.ShelfError.TheVariants.{Failed}
 

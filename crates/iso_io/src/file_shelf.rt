@@ -1,13 +1,10 @@
 ghost use Rattle.std.specs.Prelude.{◌≡◌, ◌≤◌, length, IfOk};
-ghost use Rattle.iso_io.specs.Causes.{Rose};
-ghost use Rattle.iso_io.specs.Memory.{one_more};
+ghost use Rattle.byte_streams.specs.Causes.{Rose};
+ghost use Rattle.byte_streams.specs.Memory.{one_more};
 
-use crate::Failed;
 use crate::shelf::{Shelf, ShelfError};
-use crate::sink::write_all_of;
-use crate::source::{ReadFault, read_all_of};
-use crate::standard::{StdSink, StdSource};
 use arrayvec::ArrayString;
+use byte_streams::{Failed, ReadFault, StdSink, StdSource, read_all_of, write_all_of};
 use std::alloc::Global;
 use std::fs::{File, OpenOptions};
 use std::marker::Model;
@@ -100,7 +97,7 @@ fn append_to(
 
 impl<'a> Shelf for FileShelf<'a> {
     ghost use Rattle.std.specs.Prelude.{◌≡◌, ◌⊎◌, ◌≤◌, length, IfOk, IfErr, is_err, if◌then◌else◌};
-    ghost use Rattle.iso_io.specs.Memory.{one_more};
+    ghost use Rattle.byte_streams.specs.Memory.{one_more};
     ghost use Rattle.iso_io.specs.Shelves.{Starts, Grows, is_failed, untold_store};
 
     ghost seen = { untold_store };

@@ -1,46 +1,20 @@
-//! Where bytes come from and go to: sources, sinks and shelves of files, in memory and of the system. Each has a
-//! count of faults that never falls, and a call fails only where that count rises, or where a shelf that tells its files
+//! Where bytes come from and go to: the sources and sinks of `byte_streams`, and shelves of files, in memory and of the system. Each
+//! has a count of faults that never falls, and a call fails only where that count rises, or where a shelf that tells its files
 //! is asked to read one that is missing.
 #![tactic(auto)]
 
 mod file_shelf;
 mod memory_shelf;
-mod memory_sink;
-mod memory_source;
 mod place;
 mod places;
 mod shelf;
 mod shelf_file;
-mod sink;
-mod source;
-mod staged;
-mod standard;
 
+pub use byte_streams::{
+    Failed, LINES, MemSink, MemSource, ReadFault, Sink, Source, StdSink, StdSource, gather,
+    read_all_of, stage, write_all_of,
+};
 pub use file_shelf::FileShelf;
-use iso_base::BenchFault;
 pub use memory_shelf::MemShelf;
-pub use memory_sink::MemSink;
-pub use memory_source::MemSource;
 pub use shelf::{Shelf, ShelfError};
 pub use shelf_file::ShelfFile;
-pub use sink::{Sink, write_all_of};
-pub use source::{ReadFault, Source, read_all_of};
-pub use staged::{LINES, gather, stage};
-pub use standard::{StdSink, StdSource};
-use thiserror::Error;
-
-/// A call of the outside failed, and its count of faults rose.
-#[derive(Clone, Copy, Debug, PartialEq, Eq, Error)]
-#[error("failed")]
-pub struct Failed;
-
-impl From<Failed> for BenchFault {
-    ghost use Rattle.std.specs.Prelude.{◌≡◌};
-    ghost use Rattle.iso_base.specs.declared.fault.BenchFault.TheVariants.{ShelfFailed};
-
-    ghost from_gives = { λ _ fault. fault ≡ ShelfFailed };
-
-    fn from(_: Failed) -> BenchFault {
-        BenchFault::ShelfFailed
-    }
-}

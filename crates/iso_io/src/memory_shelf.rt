@@ -1,13 +1,14 @@
 ghost use Rattle.std.specs.Prelude.{◌≡◌, ◌⊎◌, ◌*◌, ◌+◌, ◌^◌, ◌<◌, ◌≤◌, length, true, false, IfOk, IsTrue, IsErrOf, IsSome, ◌↔◌, Contains};
 ghost use Rattle.std.specs.FinMap.{get};
 ghost use Rattle.std.specs.Option.{option_map};
-ghost use Rattle.iso_io.specs.Files.{no_files};
+ghost use Rattle.byte_streams.specs.Files.{no_files};
 ghost use Rattle.iso_io.specs.Places.{has_place};
-ghost use Rattle.iso_io.specs.Memory.{KeptFiles, empty_shelf, stored, one_more};
+ghost use Rattle.byte_streams.specs.Memory.{one_more};
+ghost use Rattle.iso_io.specs.Memory.{KeptFiles, empty_shelf, stored};
 
-use crate::Failed;
 use crate::places::Places;
 use crate::shelf::{Shelf, ShelfError};
+use byte_streams::Failed;
 use iso_base::Memory;
 use std::alloc::Global;
 use std::marker::Model;
@@ -87,7 +88,7 @@ impl MemShelf {
 impl Shelf for MemShelf {
     ghost use Rattle.std.specs.Prelude.{◌≡◌, ◌⊎◌, ◌+◌, ◌<◌, ◌≤◌, ◌↔◌, ◌++◌, [], length, false, None, Some, IfOk, IfErr, IfSome, IsErr, IsErrOf, OnOk, OnErr};
     ghost use Rattle.std.specs.FinMap.{get};
-    ghost use Rattle.iso_io.specs.Causes.{Rose};
+    ghost use Rattle.byte_streams.specs.Causes.{Rose};
     ghost use Rattle.iso_io.specs.Memory.{store_of, stored, called, missed, cut_short, IsFailing, RefusesAppend};
     ghost use Rattle.iso_io.specs.Places.{has_place, content_in};
     ghost use Rattle.iso_io.specs.Shelves.{Starts, Grows};

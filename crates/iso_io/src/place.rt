@@ -2,8 +2,8 @@
 
 ghost use Rattle.std.specs.Prelude.{◌≡◌, ◌⊎◌, ◌+◌, ◌<◌, ◌↔◌, ◌++◌, length, IsTrue, IsErr, OnOk, OnErr, IfOk};
 
-use crate::Failed;
 use arrayvec::ArrayString;
+use byte_streams::Failed;
 use iso_base::Memory;
 use std::alloc::Global;
 use std::marker::Model;

@@ -3,11 +3,11 @@
 ghost use Rattle.std.specs.Prelude.{◌≡◌, ◌⊎◌, ◌+◌, ◌<◌, ◌≤◌, ◌↔◌, ◌++◌, [], length, true, false, OnOk, OnErr, IfOk, IsErr, MatchOption, take};
 ghost use Rattle.std.specs.FinMap.{get};
 ghost use Rattle.std.specs.Option.{option_map};
-ghost use Rattle.iso_io.specs.Files.{no_files};
+ghost use Rattle.byte_streams.specs.Files.{no_files};
 ghost use Rattle.iso_io.specs.Places.{IsFound, IsLacking, AllOfRoom, entries_of, content_in, has_place, placed, placed_behind, fitting};
 
-use crate::Failed;
 use crate::place::Place;
+use byte_streams::Failed;
 use iso_base::Memory;
 use std::alloc::Global;
 use std::marker::Model;

@@ -3,8 +3,8 @@
 
 ghost use Rattle.std.specs.Prelude.{◌≡◌};
 
+use byte_streams::{StdSink, StdSource};
 use endings::{Answer, Status, put_note};
-use iso_io::{StdSink, StdSource};
 use point_command::run_points;
 use std::alloc::AllocError;
 use std::env;

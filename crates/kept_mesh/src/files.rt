@@ -2,7 +2,7 @@
 
 ghost use Rattle.std.specs.Prelude.{◌≡◌, ◌+◌, ◌*◌, ◌≤◌, IfOk, is_some, length};
 ghost use Rattle.iso_base.specs.Shifted.{field};
-ghost use Rattle.iso_io.specs.Seen.{Puts};
+ghost use Rattle.byte_streams.specs.Seen.{Puts};
 ghost use Rattle.iso_io.specs.Shelves.{Stores, file_tape};
 ghost use Rattle.flat_mesh.specs.Mesh.{mesh_of};
 ghost use Rattle.mesh_write.specs.Mesh.{written_of};

@@ -8,9 +8,9 @@ ghost use Rattle.list_stitch.specs.Cases.{HaveCases};
 
 use crate::cases::CellCases;
 use crate::rows::{case_row, has_loops};
+use byte_streams::{Failed, Sink};
 use edge_points::RowRanks;
 use flat_mesh::Heights;
-use iso_io::{Failed, Sink};
 use stitch::{Block, Style, write_row_centres};
 
 /// Puts the lines of the centres of the row of cells that a row of points begins behind the others.

@@ -13,10 +13,10 @@ ghost use Rattle.list_stitch.specs.Kept.{AreAllFlags};
 
 use crate::field::ListField;
 use crate::rows::flag_row;
+use byte_streams::{Failed, Sink};
 use crossing_edges::{SampleList, begin_none};
 use edge_points::RowRanks;
 use iso_base::Point;
-use iso_io::{Failed, Sink};
 use stitch::{Block, Style, edges_before, put_point, row_at};
 
 /// Puts the lines of the vertices on the edges that begin at a point behind the others, and first makes room for them.

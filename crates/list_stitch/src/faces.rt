@@ -15,9 +15,9 @@ ghost use Rattle.list_stitch.specs.Kept.{AreAllFlags};
 
 use crate::cases::CellCases;
 use crate::rows::{case_row, flag_row, has_loops};
+use byte_streams::{Failed, Sink};
 use edge_points::RowRanks;
 use flat_mesh::Heights;
-use iso_io::{Failed, Sink};
 use stitch::{Block, Corners, Style, edges_before, row_at, write_row_faces};
 use stitch_rows::{ROW, RankedRow, set_first};
 

@@ -1,7 +1,7 @@
 //! The whole text of a mesh.
 ghost use Rattle.std.specs.Prelude.{◌≡◌, ◌+◌, ◌*◌, ◌≤◌, IfOk};
 ghost use Rattle.iso_defs.specs.Rows.{row_count};
-ghost use Rattle.iso_io.specs.Seen.{Puts};
+ghost use Rattle.byte_streams.specs.Seen.{Puts};
 ghost use Rattle.flat_mesh.specs.Lattice.{heights};
 ghost use Rattle.flat_mesh.specs.Mesh.{mesh_of};
 ghost use Rattle.mesh_write.specs.Mesh.{text_of, written_of};
@@ -14,10 +14,10 @@ use crate::centres::write_centres;
 use crate::edges::write_edges;
 use crate::faces::write_faces;
 use crate::field::ListField;
+use byte_streams::{Failed, Sink};
 use crossing_edges::SampleList;
 use edge_points::RowRanks;
 use iso_base::Written;
-use iso_io::{Failed, Sink};
 use stitch::{Block, Counts, Style, put_head};
 
 /// Puts the lines of all vertices and of all triangles behind the others.

@@ -1,4 +1,3 @@
 pub mod Chain
-pub mod Counts
 pub mod Heads
 pub mod Tables

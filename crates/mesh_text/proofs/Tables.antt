@@ -4,7 +4,7 @@ use Rattle.std.proofs.lemmas.Fmt.{decimal_digit, decimal_step}
 use Rattle.std.proofs.lemmas.List.{take-take, take-append-le, take-append-drop, take_at, drop_at, drop-take, length-take-le, drop-drop, get_or-set_same, get_or-set_other}
 use Rattle.iso_defs.specs.Texts.{three_digits}
 use Rattle.mesh_text.specs.Fours.{AreFours, four_digits}
-use Rattle.mesh_text.proofs.Counts.{one_digit, two_digits, three_digits_of, four_digits_of}
+use Rattle.number_digits.proofs.Counts.{one_digit, two_digits, three_digits_of, four_digits_of}
 
 -- a number of more than four digits ends with the four of its rest
 pub four_last : (n : ℕ) → 10000 ≤ n → n < 2 ^ 64 → decimal n ≡ decimal (n / 10000) ++ four_digits (n % 10000)

@@ -6,56 +6,10 @@ ghost use Rattle.iso_base.specs.Triangles.{triangle_of};
 ghost use Rattle.mesh_text.specs.Lines.{along, coordinates_text};
 
 use iso_base::Thousandth;
+use number_digits::{Digits, put_byte};
 
 /// The room of a line.
 pub const ROOM: usize = 64;
-
-/// Writes a byte.
-#[inline(always)]
-pub fn put_byte(byte: u8, room: &mut [u8], at: usize) -> usize
-    requires { at < length room.old }
-    ensures end { result ≡ at + 1 }
-    ensures written { take result room.new ≡ take at room.old ++ byte ∷ [] }
-{
-    room[at] = byte;
-    at + 1
-}
-
-/// Writes an array over bytes that are as many: they are moved at once.
-#[inline(always)]
-fn set_array<const N: usize>(bytes: &[u8; N], room: &mut [u8])
-    requires { length room.old ≡ N }
-    ensures { room.new ≡ bytes.now }
-{
-    *room.as_mut_array::<N>().unwrap() = *bytes;
-}
-
-/// Writes an array.
-#[inline(always)]
-pub fn put_array<const N: usize>(bytes: &[u8; N], room: &mut [u8], at: usize)
-    requires { at + N ≤ length room.old }
-    ensures { take (at + N) room.new ≡ take at room.old ++ bytes.now }
-{
-    set_array(bytes, &mut room[at..at + N]);
-}
-
-/// A way to write the digits of numbers.
-pub trait Digits {
-    /// Writes a number.
-    fn put_number(&self, n: u64, room: &mut [u8], at: usize) -> usize
-        requires bound { n < 10 ^ 11 }
-        requires space { at + 12 ≤ length room.old }
-        ensures end { result ≤ at + 12 }
-        ensures behind { at ≤ result }
-        ensures written { take result room.new ≡ take at room.old ++ decimal n };
-
-    /// Writes a number below 1,000 in three digits.
-    fn put_three_digits(&self, n: u64, room: &mut [u8], at: usize) -> usize
-        requires bound { n < 1000 }
-        requires space { at + 4 ≤ length room.old }
-        ensures end { result ≡ at + 3 }
-        ensures written { take result room.new ≡ take at room.old ++ three_digits n };
-}
 
 #[inline(always)]
 fn put_thousandths<D: Digits>(digits: &D, n: u64, room: &mut [u8], at: usize) -> usize

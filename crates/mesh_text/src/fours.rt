@@ -5,9 +5,8 @@ ghost use Rattle.iso_defs.specs.Texts.{thousandths, three_digits};
 ghost use Rattle.mesh_text.specs.Fours.{AreCounts, AreFours, four_digits};
 ghost use Rattle.mesh_text.specs.Lines.{point_line};
 
-use crate::counted::count_short;
-use crate::digits::{Digits, put_array, put_byte};
 use crate::split::Split;
+use number_digits::{Digits, count_short, put_array, put_byte};
 use std::marker::Model;
 
 /// The bytes of a table of four digits a number. Behind the last number's stand four bytes more, so that four are there

@@ -2,12 +2,12 @@
 
 ghost use Rattle.std.specs.Prelude.{◌≡◌, ◌+◌, ◌≤◌, ◌++◌, decimal, length};
 ghost use Rattle.arrayvec.specs.ArrayString.{array_string_len};
-ghost use Rattle.iso_io.specs.Seen.{Puts};
+ghost use Rattle.byte_streams.specs.Seen.{Puts};
 ghost use Rattle.mesh_text.specs.Lines.{ply_head, ply_head_bytes, points_head, points_head_bytes};
 
 use arrayvec::ArrayString;
+use byte_streams::{Failed, Sink, write_all_of};
 use iso_base::put_number;
-use iso_io::{Failed, Sink, write_all_of};
 
 #[tactic(auto, unfolding(crate::specs::Lines::points_head_bytes))]
 fn points_head_parts(vertices: u32) -> ArrayString<160>

@@ -2,7 +2,6 @@
 //! makes it, and takes no memory. Coordinates are in thousandths of a voxel and printed with three decimals.
 #![tactic(auto)]
 
-mod counted;
 mod digits;
 mod format;
 mod fours;
@@ -14,8 +13,6 @@ mod obj;
 mod ply;
 mod split;
 
-pub use counted::Counted;
-pub use digits::Digits;
 pub use format::TwoWayFormat;
 pub use fours::Fours;
 pub use head::{ply_head_text, points_head_text, put_ply_head, put_points_head};

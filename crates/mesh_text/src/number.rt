@@ -1,7 +1,7 @@
 ghost use Rattle.std.specs.Prelude.{◌≡◌, ◌+◌, ◌≤◌, ◌<◌, ◌^◌, ◌∷◌, ◌++◌, take, length, decimal};
 ghost use Rattle.iso_defs.specs.Texts.{line};
 
-use crate::digits::{Digits, put_array, put_byte};
+use number_digits::{Digits, put_array, put_byte};
 use std::marker::Model;
 
 /// The bytes of an array in which a number's digits stand: it is moved at once.

@@ -1,15 +1,15 @@
 //! Lines of Wavefront OBJ texts.
 
 ghost use Rattle.std.specs.Prelude.{◌≡◌, ◌+◌, ◌<◌, ◌≤◌, ◌^◌, ◌++◌, length, take, unsigned_abs};
-ghost use Rattle.iso_io.specs.Seen.{Puts};
+ghost use Rattle.byte_streams.specs.Seen.{Puts};
 ghost use Rattle.iso_base.specs.Triangles.{IsBelow, triangle_of};
 ghost use Rattle.mesh_text.specs.Lines.{along, obj_face_line, obj_vertex_line};
 
-use crate::counted::Counted;
-use crate::digits::{Digits, ROOM, put_letter, put_numbers, put_vertex};
+use crate::digits::{ROOM, put_letter, put_numbers, put_vertex};
 use crate::line::Line;
+use byte_streams::{Failed, Sink, write_all_of};
 use iso_base::Thousandth;
-use iso_io::{Failed, Sink, write_all_of};
+use number_digits::{Counted, Digits};
 
 /// Writes the line of a vertex from a place on, and says where it ends.
 #[inline(always)]

@@ -2,8 +2,8 @@
 use Rattle.std.proofs.Common.{◌≡◌, ℕ, ◌+◌, ◌<◌, ◌≤◌, List, [], ◌∷◌, ◌++◌, length, drop, get_or, map, Result, Ok, Err, refl, ap, subst, ◌∙◌, arith, ℤ, false}
 use Rattle.std.specs.List.{flat_map}
 use Rattle.std.proofs.lemmas.List.{drop_more, drop_all}
-use Rattle.iso_io.specs.Seen.{Tape, Puts, Stages}
-use Rattle.iso_io.proofs.Staging.{HasStaged, staged_more, staged_not, staged_end}
+use Rattle.byte_streams.specs.Seen.{Tape, Puts, Stages}
+use Rattle.byte_streams.proofs.Staging.{HasStaged, staged_more, staged_not, staged_end}
 use Rattle.iso_defs.specs.Grid.{Grid}
 use Rattle.iso_defs.specs.Place.{Position, edge_position}
 use Rattle.iso_defs.specs.Texts.{line, position_text}

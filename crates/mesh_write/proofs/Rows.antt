@@ -10,9 +10,9 @@ use Rattle.mesh_text.specs.Lines.{ply_head}
 use Rattle.mesh_write.specs.Mesh.{vertex_line, face_line, vertex_lines, face_lines, head_of, text_of, ply_of, obj_of}
 use Rattle.mesh_text.specs.declared.format.TwoWayFormat.{TwoWayFormat}
 use Rattle.mesh_text.specs.declared.format.TwoWayFormat.TheVariants.{Ply, Obj}
-use Rattle.iso_io.specs.declared.Failed.{Failed}
-use Rattle.iso_io.specs.Seen.{Tape, Stages}
-use Rattle.iso_io.proofs.Staging.{nothing_staged, stages_both, stages_first}
+use Rattle.byte_streams.specs.declared.Failed.{Failed}
+use Rattle.byte_streams.specs.Seen.{Tape, Stages}
+use Rattle.byte_streams.proofs.Staging.{nothing_staged, stages_both, stages_first}
 
 -- the lines of the first items were staged, and their bytes counted
 pub record HasLines {X : Type 0} (f : X → List ℕ) (xs : List X) (old new : Tape) (before after : List ℕ) (bytes i : ℕ) : Type 0 where

@@ -1,9 +1,9 @@
 -- Lines that are gathered behind what waits.
 use Rattle.std.proofs.Common.{◌≡◌, List, [], ◌++◌, ℕ, Result, Ok, Err, refl, sym, ap, subst, ◌∙◌, append_assoc, arith}
 use Rattle.std.proofs.lemmas.List.{append-nil}
-use Rattle.iso_io.specs.Seen.{Tape, Stages}
-use Rattle.iso_io.proofs.Known.{Appends-nil}
-use Rattle.iso_io.proofs.Staging.{stages_both, stages_with}
+use Rattle.byte_streams.specs.Seen.{Tape, Stages}
+use Rattle.byte_streams.proofs.Known.{Appends-nil}
+use Rattle.byte_streams.proofs.Staging.{stages_both, stages_with}
 
 -- what was gathered waits now
 pub lines_staged : {T U E : Type 0} (t0 t1 : Tape) (x : T) (y : U) (w0 w1 lines : List ℕ) → Stages {E = E} t0 t1 w0 w1 (Ok x) lines → Stages {E = E} t0 t1 (w0 ++ lines) (w1 ++ []) (Ok y) []

@@ -1,9 +1,9 @@
 //! Lines that are gathered before they are put behind what waits, and texts that are put there at once.
 
 ghost use Rattle.std.specs.Prelude.{◌≡◌, ◌+◌, ◌≤◌, ◌++◌, [], length, IfOk};
-ghost use Rattle.iso_io.specs.Seen.{Puts, Stages};
+ghost use Rattle.byte_streams.specs.Seen.{Puts, Stages};
 
-use iso_io::{Failed, Sink, stage, write_all_of};
+use byte_streams::{Failed, Sink, stage, write_all_of};
 use mesh_text::Lines;
 
 /// Puts the gathered lines behind what waits, of which whole blocks are written. `Failed` comes only where the sink's count

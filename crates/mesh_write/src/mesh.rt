@@ -2,14 +2,14 @@
 
 ghost use Rattle.std.specs.Prelude.{◌≡◌, ◌+◌, ◌*◌, ◌<◌, ◌≤◌, ◌^◌, ◌++◌, ℕ, [], length, get_or, pos, unsigned_abs, IfOk};
 ghost use Rattle.iso_defs.specs.Texts.{printed};
-ghost use Rattle.iso_io.specs.Seen.{Puts, Stages};
+ghost use Rattle.byte_streams.specs.Seen.{Puts, Stages};
 ghost use Rattle.mesh_text.specs.Lines.{along, ply_head};
 ghost use Rattle.mesh_write.specs.Mesh.{vertex_line, face_line, vertex_lines, face_lines, head_of, text_of, written_of};
 
 use crate::gathered::{make_room, stage_gathered, stage_text};
+use byte_streams::{Failed, Sink, write_all_of};
 use flat_mesh::Mesh;
 use iso_base::{Thousandth, Written};
-use iso_io::{Failed, Sink, write_all_of};
 use mesh_text::{Lines, TwoWayFormat, ply_head_text};
 
 /// A pad's layer along an axis, in thousandths.

@@ -2,16 +2,16 @@
 
 ghost use Rattle.std.specs.Prelude.{◌≡◌, ◌+◌, ◌*◌, ◌<◌, ◌≤◌, ◌^◌, ◌++◌, length, slice_index, unsigned_abs, pos, [], IfOk, All};
 ghost use Rattle.iso_defs.specs.Grid.{name_bound};
-ghost use Rattle.iso_io.specs.Seen.{Puts, Stages};
+ghost use Rattle.byte_streams.specs.Seen.{Puts, Stages};
 ghost use Rattle.mesh_text.specs.Lines.{points_head};
 ghost use Rattle.mesh_write.specs.Walk.{IsRow};
 ghost use Rattle.mesh_write.specs.Edges.{ArePlaced, placed_line, placed_lines};
 
 use crate::gathered::{make_room, put_gathered};
 use crate::walk::{Row, position_from};
+use byte_streams::{Failed, Sink, write_all_of};
 use crossing_edges::EdgeVertices;
 use iso_base::Sizes;
-use iso_io::{Failed, Sink, write_all_of};
 use mesh_text::{Lines, points_head_text};
 
 /// Puts the line of a vertex behind those that are gathered.

@@ -1,16 +1,16 @@
 //! Volumes in print.
 ghost use Rattle.std.specs.Prelude.{◌≡◌, ◌+◌, ◌*◌, ◌<◌, ◌≤◌, ◌++◌, length, take, All, List, [], decimal, map, pos, ℤ};
 ghost use Rattle.arrayvec.specs.ArrayString.{array_string_len};
-ghost use Rattle.iso_io.specs.Seen.{Puts};
+ghost use Rattle.byte_streams.specs.Seen.{Puts};
 ghost use Rattle.iso_defs.specs.Grid.{point_count};
 ghost use Rattle.iso_base.specs.Samples.{width_of, IsOfKind};
 ghost use Rattle.nrrd.specs.Writing.{coded_by, coded_head_text, encoding_text, head_in, head_text, kind_text, order_text, samples_text, save_text, sizes_text};
 
 use crate::encoding::Encoding;
 use arrayvec::ArrayString;
+use byte_streams::{Failed, Sink, write_all_of};
 use byteorder::{ByteOrder, LittleEndian};
 use iso_base::{SampleKind, Sizes, put_number};
-use iso_io::{Failed, Sink, write_all_of};
 use packed_samples::{Packed, sample_at};
 
 /// The name of a kind in print.

@@ -7,7 +7,7 @@ ghost use Rattle.nrrd_text.specs.ByteNumbers.{AreByteNumbers, IsEntry};
 ghost use Rattle.nrrd_text.specs.Writing.{next_number};
 
 use crate::numbers::put_next;
-use mesh_text::Counted;
+use number_digits::Counted;
 use packed_samples::{Packed, sample_at};
 use std::marker::Model;
 

@@ -2,13 +2,13 @@
 
 ghost use Rattle.std.specs.Prelude.{◌≡◌, ◌+◌, ◌*◌, ◌^◌, ◌<◌, ◌≤◌, ◌⊎◌, ◌∷◌, ◌++◌, [], All, IfOk, flat_map, length, map};
 ghost use Rattle.std.specs.Fmt.{signed_decimal};
-ghost use Rattle.iso_io.specs.Seen.{Stages};
+ghost use Rattle.byte_streams.specs.Seen.{Stages};
 ghost use Rattle.nrrd_text.specs.Forms.{IsOfForm, printed};
 
 use crate::forms::Form;
 use crate::sample_lines::SampleLines;
-use iso_io::{Failed, Sink, write_all_of};
-use mesh_text::Digits;
+use byte_streams::{Failed, Sink, write_all_of};
+use number_digits::Digits;
 use packed_samples::Packed;
 
 /// So many samples are put at once: whether there is room is asked for all of them, and not for each.

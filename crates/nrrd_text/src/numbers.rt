@@ -5,7 +5,7 @@ ghost use Rattle.std.specs.Fmt.{signed_decimal};
 ghost use Rattle.nrrd_text.specs.Writing.{next_number};
 
 use itoa::Buffer;
-use mesh_text::Digits;
+use number_digits::Digits;
 use packed_samples::{Packed, sample_at};
 
 /// The numbers from here on have more digits than those of a volume.

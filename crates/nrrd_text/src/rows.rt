@@ -1,15 +1,15 @@
 //! Rows of samples in print, gathered with others before they are written.
 ghost use Rattle.std.specs.Prelude.{◌≡◌, ◌+◌, ◌*◌, ◌^◌, ◌≤◌, All, IfOk, length, map};
-ghost use Rattle.iso_io.specs.Seen.{Stages};
+ghost use Rattle.byte_streams.specs.Seen.{Stages};
 ghost use Rattle.iso_base.specs.Samples.{IsOfKind};
 ghost use Rattle.nrrd_text.specs.Writing.{hex_line, text_line};
 
 use crate::forms::{Form, numbers_of};
 use crate::gathered::{gather_counted, gather_end, gather_first, gather_samples};
 use crate::sample_lines::SampleLines;
+use byte_streams::{Failed, Sink};
 use iso_base::SampleKind;
-use iso_io::{Failed, Sink};
-use mesh_text::{Counted, Digits};
+use number_digits::{Counted, Digits};
 use packed_samples::Packed;
 
 /// Puts a line of samples as numbers, one space between two, behind what waits, and says how many bytes it has. What waits is written

@@ -8,7 +8,7 @@ use crate::byte_numbers::ByteNumbers;
 use crate::forms::Form;
 use crate::hex_digits::Pairs;
 use crate::numbers::{put_number, put_others};
-use mesh_text::Digits;
+use number_digits::Digits;
 use packed_samples::Packed;
 use std::marker::Model;
 

@@ -2,8 +2,8 @@
 use Rattle.std.proofs.Common.{◌≡◌, ℕ, zero, suc, ◌+◌, ◌<◌, Bool, List, [], ◌∷◌, ◌++◌, length, drop, get_or, sym, ap, ◌∙◌, subst, arith, All}
 use Rattle.std.proofs.lemmas.List.{at_drop_more, drop_more}
 use Rattle.std.proofs.lemmas.List.Elements.{All-append}
-use Rattle.iso_io.specs.Seen.{Tape}
-use Rattle.iso_io.proofs.Staging.{HasStaged}
+use Rattle.byte_streams.specs.Seen.{Tape}
+use Rattle.byte_streams.proofs.Staging.{HasStaged}
 use Rattle.plane_contour.specs.Points.{DrawnLine, IsNear, Point}
 use Rattle.plane_contour.specs.Texts.{contours_text, line_text, point_line, points_text}
 

@@ -3,14 +3,14 @@
 ghost use Rattle.std.specs.Prelude.{◌≡◌, ◌+◌, ◌*◌, ◌<◌, ◌≤◌, ◌^◌, ◌++◌, All, length, unsigned_abs};
 ghost use Rattle.arrayvec.specs.ArrayString.{array_string_len};
 ghost use Rattle.iso_defs.specs.Texts.{decimal_text};
-ghost use Rattle.iso_io.specs.Seen.{Puts, Stages};
+ghost use Rattle.byte_streams.specs.Seen.{Puts, Stages};
 ghost use Rattle.plane_contour.specs.Points.{IsNear};
 ghost use Rattle.plane_contour.specs.Texts.{contours_text, head_line, line_text, point_line, points_text, printed_coordinate};
 
 use crate::line::{Contours, Line};
 use arrayvec::ArrayString;
+use byte_streams::{Failed, LINES, Sink, gather, write_all_of};
 use iso_base::{EdgeName, Thousandth, put_decimal, put_number};
-use iso_io::{Failed, LINES, Sink, gather, write_all_of};
 
 /// A pad's layer along an axis, in thousandths.
 const LAYER: i64 = 1000;

@@ -2,7 +2,7 @@
 use Rattle.std.proofs.Common.{◌≡◌, ℕ, ◌<◌, ◌≤◌, List, length, Some, None, Ok, Err, MatchOption, IfSome, refl, sym, ap, ◌∙◌, inl, inr, subst, arith, ℤ}
 use Rattle.std.specs.Prelude.{Option, Result}
 use Rattle.iso_base.specs.Volume.{Volume}
-use Rattle.iso_io.specs.Causes.{Rose}
+use Rattle.byte_streams.specs.Causes.{Rose}
 use Rattle.endings.specs.Status.{status_of}
 use Rattle.endings.specs.declared.answer.VolumeFault.{VolumeFault}
 use Rattle.endings.specs.declared.answer.Answer.{Answer}

@@ -4,7 +4,7 @@ use Rattle.iso_defs.specs.Grid.{Grid}
 use Rattle.iso_base.specs.Shifted.{field}
 use Rattle.iso_base.specs.Sizing.{IsGrid}
 use Rattle.iso_base.specs.Volume.{Voxels, unpadded}
-use Rattle.iso_io.specs.Seen.{Feed, ReadsAll}
+use Rattle.byte_streams.specs.Seen.{Feed, ReadsAll}
 use Rattle.mesh_text.specs.Lines.{points_head}
 use Rattle.mesh_write.specs.Edges.{ArePlaced, placed_lines}
 use Rattle.mesh_write.proofs.Crossings.{are_placed}

@@ -1,8 +1,8 @@
 -- What a command does to its input and its output, and by which answer it ends.
 use Rattle.std.specs.Prelude.{◌≡◌, ℕ, ◌<◌, ◌≤◌, List, length, Result, Ok, Err, IfSome}
 use Rattle.std.specs.Io.KnownBytes.{Appends, IsAtEnd}
-use Rattle.iso_io.specs.Causes.{Rose}
-use Rattle.iso_io.specs.Seen.{Feed, Tape, AppendsFront}
+use Rattle.byte_streams.specs.Causes.{Rose}
+use Rattle.byte_streams.specs.Seen.{Feed, Tape, AppendsFront}
 use Rattle.point_command.specs.Volumes.{volume_limit}
 use Rattle.endings.specs.declared.answer.VolumeFault.{VolumeFault}
 use Rattle.endings.specs.declared.answer.Answer.{Answer}

@@ -6,8 +6,8 @@ use Rattle.iso_base.specs.Volume.{Voxels, Volume, unpadded}
 use Rattle.iso_base.specs.Shifted.{is_above_pad}
 use Rattle.iso_base.specs.Sizing.{sized}
 use Rattle.iso_base.specs.declared.sizes.SizeFault.{SizeFault}
-use Rattle.iso_io.specs.Causes.{Rose}
-use Rattle.iso_io.specs.Seen.{Feed}
+use Rattle.byte_streams.specs.Causes.{Rose}
+use Rattle.byte_streams.specs.Seen.{Feed}
 use Rattle.voxel_list.specs.Padding.{grown, padded_volume}
 use Rattle.nrrd.specs.Nrrd.{nrrd_of}
 use Rattle.file_points.specs.Edges.{AreEdgesOfFile}

@@ -2,7 +2,7 @@
 
 ghost use Rattle.std.specs.Prelude.{◌≡◌, ◌++◌, [], ℤ, None, IfOk, IfErr, length};
 ghost use Rattle.iso_base.specs.Volume.{Voxels};
-ghost use Rattle.iso_io.specs.Seen.{Puts};
+ghost use Rattle.byte_streams.specs.Seen.{Puts};
 ghost use Rattle.mesh_text.specs.Lines.{points_head};
 ghost use Rattle.mesh_write.specs.Edges.{placed_lines};
 ghost use Rattle.file_points.specs.Edges.{AreEdgesOf, AreEdgesOfFile};
@@ -12,10 +12,10 @@ ghost use Rattle.point_command.specs.Volumes.{HoldsEdges, HoldsNone, IsNoVolume}
 
 use crate::input::bytes_of_input;
 use crate::reasons::NoVolume;
+use byte_streams::{Failed, Sink, Source};
 use endings::Answer;
 use file_points::{FileEdges, edges_of_file};
 use iso_base::Level;
-use iso_io::{Failed, Sink, Source};
 use mesh_write::{STAGE, put_points};
 use std::alloc::Global;
 

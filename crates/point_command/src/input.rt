@@ -1,11 +1,11 @@
 //! The bytes of the input.
 
 ghost use Rattle.std.specs.Prelude.{◌≤◌, length, ℤ, Option, IfOk, IfErr};
-ghost use Rattle.iso_io.specs.Seen.{ReadsAll};
+ghost use Rattle.byte_streams.specs.Seen.{ReadsAll};
 ghost use Rattle.point_command.specs.Volumes.{volume_limit, HoldsNone};
 
+use byte_streams::{Source, read_all_of};
 use endings::Answer;
-use iso_io::{Source, read_all_of};
 use std::alloc::Global;
 
 /// The most bytes of a volume file.

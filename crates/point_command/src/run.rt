@@ -1,7 +1,7 @@
 //! All that the program of points alone does.
 
 ghost use Rattle.std.specs.Prelude.{◌≡◌, ◌↔◌, None, map, string_bytes};
-ghost use Rattle.iso_io.specs.Causes.{Rose};
+ghost use Rattle.byte_streams.specs.Causes.{Rose};
 ghost use Rattle.endings.specs.Notes.{note_of};
 ghost use Rattle.endings.specs.Status.{status_of};
 ghost use Rattle.endings.specs.Tries.{Tries};
@@ -12,8 +12,8 @@ ghost use Rattle.point_command.specs.Words.{points_level};
 
 use crate::crossings::points;
 use crate::words::level_of_words;
+use byte_streams::{Sink, Source};
 use endings::{Answer, Status, put_note};
-use iso_io::{Sink, Source};
 use std::alloc::Global;
 
 /// Does what the words ask for.

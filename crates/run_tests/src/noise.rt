@@ -1,6 +1,6 @@
 //! Scripts and volumes of pseudo-random bytes, and an input without an end.
 
-ghost use Rattle.iso_io.specs.Seen.{untold_feed};
+ghost use Rattle.byte_streams.specs.Seen.{untold_feed};
 
 use crate::calls::{Outcome, call_of, check_output, outcome_of, outcome_over};
 use crate::faults::worked;

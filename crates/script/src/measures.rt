@@ -2,12 +2,12 @@
 
 ghost use Rattle.std.specs.Prelude.{◌≡◌, ◌++◌, ◌+◌, ◌≤◌};
 ghost use Rattle.arrayvec.specs.ArrayString.{array_string_len};
-ghost use Rattle.iso_io.specs.Seen.{Puts};
+ghost use Rattle.byte_streams.specs.Seen.{Puts};
 ghost use Rattle.script.specs.Measures.{area_text, measure_line, measures_text, share_line};
 
 use crate::text::{Text, put_counted, put_counted_signed};
 use arrayvec::ArrayString;
-use iso_io::{Failed, Sink, gather, write_all_of};
+use byte_streams::{Failed, Sink, gather, write_all_of};
 use measure::Share;
 
 fn head_text(count: usize) -> Text

@@ -3,7 +3,7 @@ use Rattle.std.proofs.Common.{◌≡◌, ℕ, ◌+◌, ◌≤◌, Bool, true, fa
 use Rattle.std.specs.Prelude.{None, not, ◌&&◌, bytes_eq, codes, decimal, if◌then◌else◌, length}
 use Rattle.std.proofs.lemmas.List.{append-nil}
 use Rattle.std.proofs.lemmas.List.Concat.{flat_map-append}
-use Rattle.iso_io.proofs.Known.{Appends-nil, Appends-trans}
+use Rattle.byte_streams.proofs.Known.{Appends-nil, Appends-trans}
 use Rattle.script.specs.declared.command.LineFault.{LineFault}
 use Rattle.script.specs.declared.command.LineFault.TheVariants.{Syntax, LineTooLong}
 use Rattle.iso_base.specs.declared.fault.BenchFault.{BenchFault}

@@ -4,7 +4,7 @@ use Rattle.std.specs.Prelude.{Option, None, Some, IfOk, is_some, if◌then◌els
 use Rattle.iso_defs.specs.Grid.{Grid}
 use Rattle.iso_defs.specs.Texts.{line}
 use Rattle.voxel_list.specs.Areas.{Area}
-use Rattle.iso_io.specs.Files.{Files}
+use Rattle.byte_streams.specs.Files.{Files}
 use Rattle.iso_io.specs.Shelves.{Store}
 use Rattle.iso_base.specs.declared.fault.BenchFault.{BenchFault}
 use Rattle.iso_base.specs.declared.fault.BenchFault.TheVariants as faults

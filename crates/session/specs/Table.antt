@@ -2,7 +2,7 @@
 use Rattle.std.specs.Prelude.{◌≡◌, ◌⊎◌, ℕ, Bool, true, false, List, ◌++◌, length, codes, is_some, Option, Some, None, Result, Ok, Err, MatchResult}
 use Rattle.iso_base.specs.declared.fault.BenchFault.{BenchFault}
 use Rattle.iso_base.specs.declared.fault.BenchFault.TheVariants as faults
-use Rattle.iso_io.specs.Files.{Files}
+use Rattle.byte_streams.specs.Files.{Files}
 use Rattle.iso_io.specs.Shelves.{with_file, FilesCut}
 use Rattle.bench_core.specs.Machine.{State, set_step, fill_step, level_step, undo_step, redo_step, contour_step, three_from}
 use Rattle.bench_core.specs.Texts.{ply_text, ply_written, obj_text, obj_written, raw_save, text_save, hex_save, contour_of, report_of, measure_of}

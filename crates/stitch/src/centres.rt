@@ -19,12 +19,12 @@ use crate::block::Block;
 use crate::ranks::row_at;
 use crate::style::Style;
 use crate::walk::{have_no_loops, next_cases};
+use byte_streams::{Failed, Sink};
 use case_table::CaseRow;
 use cell_loops::{centre_count, loop_count, loop_edges};
 use edge_points::{RowRanks, place, rounded_mean, x_in_cell, y_in_cell, z_in_cell};
 use flat_mesh::{Cell, Heights};
 use iso_base::{Point, Steps};
-use iso_io::{Failed, Sink};
 use std::sync::ledger::Ledger;
 use stitch_rows::{ActiveRow, CellRows, Field, ROW, count_along};
 

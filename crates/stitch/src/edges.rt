@@ -21,11 +21,11 @@ ghost use Rattle.stitch.specs.Spans.{all_edges_text, edge_line, edges_text, poin
 use crate::block::Block;
 use crate::ranks::{edges_before, row_at};
 use crate::style::Style;
+use byte_streams::{Failed, Sink};
 use crossing_edges::begin_none;
 use edge_points::{RowRanks, place};
 use flat_mesh::Heights;
 use iso_base::Point;
-use iso_io::{Failed, Sink};
 use packed_samples::{Packed, PackedRun};
 use stitch_rows::{
     ActiveRow, Field, PointRuns, ROW, Rows, count_along, flag_row, point_runs, rows_at,

@@ -20,12 +20,12 @@ use crate::corners::{Corners, edge_numbers, rank_corners};
 use crate::ranks::row_at;
 use crate::style::Style;
 use crate::walk::{have_no_loops, next_cases};
+use byte_streams::{Failed, Sink};
 use case_table::CaseRow;
 use cell_loops::{loop_count, loop_edges};
 use edge_points::RowRanks;
 use flat_mesh::{Cell, Heights};
 use iso_base::{Point, Steps};
-use iso_io::{Failed, Sink};
 use std::sync::ledger::Ledger;
 use stitch_rows::{ActiveRow, CellRows, Field, ROW, count_along};
 

@@ -7,7 +7,7 @@ use crate::extraction::corner_mesh;
 use crate::grids::two_a_side;
 use crossing_edges::EdgeVertices;
 use iso_base::{Level, Sizes, Written};
-use iso_io::MemSink;
+use byte_streams::MemSink;
 use mesh_text::TwoWayFormat;
 use mesh_write::{STAGE, put_mesh_as, put_points};
 use std::alloc::Global;

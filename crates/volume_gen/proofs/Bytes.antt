@@ -5,8 +5,8 @@ use Rattle.std.proofs.Common.{subst}
 use Rattle.std.proofs.Math.Nat.{mod-eq_of_lt}
 use Rattle.std.proofs.lemmas.List.Concat.{flat_map-append}
 use Rattle.iso_base.specs.declared.kind.SampleKind.TheVariants.{U8}
-use Rattle.iso_io.specs.Seen.{Stages, Tape}
-use Rattle.iso_io.proofs.Staging.{nothing_staged, stages_both, stages_first}
+use Rattle.byte_streams.specs.Seen.{Stages, Tape}
+use Rattle.byte_streams.proofs.Staging.{nothing_staged, stages_both, stages_first}
 use Rattle.nrrd.specs.Writing.{samples_text}
 use Rattle.nrrd_text.specs.Samples.{sample_bytes}
 

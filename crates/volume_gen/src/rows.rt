@@ -2,13 +2,13 @@
 ghost use Rattle.std.specs.Prelude.{◌≡◌, ◌+◌, ◌<◌, ◌≤◌, ◌++◌, [], pos, replicate};
 ghost use Rattle.iso_base.specs.declared.kind.SampleKind.TheVariants.{U8};
 ghost use Rattle.iso_defs.specs.Grid.{point_count};
-ghost use Rattle.iso_io.specs.Seen.{Puts, Stages};
+ghost use Rattle.byte_streams.specs.Seen.{Puts, Stages};
 ghost use Rattle.nrrd.specs.Writing.{samples_text, save_text};
 ghost use Rattle.volume_gen.specs.Generated.{first_samples, generated_volume, row_samples};
 
 use crate::samples::block_sample;
+use byte_streams::{Failed, Sink, stage, write_all_of};
 use iso_base::{SampleKind, Sizes};
-use iso_io::{Failed, Sink, stage, write_all_of};
 use nrrd::put_nrrd_head;
 
 /// Puts a sample behind what waits, so many times.

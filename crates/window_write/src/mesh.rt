@@ -1,12 +1,12 @@
 //! A mesh whose positions are moved, as a text in a format.
 ghost use Rattle.std.specs.Prelude.{◌≡◌, ◌<◌, ◌≤◌, ◌^◌, ◌++◌, [], get_or, length, IfOk};
-ghost use Rattle.iso_io.specs.Seen.{Puts, Stages};
+ghost use Rattle.byte_streams.specs.Seen.{Puts, Stages};
 ghost use Rattle.window_write.specs.Lines.{IsNear, face_line, face_lines, head_of, middle_of, steps_of, text_of, vertex_line, vertex_lines, written_of};
 
 use crate::lines::{gather_face, gather_vertex};
+use byte_streams::{Failed, Sink, write_all_of};
 use flat_mesh::Mesh;
 use iso_base::{MeshFormat, Point, Written};
-use iso_io::{Failed, Sink, write_all_of};
 use mesh_more::{off_head_text, vtk_faces_text, vtk_head_text};
 use mesh_text::{Lines, ply_head_text};
 use mesh_write::{make_room, stage_gathered, stage_text};

@@ -2,7 +2,7 @@ use Rattle.std.proofs.Common.{◌≡◌, ◌+◌, ◌*◌, ◌∙◌, [], length
 use Rattle.std.specs.Prelude.{flat_map}
 use Rattle.std.proofs.lemmas.List.{length-map, length-take}
 use Rattle.std.proofs.lemmas.Result.{err_from_is_err_and}
-use Rattle.iso_io.proofs.Staging.{HasStaged, staged_front, staged_whole}
+use Rattle.byte_streams.proofs.Staging.{HasStaged, staged_front, staged_whole}
 use Rattle.nrrd.specs.Writing.{coded_line, rows_of}
 use Rattle.nrrd_text.proofs.Lines.{HasPieces, next_first, pieces_more, pieces_none}
 use Rattle.inner_volume.specs.Unpadded.{inner_samples, inner_voxels}

@@ -2,7 +2,7 @@ use Rattle.std.proofs.Common.{◌≡◌, length, arith, length-append}
 use Rattle.std.specs.Prelude.{flat_map}
 use Rattle.std.proofs.lemmas.Result.{err_from_is_err_and}
 use Rattle.iso_base.specs.Volume.{inner_grid}
-use Rattle.iso_io.proofs.Putting.{puts_first}
+use Rattle.byte_streams.proofs.Putting.{puts_first}
 use Rattle.nrrd.specs.Writing.{coded_head_text, coded_line, rows_of}
 use Rattle.inner_volume.specs.Unpadded.{inner_voxels, saved_in_print}
 use Rattle.inner_volume.proofs.RowLines.{both_failed, both_put}

@@ -1,5 +1,5 @@
 use Rattle.std.proofs.lemmas.Result.{err_from_is_err_and}
-use Rattle.iso_io.proofs.Putting.{puts_both, puts_first}
+use Rattle.byte_streams.proofs.Putting.{puts_both, puts_first}
 use Rattle.inner_volume.specs.Unpadded.{saved_text}
 use Rattle.inner_volume.proofs.saved.put_volume.Goals as goal
 

@@ -1,6 +1,6 @@
 use Rattle.std.proofs.Common.{◌≡◌, ◌∙◌, ap, arith}
 use Rattle.std.proofs.lemmas.Result.{err_from_is_err_and}
-use Rattle.iso_io.proofs.Staging.{stages_not_put, stages_unwritten, stages_written}
+use Rattle.byte_streams.proofs.Staging.{stages_not_put, stages_unwritten, stages_written}
 use Rattle.stitch.specs.Blocks.{Gathered}
 use Rattle.stitch.proofs.WholeMesh.{all_put, puts_with, vertices_fit, written_is}
 use Rattle.list_stitch.proofs.write.write_mesh.Goals as goal

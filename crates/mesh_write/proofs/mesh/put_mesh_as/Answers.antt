@@ -1,5 +1,5 @@
 use Rattle.std.proofs.lemmas.Result.{err_from_is_err_and}
-use Rattle.iso_io.proofs.Staging.{stages_unwritten}
+use Rattle.byte_streams.proofs.Staging.{stages_unwritten}
 use Rattle.mesh_write.proofs.mesh.put_mesh_as.Goals as goal
 
 pub returns-in_err-write_all_of-clause-text : goal.returns-in_err-write_all_of-clause-text

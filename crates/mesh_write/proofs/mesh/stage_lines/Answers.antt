@@ -1,5 +1,5 @@
 use Rattle.std.proofs.lemmas.Result.{err_from_is_err_and}
-use Rattle.iso_io.proofs.Staging.{stages_both, stages_first}
+use Rattle.byte_streams.proofs.Staging.{stages_both, stages_first}
 use Rattle.mesh_write.proofs.Waiting.{from_none, then_staged, then_failed, whatever_waits}
 use Rattle.mesh_write.proofs.mesh.stage_lines.Goals as goal
 

@@ -1,6 +1,6 @@
 use Rattle.std.proofs.Common.{ap, ◌++◌, length, length-append, arith}
 use Rattle.std.proofs.lemmas.Result.{err_from_is_err_and}
-use Rattle.iso_io.proofs.Staging.{stages_both, stages_first, stages_with}
+use Rattle.byte_streams.proofs.Staging.{stages_both, stages_first, stages_with}
 use Rattle.mesh_write.specs.Mesh.{vertex_lines, face_lines, head_of}
 use Rattle.mesh_write.proofs.Rows.{mesh_text_is}
 use Rattle.mesh_write.proofs.mesh.stage_mesh.Goals as goal

@@ -1,5 +1,5 @@
 use Rattle.std.proofs.lemmas.Result.{err_from_is_err_and}
-use Rattle.iso_io.proofs.Staging.{stages_first}
+use Rattle.byte_streams.proofs.Staging.{stages_first}
 use Rattle.mesh_write.proofs.Waiting.{line_gathered}
 use Rattle.mesh_write.proofs.mesh.stage_vertex.Goals as goal
 

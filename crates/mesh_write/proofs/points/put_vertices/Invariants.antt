@@ -1,5 +1,5 @@
 use Rattle.std.proofs.Common.{◌++◌, drop}
-use Rattle.iso_io.proofs.Staging.{HasStaged}
+use Rattle.byte_streams.proofs.Staging.{HasStaged}
 use Rattle.mesh_write.specs.Walk.{IsRow}
 use Rattle.mesh_write.specs.Edges.{placed_lines}
 use Rattle.mesh_write.proofs.points.put_vertices.Given as goal

@@ -2,7 +2,7 @@ use Rattle.std.proofs.Common.{◌∙◌, All, List, ℕ, map, sym, ap, subst}
 use Rattle.std.specs.List.{drop-map, take-map}
 use Rattle.std.proofs.lemmas.List.Elements.{All-take}
 use Rattle.std.proofs.lemmas.Result.{err_from_is_err_and}
-use Rattle.iso_io.proofs.Putting.{HasPut, has_put, put_failed}
+use Rattle.byte_streams.proofs.Putting.{HasPut, has_put, put_failed}
 use Rattle.iso_base.specs.Samples.{IsOfKind}
 use Rattle.nrrd.specs.Writing.{samples_text}
 use Rattle.nrrd.proofs.Texts.{two_parts, all_behind}

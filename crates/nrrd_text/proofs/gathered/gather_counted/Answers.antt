@@ -2,7 +2,7 @@ use Rattle.std.proofs.lemmas.Result.{err_from_is_err_and}
 use Rattle.std.proofs.Common.{◌∙◌, ap, subst, length, map, arith, length-append}
 use Rattle.std.specs.Prelude.{flat_map}
 use Rattle.std.proofs.lemmas.List.{length-map}
-use Rattle.iso_io.proofs.Staging.{HasStaged, staged_front, staged_more}
+use Rattle.byte_streams.proofs.Staging.{HasStaged, staged_front, staged_more}
 use Rattle.nrrd_text.specs.Forms.{IsOfForm, printed}
 use Rattle.nrrd_text.proofs.Lines.{each_first, each_later, pieces_joined, samples_joined}
 use Rattle.nrrd_text.proofs.gathered.gather_counted.Goals as goal

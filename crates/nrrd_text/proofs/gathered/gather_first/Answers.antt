@@ -1,5 +1,5 @@
 use Rattle.std.proofs.lemmas.Result.{err_from_is_err_and}
-use Rattle.iso_io.proofs.Staging.{stages_first}
+use Rattle.byte_streams.proofs.Staging.{stages_first}
 use Rattle.nrrd_text.proofs.gathered.gather_first.Goals as goal
 
 pub returns-in_err-make_room-clause-staged : goal.returns-in_err-make_room-clause-staged

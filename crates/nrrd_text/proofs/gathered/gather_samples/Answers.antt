@@ -1,6 +1,6 @@
 use Rattle.std.proofs.lemmas.Result.{err_from_is_err_and}
 use Rattle.std.proofs.Common.{subst}
-use Rattle.iso_io.proofs.Staging.{HasStaged, staged_front, staged_more}
+use Rattle.byte_streams.proofs.Staging.{HasStaged, staged_front, staged_more}
 use Rattle.nrrd_text.specs.Forms.{IsOfForm, printed}
 use Rattle.nrrd_text.proofs.Lines.{each_first, each_later, pieces_joined, samples_joined}
 use Rattle.nrrd_text.proofs.gathered.gather_samples.Goals as goal

@@ -1,6 +1,6 @@
 use Rattle.std.proofs.Common.{◌++◌, All, length, map}
 use Rattle.std.specs.Prelude.{flat_map}
-use Rattle.iso_io.proofs.Staging.{HasStaged}
+use Rattle.byte_streams.proofs.Staging.{HasStaged}
 use Rattle.nrrd_text.specs.Forms.{IsOfForm, printed}
 use Rattle.nrrd_text.proofs.gathered.gather_samples.Given as goal
 

@@ -2,7 +2,7 @@ use Rattle.std.proofs.Common.{◌+◌, ◌*◌, ◌∙◌, ◌∷◌, [], ap, sy
 use Rattle.std.proofs.lemmas.List.{length-map}
 use Rattle.iso_base.specs.Samples.{width_of}
 use Rattle.std.proofs.lemmas.Result.{err_from_is_err_and}
-use Rattle.iso_io.proofs.Staging.{staged_first, staged_front, staged_more, staged_whole}
+use Rattle.byte_streams.proofs.Staging.{staged_first, staged_front, staged_more, staged_whole}
 use Rattle.nrrd_text.specs.Writing.{hex_line}
 use Rattle.nrrd_text.proofs.Lines.{length-hex_line}
 use Rattle.nrrd_text.proofs.rows.gather_hex.Goals as goal

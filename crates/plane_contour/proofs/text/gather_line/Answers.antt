@@ -1,7 +1,7 @@
 use Rattle.std.proofs.Common.{◌≡◌, ◌∙◌, subst}
 use Rattle.std.proofs.lemmas.Result.{err_from_is_err_and}
-use Rattle.iso_io.specs.Seen.{Stages}
-use Rattle.iso_io.proofs.Staging.{stages_both, stages_first}
+use Rattle.byte_streams.specs.Seen.{Stages}
+use Rattle.byte_streams.proofs.Staging.{stages_both, stages_first}
 use Rattle.plane_contour.specs.Texts.{head_line, points_text}
 use Rattle.plane_contour.proofs.text.gather_line.Goals as goal
 

@@ -1,7 +1,7 @@
 use Rattle.std.proofs.Common.{◌∙◌, ◌++◌, subst, arith}
 use Rattle.std.proofs.lemmas.List.{at_drop_all}
 use Rattle.std.proofs.lemmas.Result.{err_from_is_err_and}
-use Rattle.iso_io.proofs.Staging.{HasStaged, staged_first, staged_front, staged_more, staged_whole}
+use Rattle.byte_streams.proofs.Staging.{HasStaged, staged_first, staged_front, staged_more, staged_whole}
 use Rattle.plane_contour.specs.Texts.{points_text}
 use Rattle.plane_contour.proofs.Texts.{next_point}
 use Rattle.plane_contour.proofs.text.gather_points.Goals as goal

@@ -1,5 +1,5 @@
 use Rattle.std.proofs.Common.{drop, ◌++◌}
-use Rattle.iso_io.proofs.Staging.{HasStaged}
+use Rattle.byte_streams.proofs.Staging.{HasStaged}
 use Rattle.plane_contour.specs.Texts.{points_text}
 use Rattle.plane_contour.proofs.text.gather_points.Given as goal
 

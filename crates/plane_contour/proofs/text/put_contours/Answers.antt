@@ -1,8 +1,8 @@
 use Rattle.std.proofs.Common.{◌≡◌, ◌<◌, ◌≤◌, ◌∙◌, List, get_or, length, subst, arith}
 use Rattle.std.proofs.lemmas.List.{at_drop_all}
 use Rattle.std.proofs.lemmas.Result.{err_from_is_err_and}
-use Rattle.iso_io.specs.Seen.{Puts}
-use Rattle.iso_io.proofs.Staging.{HasStaged, staged_more, staged_not, staged_end}
+use Rattle.byte_streams.specs.Seen.{Puts}
+use Rattle.byte_streams.proofs.Staging.{HasStaged, staged_more, staged_not, staged_end}
 use Rattle.plane_contour.specs.Points.{DrawnLine}
 use Rattle.plane_contour.specs.Texts.{contours_text}
 use Rattle.plane_contour.proofs.Texts.{lines_from}

@@ -1,5 +1,5 @@
 use Rattle.std.proofs.Common.{drop}
-use Rattle.iso_io.proofs.Staging.{HasStaged}
+use Rattle.byte_streams.proofs.Staging.{HasStaged}
 use Rattle.plane_contour.specs.Texts.{contours_text}
 use Rattle.plane_contour.proofs.text.put_contours.Given as goal
 

@@ -1,7 +1,7 @@
 use Rattle.std.proofs.lemmas.Result.{err_from_is_err_and}
 use Rattle.iso_base.specs.declared.kind.SampleKind.TheVariants.{U8}
 use Rattle.iso_defs.specs.Grid.{point_count}
-use Rattle.iso_io.proofs.Putting.{puts_both, puts_first}
+use Rattle.byte_streams.proofs.Putting.{puts_both, puts_first}
 use Rattle.nrrd.specs.Writing.{samples_text}
 use Rattle.volume_gen.specs.Generated.{first_samples}
 use Rattle.volume_gen.proofs.rows.put_generated.Goals as goal

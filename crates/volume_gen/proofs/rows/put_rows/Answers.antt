@@ -1,4 +1,4 @@
-use Rattle.iso_io.proofs.Staging.{stages_written}
+use Rattle.byte_streams.proofs.Staging.{stages_written}
 use Rattle.volume_gen.proofs.rows.put_rows.Goals as goal
 
 pub returns : goal.returns

@@ -1,7 +1,7 @@
 use Rattle.std.proofs.Common.{◌*◌, min, Ok}
 use Rattle.iso_base.specs.declared.kind.SampleKind.TheVariants.{U8}
-use Rattle.iso_io.specs.declared.Failed.{Failed}
-use Rattle.iso_io.specs.Seen.{Stages}
+use Rattle.byte_streams.specs.declared.Failed.{Failed}
+use Rattle.byte_streams.specs.Seen.{Stages}
 use Rattle.nrrd.specs.Writing.{samples_text}
 use Rattle.volume_gen.specs.Generated.{row_samples}
 use Rattle.volume_gen.proofs.rows.stage_row.Given as goal

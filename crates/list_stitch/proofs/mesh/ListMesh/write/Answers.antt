@@ -1,5 +1,5 @@
 use Rattle.std.proofs.Common.{◌≡◌, IfOk, subst}
-use Rattle.iso_io.specs.Seen.{Puts}
+use Rattle.byte_streams.specs.Seen.{Puts}
 use Rattle.flat_mesh.specs.Lattice.{Leveled, heights}
 use Rattle.flat_mesh.specs.Mesh.{mesh_of}
 use Rattle.mesh_write.specs.Mesh.{text_of, written_of}

@@ -1,0 +1,117 @@
+ghost use Rattle.std.specs.Prelude.{◌≡◌, ◌<◌, ◌≤◌, length, IfOk, IfSome, IsErrOf, vec_len};
+ghost use Rattle.std.specs.Io.{ReadsAtMost};
+ghost use Rattle.byte_streams.specs.Causes.{Rose};
+ghost use Rattle.byte_streams.specs.Seen.{Feed, Reads, ReadsAll, TakesPiece};
+
+use crate::Failed;
+use std::alloc::{AllocError, Global};
+use thiserror::Error;
+
+/// Where bytes come from. It is seen as the bytes still to come, where they are told, and a count of faults.
+pub trait Source {
+    ghost seen: { Self → Feed };
+
+    /// Puts the next bytes at the front of `into`, and says how many; 0 is the end of the input. What the rest of
+    /// `into` then holds is open. `Failed` comes only where the count of faults rose, and nothing was then read.
+    fn read(&mut self, into: &mut [u8]) -> Result<usize, Failed>
+        requires { 0 < length into.old }
+        ensures bound { ReadsAtMost result into.new }
+        ensures reads { Reads (seen self.old) (seen self.new) result into.new };
+}
+
+/// Why not all was read.
+#[derive(Clone, Copy, Debug, PartialEq, Eq, Error)]
+pub enum ReadFault {
+    /// A read failed, and the source's count of faults rose.
+    #[error("not read")]
+    Failed,
+    /// There were more bytes than the limit.
+    #[error("too long")]
+    TooLong,
+    /// Memory could not be had.
+    #[error("no memory")]
+    Memory,
+}
+
+impl From<AllocError> for ReadFault {
+    ghost use Rattle.std.specs.Prelude.{◌≡◌};
+    ghost use Rattle.byte_streams.specs.declared.source.ReadFault.TheVariants.{Memory};
+
+    ghost from_gives = { λ _ e. e ≡ Memory };
+
+    fn from(_: AllocError) -> ReadFault {
+        ReadFault::Memory
+    }
+}
+
+/// So many bytes are asked for at a time.
+const CHUNK: usize = 65_536;
+
+// Apart, so that callers see the length alone.
+fn zeroed(alloc: Global, len: usize) -> Result<Vec<u8>, AllocError>
+    ensures { IfOk result (λ v. vec_len v ≡ len) }
+{
+    vec![in alloc; 0u8; len]
+}
+
+/// Reads one piece, at most as long as `chunk`, and appends it to the bytes.
+fn read_piece<S: Source>(
+    source: &mut S,
+    chunk: &mut [u8],
+    bytes: &mut Vec<u8>,
+) -> Result<usize, ReadFault>
+    requires { 0 < length chunk.old }
+    ensures piece { IfOk result (TakesPiece (S.seen source.old) (S.seen source.new) bytes.old.items bytes.new.items) }
+    ensures not_long { IsErrOf result ReadFault.TooLong → ⊥ }
+    ensures failed { IsErrOf result ReadFault.Failed → Rose (S.seen source.old).faults (S.seen source.new).faults }
+    ensures later { (S.seen source.old).faults ≤ (S.seen source.new).faults }
+{
+    match source.read(chunk) {
+        Ok(count) => {
+            bytes.extend_from_slice(&chunk[..count])?;
+            Ok(count)
+        }
+        Err(Failed) => Err(ReadFault::Failed),
+    }
+}
+
+/// Reads all that is left by way of `chunk`.
+fn read_by<S: Source>(
+    alloc: Global,
+    source: &mut S,
+    limit: u64,
+    chunk: &mut [u8],
+) -> Result<Vec<u8>, ReadFault>
+    requires { 0 < length chunk.old }
+    ensures all { IfOk result (λ v. ReadsAll (S.seen source.old) (S.seen source.new) v.items) }
+    ensures within { IfOk result (λ v. length v.items ≤ limit) }
+    ensures too_long { IsErrOf result ReadFault.TooLong → IfSome (S.seen source.old).left (λ all. limit < length all) }
+    ensures failed { IsErrOf result ReadFault.Failed → Rose (S.seen source.old).faults (S.seen source.new).faults }
+    ensures later { (S.seen source.old).faults ≤ (S.seen source.new).faults }
+{
+    let mut bytes = Vec::new(alloc);
+    while bytes.len() as u64 <= limit {
+        if read_piece(source, chunk, &mut bytes)? == 0 {
+            return Ok(bytes);
+        }
+    }
+    Err(ReadFault::TooLong)
+}
+
+/// Reads all that is left of a source, in pieces of at most 64 KiB, if that is no more than `limit` bytes. `TooLong`
+/// comes only where there are more, and at most one piece past the limit was then read. `Failed` comes only where the
+/// source's count of faults rose.
+pub fn read_all_of<S: Source>(
+    alloc: Global,
+    source: &mut S,
+    limit: u64,
+) -> Result<Vec<u8>, ReadFault>
+    ensures all { IfOk result (λ v. ReadsAll (S.seen source.old) (S.seen source.new) v.items) }
+    ensures within { IfOk result (λ v. length v.items ≤ limit) }
+    ensures too_long { IsErrOf result ReadFault.TooLong → IfSome (S.seen source.old).left (λ all. limit < length all) }
+    ensures failed { IsErrOf result ReadFault.Failed → Rose (S.seen source.old).faults (S.seen source.new).faults }
+    ensures later { (S.seen source.old).faults ≤ (S.seen source.new).faults }
+{
+    let mut chunk = zeroed(alloc, CHUNK)?;
+    read_by(alloc, source, limit, &mut chunk)
+}

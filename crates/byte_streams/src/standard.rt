@@ -1,0 +1,100 @@
+ghost use Rattle.std.specs.Prelude.{◌≡◌, ◌<◌, None, [], length, is_err, if◌then◌else◌};
+ghost use Rattle.std.specs.Io.{ReadsAtMost, WritesAtMost};
+ghost use Rattle.byte_streams.specs.Memory.{one_more};
+ghost use Rattle.byte_streams.specs.Seen.{Reads, Writes, untold_feed, untold_tape};
+
+use crate::Failed;
+use crate::sink::Sink;
+use crate::source::Source;
+use std::io::{Read, Write};
+use std::marker::Model;
+
+/// A reader of std, as standard input or a file. It tells nothing of its bytes, and is seen as a count, which rises at
+/// each read that fails and at no other.
+#[derive(Drop)]
+pub struct StdSource<R: Read> {
+    reader: R,
+    faults: u64,
+}
+
+impl<R: Read> Model for StdSource<R> {
+    ghost use Rattle.std.specs.Prelude.{ℕ};
+
+    ghost Value = { ℕ };
+
+    ghost view = { λ s. s.faults };
+}
+
+impl<R: Read> StdSource<R> {
+    /// The source of what this reader gives.
+    pub fn new(reader: R) -> StdSource<R>
+        ensures { result ≡ 0 }
+    {
+        StdSource { reader, faults: 0 }
+    }
+}
+
+impl<R: Read> Source for StdSource<R> {
+    ghost seen = { untold_feed };
+
+    fn read(&mut self, into: &mut [u8]) -> Result<usize, Failed>
+        requires { 0 < length into.old }
+        ensures bound { ReadsAtMost result into.new }
+        ensures reads { Reads (untold_feed self.old) (untold_feed self.new) result into.new }
+        ensures faults { self.new ≡ (if is_err result then one_more self.old else self.old) }
+    {
+        match self.reader.read(into) {
+            Ok(count) => Ok(count),
+            Err(_) => {
+                self.faults = self.faults.saturating_add(1);
+                Err(Failed)
+            }
+        }
+    }
+}
+
+/// A writer of std, as standard output or a file. It tells nothing of its bytes, and is seen as a count, which rises at
+/// each write that fails and at no other. A writer that takes nothing of a piece that is not empty failed.
+#[derive(Drop)]
+pub struct StdSink<W: Write> {
+    writer: W,
+    faults: u64,
+}
+
+impl<W: Write> Model for StdSink<W> {
+    ghost use Rattle.std.specs.Prelude.{ℕ};
+
+    ghost Value = { ℕ };
+
+    ghost view = { λ s. s.faults };
+}
+
+impl<W: Write> StdSink<W> {
+    /// The sink that hands what it takes to this writer.
+    pub fn new(writer: W) -> StdSink<W>
+        ensures { result ≡ 0 }
+    {
+        StdSink { writer, faults: 0 }
+    }
+}
+
+impl<W: Write> Sink for StdSink<W> {
+    ghost seen = { untold_tape };
+
+    fn write(&mut self, bytes: &[u8]) -> Result<usize, Failed>
+        ensures bound { WritesAtMost result bytes.now }
+        ensures writes { Writes (untold_tape self.old) (untold_tape self.new) result bytes.now }
+        ensures faults { self.new ≡ (if is_err result then one_more self.old else self.old) }
+    {
+        if bytes.is_empty() {
+            return Ok(0);
+        }
+        match self.writer.write(bytes) {
+            Ok(count) if 0 < count => Ok(count),
+            _ => {
+                self.faults = self.faults.saturating_add(1);
+                Err(Failed)
+            }
+        }
+    }
+}
