@@ -12,7 +12,7 @@ ghost use Rattle.bench_core.specs.Keeping.{IsRightBench, Keeps, Refreshes, fill_
 ghost use Rattle.bench_core.specs.Windows.{WritesWindow, window_area};
 ghost use Rattle.window_mesh.specs.Crops.{IsWindowOfMesh};
 ghost use Rattle.inner_volume.specs.Unpadded.{inner_voxels};
-ghost use Rattle.nrrd.specs.Nrrd.{nrrd_of};
+ghost use Rattle.nrrd_read.specs.Nrrd.{nrrd_of};
 
 use crate::contour::plane_contours;
 use crate::edits::{area_change, is_in_range, one_change};

@@ -9,7 +9,7 @@ use iso_base::{Level, Sizes, Written};
 use iso_io::{MemShelf, MemSink};
 use mesh_text::TwoWayFormat;
 use mesh_write::put_mesh_as;
-use nrrd::read_volume;
+use nrrd_read::read_volume;
 use std::alloc::Global;
 use std::process::Abort;
 use std::test::Fail;

@@ -9,7 +9,7 @@ use Rattle.voxel_list.specs.Padding.{grown}
 use Rattle.voxel_list.specs.declared.pad.PadFault.{PadFault}
 use Rattle.voxel_list.specs.declared.pad.PadFault.TheVariants as pads
 use Rattle.byte_streams.specs.Files.{Files}
-use Rattle.nrrd.specs.Files.{IsRead}
+use Rattle.nrrd_read.specs.Files.{IsRead}
 use Rattle.point_command.specs.Volumes.{IsNoVolume, pad_refusal, raised, volume_limit, volume_of, with_pad}
 use Rattle.point_command.specs.declared.reasons.NoVolume.{NoVolume}
 use Rattle.point_command.specs.declared.reasons.NoVolume.TheVariants as reasons

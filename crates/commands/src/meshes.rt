@@ -21,7 +21,7 @@ use iso_base::{Level, SampleKind, Sizes, Written};
 use iso_io::{Failed, Sink, Source};
 use list_stitch::{ListMesh, Style};
 use mesh_text::TwoWayFormat;
-use nrrd::{FileVolume, RawVolume, read_file_volume};
+use nrrd_read::{FileVolume, RawVolume, read_file_volume};
 use point_command::{NoVolume, bytes_of_input};
 use std::alloc::Global;
 use voxel_list::VoxelList;

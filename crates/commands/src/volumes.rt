@@ -1,7 +1,7 @@
 //! Volumes of files, opened for a command.
 ghost use Rattle.std.specs.Prelude.{◌≡◌, ◌≤◌, ℤ, Option, None, Some, Ok, IfOk, IfErr, IfSome};
 ghost use Rattle.iso_base.specs.Samples.{IsSample};
-ghost use Rattle.nrrd.specs.Files.{IsRead};
+ghost use Rattle.nrrd_read.specs.Files.{IsRead};
 ghost use Rattle.bench_core.specs.Machine.{begin_fault, IsAbovePad};
 ghost use Rattle.point_command.specs.Volumes.{HoldsNone, IsNoVolume, volume_of, with_pad};
 ghost use Rattle.commands.specs.Volumes.{FileIs, HoldsVolume, IsNotRaised, LacksVolume};
@@ -11,7 +11,7 @@ use endings::{Answer, VolumeFault};
 use file_bricks::bricks_of_file;
 use iso_base::Level;
 use iso_io::{Shelf, Source};
-use nrrd::read_volume;
+use nrrd_read::read_volume;
 use point_command::{NoVolume, VOLUME_LIMIT, bytes_of_input};
 use std::alloc::Global;
 use voxel_list::VoxelList;

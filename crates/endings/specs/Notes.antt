@@ -3,12 +3,12 @@ use Rattle.std.specs.Prelude.{ℕ, List, [], ◌++◌, codes}
 use Rattle.iso_defs.specs.Texts.{line}
 use Rattle.iso_base.specs.declared.sizes.SizeFault.{SizeFault}
 use Rattle.iso_base.specs.declared.sizes.SizeFault.TheVariants as sizes
-use Rattle.nrrd.specs.declared.fault.Field.{Field}
-use Rattle.nrrd.specs.declared.fault.Field.TheVariants as fields
-use Rattle.nrrd.specs.declared.fault.EncodingWord.{EncodingWord}
-use Rattle.nrrd.specs.declared.fault.EncodingWord.TheVariants as encodings
-use Rattle.nrrd.specs.declared.fault.NrrdFault.{NrrdFault}
-use Rattle.nrrd.specs.declared.fault.NrrdFault.TheVariants as nrrds
+use Rattle.nrrd_read.specs.declared.fault.Field.{Field}
+use Rattle.nrrd_read.specs.declared.fault.Field.TheVariants as fields
+use Rattle.nrrd_read.specs.declared.fault.EncodingWord.{EncodingWord}
+use Rattle.nrrd_read.specs.declared.fault.EncodingWord.TheVariants as encodings
+use Rattle.nrrd_read.specs.declared.fault.NrrdFault.{NrrdFault}
+use Rattle.nrrd_read.specs.declared.fault.NrrdFault.TheVariants as nrrds
 use Rattle.mesh_read.specs.declared.fault.MeshFault.{MeshFault}
 use Rattle.mesh_read.specs.declared.fault.MeshFault.TheVariants as meshes
 use Rattle.iso_defs.specs.Texts.{counted, counted_twice, level_and_pad}

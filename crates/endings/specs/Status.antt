@@ -1,7 +1,7 @@
 -- How the program ends.
 use Rattle.std.specs.Prelude.{ℕ}
-use Rattle.nrrd.specs.declared.fault.NrrdFault.{NrrdFault}
-use Rattle.nrrd.specs.declared.fault.NrrdFault.TheVariants as nrrds
+use Rattle.nrrd_read.specs.declared.fault.NrrdFault.{NrrdFault}
+use Rattle.nrrd_read.specs.declared.fault.NrrdFault.TheVariants as nrrds
 use Rattle.mesh_read.specs.declared.fault.MeshFault.{MeshFault}
 use Rattle.mesh_read.specs.declared.fault.MeshFault.TheVariants as meshes
 use Rattle.endings.specs.declared.answer.VolumeFault.{VolumeFault}

@@ -5,7 +5,7 @@ ghost use Rattle.endings.specs.Status.{mesh_status, nrrd_status, number_of, stat
 use iso_base::SizeFault;
 use iso_io::{ReadFault, ShelfError};
 use mesh_read::MeshFault;
-use nrrd::NrrdFault;
+use nrrd_read::NrrdFault;
 use thiserror::Error;
 
 /// How the program ends. Its number is what the system is told.

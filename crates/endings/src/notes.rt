@@ -11,7 +11,7 @@ use arrayvec::ArrayString;
 use iso_base::SizeFault;
 use iso_io::{Sink, write_all_of};
 use mesh_read::MeshFault;
-use nrrd::{EncodingWord, Field, NrrdFault};
+use nrrd_read::{EncodingWord, Field, NrrdFault};
 
 fn name_of_field(field: Field) -> &'static str
     ensures name { result.now ≡ field_name field }

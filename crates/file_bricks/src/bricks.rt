@@ -2,12 +2,12 @@
 ghost use Rattle.std.specs.Prelude.{◌≡◌, ◌+◌, ◌≤◌, All, IfOk, IfErr, drop, length, map, pos, take};
 ghost use Rattle.iso_base.specs.Volume.{unpadded};
 ghost use Rattle.packed_samples.specs.Runs.{IsByte};
-ghost use Rattle.nrrd.specs.Files.{file_voxels, IsRead};
-ghost use Rattle.nrrd.specs.Nrrd.{Fails, nrrd_of};
+ghost use Rattle.nrrd_read.specs.Files.{file_voxels, IsRead};
+ghost use Rattle.nrrd_read.specs.Nrrd.{Fails, nrrd_of};
 
 use brick_store::BrickStore;
 use iso_base::{Memory, SampleKind};
-use nrrd::{FileVolume, NrrdFault, RawVolume, read_file_volume};
+use nrrd_read::{FileVolume, NrrdFault, RawVolume, read_file_volume};
 use packed_samples::SampleRuns;
 use std::alloc::Global;
 use voxel_list::VoxelList;

@@ -6,7 +6,7 @@ use Rattle.iso_base.specs.Shifted.{field}
 use Rattle.iso_base.specs.Sizing.{IsGrid}
 use Rattle.iso_base.specs.Volume.{Voxels}
 use Rattle.crossing_edges.specs.Flags.{crossing_places}
-use Rattle.nrrd.specs.Nrrd.{nrrd_of}
+use Rattle.nrrd_read.specs.Nrrd.{nrrd_of}
 
 -- the grid of a volume, the names of its crossing edges at a level, and where each is crossed
 pub record AreEdgesOf (v : Voxels) (level : ℤ) (grid : Grid) (names places : List ℕ) : Type 0 where

@@ -1,14 +1,14 @@
 //! The crossing edges of a volume in its file.
 ghost use Rattle.std.specs.Prelude.{◌≡◌, IfOk, IfErr};
 ghost use Rattle.iso_base.specs.declared.kind.SampleKind.TheVariants as kinds;
-ghost use Rattle.nrrd.specs.Files.{file_voxels};
-ghost use Rattle.nrrd.specs.Nrrd.{Fails, nrrd_of};
+ghost use Rattle.nrrd_read.specs.Files.{file_voxels};
+ghost use Rattle.nrrd_read.specs.Nrrd.{Fails, nrrd_of};
 ghost use Rattle.file_points.specs.Edges.{AreEdgesOf, AreEdgesOfFile};
 
 use crate::samples::{FileBytes, FileSamples};
 use crossing_edges::{EdgeVertices, Numbers, crossing_points};
 use iso_base::{Level, Memory, SampleKind, Sizes, VoxelData};
-use nrrd::{FileVolume, NrrdFault, RawVolume, read_file_volume};
+use nrrd_read::{FileVolume, NrrdFault, RawVolume, read_file_volume};
 use std::alloc::Global;
 
 /// The crossing edges of a volume, and the sizes of its grid.

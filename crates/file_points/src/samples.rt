@@ -4,7 +4,7 @@ ghost use Rattle.crossing_edges.specs.Signs.{sign_of};
 
 use crossing_edges::{SampleList, signs_of};
 use iso_base::Level;
-use nrrd::RawVolume;
+use nrrd_read::RawVolume;
 use std::alloc::{AllocError, Global};
 
 /// So many samples are read at a time.

@@ -4,7 +4,7 @@ use Rattle.std.proofs.lemmas.List.{append-nil}
 use Rattle.iso_defs.specs.Grid.{Grid, point_count}
 use Rattle.iso_base.specs.Sizing.{IsGrid, sized}
 use Rattle.iso_base.specs.Volume.{Volume, IsVolume}
-use Rattle.nrrd.specs.Nrrd.{nrrd_of}
+use Rattle.nrrd_read.specs.Nrrd.{nrrd_of}
 use Rattle.nrrd.specs.Writing as nrrd
 use Rattle.nrrd.proofs.RoundTrip.{coded_again, save_again}
 use Rattle.inner_volume.specs.Unpadded.{inner_voxels, saved_in_print, saved_text}

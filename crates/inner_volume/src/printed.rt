@@ -5,7 +5,7 @@ ghost use Rattle.iso_base.specs.Volume.{inner_grid};
 ghost use Rattle.iso_base.specs.Samples.{IsOfKind};
 ghost use Rattle.byte_streams.specs.Seen.{Puts, Stages};
 ghost use Rattle.iso_io.specs.Shelves.{Stores, file_tape};
-ghost use Rattle.nrrd.specs.Nrrd.{nrrd_of};
+ghost use Rattle.nrrd_read.specs.Nrrd.{nrrd_of};
 ghost use Rattle.nrrd.specs.Writing.{coded_line, rows_of};
 ghost use Rattle.brick_store.specs.Copies.{AreAllCopies};
 ghost use Rattle.inner_volume.specs.Held.{AreHeld};

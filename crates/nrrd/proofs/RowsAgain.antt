@@ -9,12 +9,12 @@ use Rattle.iso_defs.specs.Grid.{point_count}
 use Rattle.iso_base.specs.Samples.{IsOfKind}
 use Rattle.iso_base.specs.Volume.{Voxels, IsVoxels}
 use Rattle.nrrd_text.specs.Again.{AreRows, samples_of}
-use Rattle.nrrd_text.specs.Hex.{hex_samples}
-use Rattle.nrrd_text.specs.Text.{text_samples}
+use Rattle.text_samples.specs.Hex.{hex_samples}
+use Rattle.text_samples.specs.Text.{text_samples}
 use Rattle.nrrd_text.specs.Writing.{hex_line, text_line}
 use Rattle.nrrd_text.proofs.HexAgain.{hex_again}
 use Rattle.nrrd_text.proofs.TextAgain.{text_again}
-use Rattle.nrrd.specs.Nrrd.{samples_by}
+use Rattle.nrrd_read.specs.Nrrd.{samples_by}
 use Rattle.nrrd.specs.Writing.{coded_by, coded_line, row_of, rows_of}
 
 -- runs of a list, one behind the other, are the list

@@ -11,10 +11,10 @@ use Rattle.iso_defs.specs.Grid.{point_count}
 use Rattle.iso_base.specs.Samples.{IsOfKind, width_of}
 use Rattle.iso_base.specs.Volume.{Voxels, IsVoxels}
 use Rattle.iso_base.specs.declared.kind.SampleKind.{SampleKind}
-use Rattle.nrrd_text.specs.Samples.{as_kind, bits_of, number_in, sample_bytes, sample_of, samples_in}
+use Rattle.text_samples.specs.Samples.{as_kind, bits_of, number_in, sample_bytes, sample_of, samples_in}
 use Rattle.nrrd_text.proofs.KindBits.{bits_fit, kind_bits}
 use Rattle.nrrd.specs.Writing.{samples_text}
-use Rattle.nrrd.specs.Nrrd.{raw_samples}
+use Rattle.nrrd_read.specs.Nrrd.{raw_samples}
 use Rattle.nrrd.proofs.Texts.{length_sample}
 
 sample_again : (kind : SampleKind) (v : ℤ) (rest : List ℕ) → IsOfKind kind v → as_kind kind (number_in false (width_of kind) (sample_bytes kind v ++ rest)) ≡ v

@@ -11,7 +11,7 @@ use Rattle.iso_base.specs.declared.kind.SampleKind.TheVariants.{I8, U8, I16, U16
 use Rattle.iso_base.specs.Samples.{IsOfKind}
 use Rattle.std.proofs.lemmas.Int.{ints}
 use Rattle.std.specs.Int.{w64}
-use Rattle.nrrd_text.specs.Samples.{bits_of, sample_bytes}
+use Rattle.text_samples.specs.Samples.{bits_of, sample_bytes}
 use Rattle.nrrd.specs.Writing.{samples_text}
 
 pub two_parts : (kind : SampleKind) (rest piece after : List ℤ) (n : ℕ) → piece ≡ take n rest → after ≡ drop n rest → samples_text kind rest ≡ samples_text kind piece ++ samples_text kind after

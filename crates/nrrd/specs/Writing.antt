@@ -5,11 +5,11 @@ use Rattle.iso_defs.specs.Grid.{Grid}
 use Rattle.iso_base.specs.Volume.{Voxels}
 use Rattle.iso_base.specs.declared.kind.SampleKind.{SampleKind}
 use Rattle.iso_base.specs.declared.kind.SampleKind.TheVariants.{I8, U8, I16, U16, I32, U32}
-use Rattle.nrrd_text.specs.Samples.{sample_bytes}
+use Rattle.text_samples.specs.Samples.{sample_bytes}
 use Rattle.nrrd_text.specs.Writing.{hex_line, text_line}
-use Rattle.nrrd.specs.declared.encoding.Encoding.{Encoding}
-use Rattle.nrrd.specs.declared.encoding.Encoding.TheVariants.{Raw, Text, Hex}
-use Rattle.nrrd.specs.Encodings.{has_order}
+use Rattle.nrrd_read.specs.declared.encoding.Encoding.{Encoding}
+use Rattle.nrrd_read.specs.declared.encoding.Encoding.TheVariants.{Raw, Text, Hex}
+use Rattle.nrrd_read.specs.Encodings.{has_order}
 
 -- the name of a kind
 unfoldable pub kind_text : SampleKind → List ℕ

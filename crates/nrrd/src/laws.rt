@@ -2,7 +2,7 @@
 //! the bytes behind it are counted.
 ghost use Rattle.std.specs.Prelude.{◌≡◌, ◌+◌, ◌++◌, List, ℕ, length, Ok};
 ghost use Rattle.iso_base.specs.Volume.{Voxels, IsVoxels};
-ghost use Rattle.nrrd.specs.Nrrd.{nrrd_of};
+ghost use Rattle.nrrd_read.specs.Nrrd.{nrrd_of};
 ghost use Rattle.nrrd.specs.Writing.{hex_save, save_text, text_save};
 
 /// Raw samples.

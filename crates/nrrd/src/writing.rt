@@ -6,11 +6,11 @@ ghost use Rattle.iso_defs.specs.Grid.{point_count};
 ghost use Rattle.iso_base.specs.Samples.{width_of, IsOfKind};
 ghost use Rattle.nrrd.specs.Writing.{coded_by, coded_head_text, encoding_text, head_in, head_text, kind_text, order_text, samples_text, save_text, sizes_text};
 
-use crate::encoding::Encoding;
 use arrayvec::ArrayString;
 use byte_streams::{Failed, Sink, write_all_of};
 use byteorder::{ByteOrder, LittleEndian};
 use iso_base::{SampleKind, Sizes, put_number};
+use nrrd_read::Encoding;
 use packed_samples::{Packed, sample_at};
 
 /// The name of a kind in print.

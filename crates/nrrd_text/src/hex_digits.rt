@@ -3,7 +3,7 @@
 ghost use Rattle.std.specs.Prelude.{◌≡◌, ◌+◌, ◌*◌, ◌≤◌, ◌<◌, ◌++◌, take, length, map, All};
 ghost use Rattle.iso_base.specs.Samples.{IsOfKind};
 ghost use Rattle.nrrd_text.specs.Pairs.{ArePairs};
-ghost use Rattle.nrrd_text.specs.Samples.{bits_of};
+ghost use Rattle.text_samples.specs.Samples.{bits_of};
 ghost use Rattle.nrrd_text.specs.Writing.{byte_digits, hex_digit, sample_digits, samples_digits};
 
 use iso_base::SampleKind;

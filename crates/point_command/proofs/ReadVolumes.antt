@@ -2,10 +2,10 @@
 use Rattle.std.proofs.Common.{◌≡◌, ℕ, List, Err, sym, ap, ◌∙◌, ℤ}
 use Rattle.std.specs.Prelude.{Option, Result}
 use Rattle.iso_base.specs.Volume.{Volume}
-use Rattle.nrrd.specs.Files.{IsRead}
-use Rattle.nrrd.specs.Nrrd.{nrrd_of, Fails}
-use Rattle.nrrd.specs.declared.fault.NrrdFault.{NrrdFault}
-use Rattle.nrrd.specs.declared.fault.NrrdFault.TheVariants as faults
+use Rattle.nrrd_read.specs.Files.{IsRead}
+use Rattle.nrrd_read.specs.Nrrd.{nrrd_of, Fails}
+use Rattle.nrrd_read.specs.declared.fault.NrrdFault.{NrrdFault}
+use Rattle.nrrd_read.specs.declared.fault.NrrdFault.TheVariants as faults
 use Rattle.point_command.specs.Volumes.{IsNoVolume, of_read, volume_refusal, volume_of, with_pad}
 use Rattle.endings.specs.declared.answer.VolumeFault.{VolumeFault}
 use Rattle.endings.specs.declared.answer.VolumeFault.TheVariants.{Nrrd}

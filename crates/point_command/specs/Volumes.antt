@@ -9,10 +9,10 @@ use Rattle.iso_base.specs.declared.sizes.SizeFault.{SizeFault}
 use Rattle.byte_streams.specs.Causes.{Rose}
 use Rattle.byte_streams.specs.Seen.{Feed}
 use Rattle.voxel_list.specs.Padding.{grown, padded_volume}
-use Rattle.nrrd.specs.Nrrd.{nrrd_of}
+use Rattle.nrrd_read.specs.Nrrd.{nrrd_of}
 use Rattle.file_points.specs.Edges.{AreEdgesOfFile}
-use Rattle.nrrd.specs.declared.fault.NrrdFault.{NrrdFault}
-use Rattle.nrrd.specs.declared.fault.NrrdFault.TheVariants as faults
+use Rattle.nrrd_read.specs.declared.fault.NrrdFault.{NrrdFault}
+use Rattle.nrrd_read.specs.declared.fault.NrrdFault.TheVariants as faults
 use Rattle.voxel_list.specs.declared.pad.PadFault.{PadFault}
 use Rattle.voxel_list.specs.declared.pad.PadFault.TheVariants as pads
 use Rattle.endings.specs.declared.answer.VolumeFault.{VolumeFault}

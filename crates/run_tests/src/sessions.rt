@@ -6,7 +6,7 @@ use crate::texts::CORNER;
 use bench_core::{Bench, Capacity};
 use iso_base::{Level, Memory, Steps};
 use iso_io::{MemShelf, MemSink, MemSource};
-use nrrd::read_volume;
+use nrrd_read::read_volume;
 use session::{Ending, run_session};
 use std::alloc::{AllocError, Global};
 use std::marker::Brand;

@@ -1,6 +1,6 @@
 use Rattle.std.proofs.Common.{◌≡◌, ◌∙◌, None, ap, refl, subst, sym}
 use Rattle.iso_base.specs.Volume.{unpadded}
-use Rattle.nrrd.specs.Files.{IsRead, file_voxels}
+use Rattle.nrrd_read.specs.Files.{IsRead, file_voxels}
 use Rattle.commands.specs.Meaning.{mesh_given}
 use Rattle.point_command.specs.Outcome.{WritesGiven}
 use Rattle.point_command.specs.Volumes.{volume_answer, volume_refusal}

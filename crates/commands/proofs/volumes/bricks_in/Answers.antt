@@ -1,6 +1,6 @@
 use Rattle.std.proofs.Common.{subst}
-use Rattle.nrrd.specs.Nrrd.{nrrd_of, Fails}
-use Rattle.nrrd.specs.Files.{IsRead}
+use Rattle.nrrd_read.specs.Nrrd.{nrrd_of, Fails}
+use Rattle.nrrd_read.specs.Files.{IsRead}
 use Rattle.point_command.specs.Volumes.{IsNoVolume, volume_refusal}
 use Rattle.point_command.proofs.Passed.{passed_on}
 use Rattle.point_command.proofs.ReadVolumes.{no_volume}

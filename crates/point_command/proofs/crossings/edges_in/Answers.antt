@@ -1,5 +1,5 @@
 use Rattle.std.proofs.Common.{None, subst}
-use Rattle.nrrd.specs.Nrrd.{nrrd_of, Fails}
+use Rattle.nrrd_read.specs.Nrrd.{nrrd_of, Fails}
 use Rattle.point_command.specs.Volumes.{IsNoVolume, volume_refusal}
 use Rattle.point_command.proofs.Passed.{passed_on}
 use Rattle.point_command.proofs.ReadVolumes.{no_volume}

@@ -1,0 +1,4 @@
+pub mod HeaderLaws
+pub mod Folding
+pub mod SampleLaws
+pub mod Parts

@@ -1,0 +1,16 @@
+-- Volumes whose samples stay in the bytes of their files.
+use Rattle.std.specs.Prelude.{ℕ, ◌*◌, ◌≤◌, Bool, List, length}
+use Rattle.iso_defs.specs.Grid.{Grid, point_count}
+use Rattle.iso_base.specs.Samples.{width_of}
+use Rattle.iso_base.specs.Volume.{IsVoxels, Voxels}
+use Rattle.iso_base.specs.declared.kind.SampleKind.{SampleKind}
+use Rattle.text_samples.specs.Samples.{samples_in}
+
+-- the volume whose samples the bytes begin with
+abbrev pub voxels_in : Grid → SampleKind → Bool → List ℕ → Voxels
+voxels_in e kind big bytes = record { grid = e; kind = kind; samples = samples_in kind big bytes (point_count e) }
+
+-- there is a sample for each point
+pub record IsRaw (e : Grid) (kind : SampleKind) (big : Bool) (bytes : List ℕ) : Type 0 where
+  pub room : width_of kind * point_count e ≤ length bytes
+  pub voxels : IsVoxels (voxels_in e kind big bytes)

@@ -1,0 +1,4 @@
+pub mod WordLaws
+pub mod TextLaws
+pub mod HexFront
+pub mod HexLaws

@@ -1,0 +1,61 @@
+-- Samples as the hex digits of their bytes.
+use Rattle.std.specs.Prelude.{ℕ, zero, suc, ◌+◌, ◌-◌, ◌*◌, ◌/◌, Bool, ◌&&◌, nat_le, nat_lt, ℤ, List, [], ◌∷◌, map, take, length, Option, Some, None}
+use Rattle.std.specs.Prelude.{ok_or, Result, Ok, Err, if◌then◌else◌}
+use Rattle.std.specs.List.{enumerate_from}
+use Rattle.iso_base.specs.Samples.{width_of}
+use Rattle.iso_base.specs.declared.kind.SampleKind.{SampleKind}
+use Rattle.text_samples.specs.declared.fault.SampleFault.{SampleFault}
+use Rattle.text_samples.specs.declared.fault.SampleFault.TheVariants.{Bad, Short}
+use Rattle.text_lines.specs.Refusals.{◌>>=◌, all_or_first}
+use Rattle.text_samples.specs.Samples.{samples_in}
+use Rattle.text_samples.specs.Words.{is_separator}
+
+-- a byte that is no separator, and the bytes after it
+pub record Mark : Type 0 where
+  pub byte : ℕ
+  pub after : List ℕ
+
+-- the bytes that are no separators
+abbrev pub marks_in : List ℕ → List Mark
+marks_in [] = []
+marks_in (b ∷ bs) = if is_separator b then marks_in bs else record { byte = b; after = bs } ∷ marks_in bs
+
+-- the value of a hex digit of either case
+unfoldable pub hex_value : ℕ → Option ℕ
+hex_value b =
+    if nat_le 48 b && nat_le b 57 then Some (b - 48) else
+    if nat_le 65 b && nat_le b 70 then Some (b - 55) else
+    if nat_le 97 b && nat_le b 102 then Some (b - 87) else None
+
+-- the digit at a place, or that the sample of that place has none there; a sample has so many digits
+abbrev pub digit_at : ℕ → ℕ × Mark → Result ℕ SampleFault
+digit_at each m = ok_or (hex_value m.1.byte) (Bad (m.0 / each))
+
+-- the digits that these bytes are, the first of which is at this place, or the first that is none
+abbrev pub digits_said : ℕ → ℕ → List Mark → Result (List ℕ) SampleFault
+digits_said each place marks = all_or_first (map (digit_at each) (enumerate_from place marks))
+
+-- two digits make a byte, the high one first
+abbrev pub paired : List ℕ → List ℕ
+paired [] = []
+paired (high ∷ []) = []
+paired (high ∷ low ∷ digits) = (16 * high + low) ∷ paired digits
+
+-- the bytes after so many that are no separators
+abbrev pub after_marks : ℕ → List ℕ → List Mark → List ℕ
+after_marks zero bytes marks = bytes
+after_marks (suc n) bytes [] = []
+after_marks (suc n) bytes (m ∷ marks) = after_marks n m.after marks
+
+-- how many digits so many samples have
+abbrev pub digits_needed : SampleKind → ℕ → ℕ
+digits_needed kind count = 2 * width_of kind * count
+
+-- the samples whose bytes the first digits of a text make, so many, and the number of bytes after the last of them;
+-- or the sample of the first byte that is no digit, or else how many digits there are where there are too few
+unfoldable pub hex_samples : SampleKind → Bool → ℕ → List ℕ → Result (List ℤ × ℕ) SampleFault
+hex_samples kind big count bytes = do
+  digits ← digits_said (2 * width_of kind) 0 (take (digits_needed kind count) (marks_in bytes))
+  if nat_lt (length (marks_in bytes)) (digits_needed kind count)
+      then Err (Short (digits_needed kind count) (length (marks_in bytes)))
+      else Ok (samples_in kind big (paired digits) count, length (after_marks (digits_needed kind count) bytes (marks_in bytes)))

@@ -1,0 +1,6 @@
+pub mod Samples
+pub mod Words
+pub mod Answers
+pub mod Text
+pub mod Hex
+pub mod HexScan
