@@ -1,7 +1,7 @@
 //! Tests of `plane_contour`.
 
-use iso_base::{Level, Sizes};
 use byte_streams::MemSink;
+use iso_base::{Level, Sizes};
 use plane_contour::{contours, put_contours};
 use std::alloc::Global;
 use std::process::Abort;

@@ -1,7 +1,7 @@
 //! Tests of `mesh_text`.
 
-use iso_base::Thousandth;
 use byte_streams::MemSink;
+use iso_base::Thousandth;
 use mesh_text::{
     put_obj_face, put_obj_vertex, put_ply_face, put_ply_head, put_ply_vertex, put_points_head,
 };

@@ -5,9 +5,9 @@ ghost use Rattle.iso_defs.specs.Grid.{Grid};
 
 use crate::extraction::corner_mesh;
 use crate::grids::two_a_side;
+use byte_streams::MemSink;
 use crossing_edges::EdgeVertices;
 use iso_base::{Level, Sizes, Written};
-use byte_streams::MemSink;
 use mesh_text::TwoWayFormat;
 use mesh_write::{STAGE, put_mesh_as, put_points};
 use std::alloc::Global;
