@@ -39,8 +39,8 @@ fn copy_known<const N: usize>(bytes: &[u8], into: &mut [u8])
     ensures { into.new ≡ bytes.now }
 {
     let mut known = [0; N];
-    known.copy_from_slice(bytes);
-    into.copy_from_slice(&known);
+    known.copy_from_slice(&bytes[..N]);
+    into[..N].copy_from_slice(&known);
 }
 
 /// Copies bytes over as many: nine, as a whole row of a brick has, and eight, as a row at the end of a grid often has, by a move

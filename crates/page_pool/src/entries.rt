@@ -3,6 +3,7 @@ ghost use Rattle.std.specs.Prelude.{◌≡◌, take, drop};
 ghost use Rattle.page_pool.specs.Layout.{AreLinked, chain_from};
 
 use crate::layout::PAGE_ENTRIES;
+use crate::page_links::Links;
 use crate::pages::Pages;
 use std::marker::Model;
 
@@ -11,7 +12,7 @@ use std::marker::Model;
 #[derive(Drop)]
 pub struct Entries<'a> {
     pages: &'a Pages,
-    links: &'a [u32],
+    links: &'a Links,
     page: u32,
     left: u32,
 }
@@ -30,7 +31,7 @@ impl<'a> Model for Entries<'a> {
 impl<'a> Entries<'a> {
     /// So many entries in linked pages.
     #[inline(always)]
-    pub(crate) fn new(pages: &'a Pages, links: &'a [u32], page: u32, left: u32) -> Entries<'a>
+    pub(crate) fn new(pages: &'a Pages, links: &'a Links, page: u32, left: u32) -> Entries<'a>
         requires { AreLinked pages.now links.now page left }
         ensures { result ≡ chain_from pages.now links.now page left }
     {
@@ -60,7 +61,7 @@ impl<'a> Entries<'a> {
         if self.left <= many {
             return Entries::new(self.pages, self.links, self.page, 0);
         }
-        let next = self.links[self.page as usize];
+        let next = self.links.at(self.page);
         Entries::new(self.pages, self.links, next, self.left - many)
     }
 }

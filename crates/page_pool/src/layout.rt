@@ -3,6 +3,7 @@ ghost use Rattle.std.specs.Prelude.{◌≡◌, ℕ, ◌+◌, ◌-◌, ◌/◌, �
 ghost use Rattle.page_pool.specs.Chains.{need};
 ghost use Rattle.page_pool.specs.Layout.{follow, content};
 
+use crate::page_links::Links;
 use crate::pages::Pages;
 
 /// How many entries a page has room for.
@@ -20,13 +21,13 @@ pub fn pages_needed(entries: usize) -> u32
 }
 
 /// The page that `steps` links lead to.
-pub(crate) fn follow(links: &[u32], from: u32, steps: u32) -> u32
+pub(crate) fn follow(links: &Links, from: u32, steps: u32) -> u32
     requires { (k : ℕ) → k < steps → follow links.now k from < length links.now }
     ensures { result ≡ follow links.now steps from }
 {
     let mut page = from;
     for _ in 0..steps {
-        page = links[page as usize];
+        page = links.at(page);
     }
     page
 }
@@ -43,7 +44,7 @@ fn page_of(entries: &[u32]) -> Page
 }
 
 /// Writes entries over as many linked pages as they need, and gives the page that follows them.
-pub(crate) fn write_over(pages: &mut Pages, links: &[u32], first: u32, entries: &[u32]) -> u32
+pub(crate) fn write_over(pages: &mut Pages, links: &Links, first: u32, entries: &[u32]) -> u32
     requires few { length entries.now ≤ 512 }
     requires links { length links.now ≡ length pages.old }
     requires whole { All (λ page. length page ≡ 32) pages.old }
@@ -62,7 +63,7 @@ pub(crate) fn write_over(pages: &mut Pages, links: &[u32], first: u32, entries: 
         let start = PAGE_ENTRIES * k;
         let end = entries.len().min(start + PAGE_ENTRIES);
         pages.put(page, page_of(&entries[start..end]));
-        page = links[page as usize];
+        page = links.at(page);
     }
     page
 }

@@ -3,6 +3,8 @@ ghost use Rattle.page_pool.specs.Chains.{need, chain_at, Has, entries_at, with_c
 
 use crate::entries::Entries;
 use crate::layout::{PAGE_ENTRIES, follow, pages_needed, write_over};
+use crate::lengths::Lengths;
+use crate::page_links::Links;
 use crate::pages::Pages;
 use arrayvec::ArrayVec;
 use iso_base::Memory;
@@ -41,8 +43,8 @@ pub struct Full {
 #[derive(Drop)]
 pub struct Pool {
     pages: Pages,
-    links: Vec<u32>,
-    lengths: Vec<Option<u16>>,
+    links: Links,
+    lengths: Lengths,
     next_free: u32,
     free: u32,
 }
@@ -54,9 +56,9 @@ impl Model for Pool {
 
     ghost Value = { Chains };
 
-    ghost view = { λ p. record { by_name = chains_of p.pages p.links.items p.lengths.items; free = p.free; total = length p.pages } };
+    ghost view = { λ p. record { by_name = chains_of p.pages p.links p.lengths; free = p.free; total = length p.pages } };
 
-    ghost invariant = { λ p. IsLaidOut p.pages p.links.items p.lengths.items p.next_free p.free };
+    ghost invariant = { λ p. IsLaidOut p.pages p.links p.lengths p.next_free p.free };
 }
 
 impl Pool {
@@ -67,12 +69,8 @@ impl Pool {
         ensures { IfOk result (λ pool. pool ≡ no_chains pages) }
     {
         let all = Pages::new(alloc, pages)?;
-        let mut links = Vec::with_capacity(alloc, pages as usize)?;
-        let mut lengths = Vec::with_capacity(alloc, pages as usize)?;
-        lengths.resize(pages as usize, None)?;
-        for page in 0..pages {
-            links.push(page + 1)?;
-        }
+        let links = Links::new(alloc, pages)?;
+        let lengths = Lengths::new(alloc, pages)?;
         Ok(Pool {
             pages: all,
             links,
@@ -102,7 +100,7 @@ impl Pool {
         }
         let first = self.next_free;
         self.next_free = write_over(&mut self.pages, &self.links, first, entries);
-        self.lengths[first as usize] = Some(entries.len() as u16);
+        self.lengths.put(first, Some(entries.len() as u16));
         self.free -= needed;
         Ok(Chain { first })
     }
@@ -113,7 +111,7 @@ impl Pool {
         ensures count { result ≡ length (entries_at self.now chain.now) }
         ensures few { result ≤ 512 }
     {
-        match self.lengths[chain.first as usize] {
+        match self.lengths.at(chain.first) {
             Some(length) => u32::from(length),
             None => 0,
         }
@@ -171,8 +169,8 @@ impl Pool {
         let first = chain.first;
         let needed = pages_needed(self.length(&chain) as usize);
         let last = follow(&self.links, first, needed - 1);
-        self.links[last as usize] = self.next_free;
-        self.lengths[first as usize] = None;
+        self.links.put(last, self.next_free);
+        self.lengths.put(first, None);
         self.next_free = first;
         self.free += needed;
     }

@@ -1,5 +1,5 @@
 -- A search from a place up: below the place, then below ever higher nodes.
-use Rattle.std.proofs.Common.{◌≡◌, ℕ, zero, suc, ◌+◌, ◌-◌, ◌*◌, ◌/◌, ◌^◌, ◌<◌, ◌≤◌, true, false, List, length, refl, sym, ◌∙◌, ap, subst, arith, inl, inr, ℤ}
+use Rattle.std.proofs.Common.{◌≡◌, ℕ, zero, suc, ◌+◌, ◌-◌, ◌*◌, ◌/◌, ◌%◌, ◌^◌, ◌<◌, ◌≤◌, true, false, List, length, refl, sym, ◌∙◌, ap, subst, arith, inl, inr, ℤ}
 use Rattle.std.specs.Prelude.{Option, Some, None, is_some}
 use Rattle.std.proofs.lemmas.Bool.{cases_lt}
 use Rattle.std.proofs.lemmas.Nat.{pow_pos, pow-add}
@@ -68,6 +68,46 @@ wider node h =
     let low : 2 * q * w ≤ node * w = mul-le-mul_right w (omega arith) in
     let high : (node + 1) * w ≤ (2 * q + 2) * w = mul-le-mul_right w (omega arith) in
     (subst (λ d. q * d ≤ node * w) (sym double) (omega arith), subst (λ d. (node + 1) * w ≤ (q + 1) * d) (sym double) (omega arith))
+
+-- the places below the node above end with a node's own where it is the second child, and with those of the node beside it where
+-- it is the first
+second_end : (node h : ℕ) → node % 2 ≡ 1 → (node / 2 + 1) * 2 ^ (h + 1) ≡ (node + 1) * 2 ^ h
+second_end node h second =
+    let w : ℕ = 2 ^ h in
+    let double : 2 ^ (h + 1) ≡ 2 * w = ap (λ n. 2 ^ n) (let e : h + 1 ≡ suc h = omega arith in e) ∙ pow-succ' 2 h in
+    let q : ℕ = node / 2 in
+    let both : (node + 1) * w ≡ (2 * q + 2) * w = ap (λ n. n * w) (let e : node + 1 ≡ 2 * q + 2 = omega arith in e) in
+    ap (λ d. (q + 1) * d) double ∙ omega arith
+
+first_end : (node h : ℕ) → node % 2 ≡ 0 → (node / 2 + 1) * 2 ^ (h + 1) ≡ (node + 1 + 1) * 2 ^ h
+first_end node h first =
+    let w : ℕ = 2 ^ h in
+    let double : 2 ^ (h + 1) ≡ 2 * w = ap (λ n. 2 ^ n) (let e : h + 1 ≡ suc h = omega arith in e) ∙ pow-succ' 2 h in
+    let q : ℕ = node / 2 in
+    let both : (node + 1 + 1) * w ≡ (2 * q + 2) * w = ap (λ n. n * w) (let e : node + 1 + 1 ≡ 2 * q + 2 = omega arith in e) in
+    ap (λ d. (q + 1) * d) double ∙ omega arith
+
+-- behind the places below a second child no more stand below the node above
+pub none_beside : (level : ℤ) (nodes : List Span) (node h : ℕ) → node % 2 ≡ 1
+    → IsNextLeaf level nodes ((node + 1) * 2 ^ h) (node / 2 * 2 ^ (h + 1)) ((node / 2 + 1) * 2 ^ (h + 1)) None
+none_beside level nodes node h second = λ k f l b. absurd (let e = second_end node h second in omega arith)
+
+-- behind those below a first child the ones of the node beside it do
+pub found_beside : (level : ℤ) (nodes : List Span) (node h : ℕ) (o : Option ℕ) → node % 2 ≡ 0
+    → IsNextLeaf level nodes ((node + 1) * 2 ^ h) ((node + 1) * 2 ^ h) ((node + 1 + 1) * 2 ^ h) o
+    → IsNextLeaf level nodes ((node + 1) * 2 ^ h) (node / 2 * 2 ^ (h + 1)) ((node / 2 + 1) * 2 ^ (h + 1)) o
+found_beside level nodes node h None first is = λ k f l b. is k f f (let e = first_end node h first in omega arith)
+found_beside level nodes node h (Some leaf) first is =
+    let e = first_end node h first in
+    let start = (wider node h).0 in
+    let own : node * 2 ^ h ≤ (node + 1) * 2 ^ h = mul-le-mul_right (2 ^ h) (omega arith) in
+    record {
+      from_low = is.from_low;
+      low = (let f = is.from_low in omega arith);
+      high = (let b = is.high in omega arith);
+      passes = is.passes;
+      before = λ k f l b. is.before k f f b;
+    }
 
 -- where none is found as far as a place, the search goes on from there
 pub goes_on : (level : ℤ) (nodes : List Span) (from mid start start' stop : ℕ) (o : Option ℕ) → IsNextLeaf level nodes from start mid None

@@ -1,6 +1,5 @@
-use Rattle.std.proofs.Common.{ℕ, ◌+◌, ◌*◌, ◌/◌, ◌^◌, sym, subst, arith, Fits, w64}
-use Rattle.span_tree.specs.Nodes.{IsNextLeaf}
-use Rattle.span_tree.proofs.Climbing.{on_high, on_place, on_above, wider, goes_on, none_found, root_next, some_next, small_end}
+use Rattle.std.proofs.Common.{ℕ, ◌+◌, ◌*◌, ◌/◌, ◌^◌, arith}
+use Rattle.span_tree.proofs.Climbing.{on_high, on_place, on_above, wider, goes_on, none_found, root_next, some_next}
 use Rattle.span_tree.proofs.nodes.next_place.Goals as goal
 
 pub loop-found-init : goal.loop-found-init
@@ -11,22 +10,11 @@ loop-found-init c = record {
   next = c.next_leaf-found.ensures;
 }
 
-pub overflow_add-behind : goal.overflow_add-behind
-overflow_add-behind c = (let e = (small_end c.args.top c.loop-found.node c.loop-found.height c.loop-found.invariant.on c.requires.low).1 in omega arith)
-
-pub places_below-requires : goal.places_below-requires
-places_below-requires c = (let l = c.loop-found.invariant.on.low in let t = c.requires.low in omega arith)
-
-pub overflow_mul-behind : goal.overflow_mul-behind
-overflow_mul-behind c =
-    let e = (small_end c.args.top c.loop-found.node c.loop-found.height c.loop-found.invariant.on c.requires.low).0 in
-    subst (λ w. Fits w64 ((c.loop-found.node + 1) * w)) (sym c.places_below.ensures.value) (omega arith)
-
 pub overflow_add-height : goal.overflow_add-height
 overflow_add-height c = (let l = c.loop-found.invariant.on.low in let t = c.requires.low in omega arith)
 
-pub next_leaf-found-requires-in-loop-found-clause-high : goal.next_leaf-found-requires-in-loop-found-clause-high
-next_leaf-found-requires-in-loop-found-clause-high c =
+pub next_beside-found-requires-clause-high : goal.next_beside-found-requires-clause-high
+next_beside-found-requires-clause-high c =
     on_high c.args.nodes.now c.args.top (c.loop-found.node / 2) (c.loop-found.height + 1) c.requires.count c.requires.low
     (on_above c.args.top c.loop-found.node c.loop-found.height c.loop-found.invariant.on c.if-node-gt1.true)
 
@@ -44,11 +32,10 @@ loop-found-preserved c =
       start = (let s = i.start in let a = w.0 in omega arith);
       stop = (let s = i.stop in let b = w.1 in omega arith);
       next = goes_on c.args.level c.args.nodes.now c.args.from ((n + 1) * 2 ^ h) (n * 2 ^ h) (n / 2 * 2 ^ (h + 1)) ((n / 2 + 1) * 2 ^ (h + 1))
-          c.next_leaf-found-in-loop-found.result
+          c.next_beside-found.result
           (none_found c.args.level c.args.nodes.now c.args.from (n * 2 ^ h) ((n + 1) * 2 ^ h) c.loop-found.found c.loop-found-test.ensures i.next)
           i.start i.stop
-          (subst (λ m. IsNextLeaf c.args.level c.args.nodes.now ((n + 1) * m) (n / 2 * 2 ^ (h + 1)) ((n / 2 + 1) * 2 ^ (h + 1)) c.next_leaf-found-in-loop-found.result)
-          c.places_below.ensures.value c.next_leaf-found-in-loop-found.ensures);
+          c.next_beside-found.ensures;
     }
 
 pub returns-else-node-gt1 : goal.returns-else-node-gt1
