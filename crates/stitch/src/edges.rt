@@ -19,7 +19,7 @@ ghost use Rattle.stitch.specs.Numbers.{AreRowRanks};
 ghost use Rattle.stitch.specs.Spans.{all_edges_text, edge_line, edges_text, point_edges_text, row_edges_text};
 
 use crate::block::Block;
-use crate::ranks::{edges_before, row_at};
+use crate::ranks::{edges_to_row, row_at};
 use crate::style::Style;
 use crossing_edges::begin_none;
 use edge_points::{RowRanks, place};
@@ -361,10 +361,10 @@ fn write_row<K: Sink>(
     ensures bytes { IfOk result (λ _. block.new.total ≤ block.old.total + 192 * field.now.grid.nx) }
 {
     let sizes = field.sizes();
-    if edges_before(field, ranks, total, row) == edges_before(field, ranks, total, row + 1) {
+    let (y, z) = row_at(&sizes, row);
+    if edges_to_row(field, ranks, total, y, z) == edges_to_row(field, ranks, total, y + 1, z) {
         return Ok(());
     }
-    let (y, z) = row_at(&sizes, row);
     active.mark(field, y, z);
     flag_row(field, active, y, z, flags);
     write_points(field, style, active, y, z, flags, block, sink)?;

@@ -14,16 +14,16 @@ pub next_from-x-requires-clause-first : goal.next_from-x-requires-clause-first
 next_from-x-requires-clause-first g c =
     let v = c.args.field.now in
     let at = found_row v c.sizes-sizes.result c.args.row c.row_at-y.result.0 c.row_at-y.result.1 c.sizes-sizes.ensures.value c.row_at-y.ensures.y c.row_at-y.ensures.z c.row_at-y.ensures.along c.row_at-y.ensures.across c.row_at-y.ensures.row in
-    c.requires.first ∙ sym (ap (λ y. first_brick v.grid y (c.args.row / v.grid.ny)) at.y_is ∙ ap (first_brick v.grid c.row_at-y.result.0) at.z_is)
+    c.requires.first ∙ (ap (λ y. first_brick v.grid y (c.args.row / v.grid.ny)) (sym at.y_is) ∙ ap (first_brick v.grid c.row_at-y.result.0) (sym at.z_is))
 
 pub next_from-x-requires-in-loop-x-clause-first : goal.next_from-x-requires-in-loop-x-clause-first
 next_from-x-requires-in-loop-x-clause-first g c =
     let v = c.args.field.now in
     let at = found_row v c.sizes-sizes.result c.args.row c.row_at-y.result.0 c.row_at-y.result.1 c.sizes-sizes.ensures.value c.row_at-y.ensures.y c.row_at-y.ensures.z c.row_at-y.ensures.along c.row_at-y.ensures.across c.row_at-y.ensures.row in
-    c.requires.first ∙ sym (ap (λ y. first_brick v.grid y (c.args.row / v.grid.ny)) at.y_is ∙ ap (first_brick v.grid c.row_at-y.result.0) at.z_is)
+    c.requires.first ∙ (ap (λ y. first_brick v.grid y (c.args.row / v.grid.ny)) (sym at.y_is) ∙ ap (first_brick v.grid c.row_at-y.result.0) (sym at.z_is))
 
 pub next_from-x-requires-in-loop-x-clause-x : goal.next_from-x-requires-in-loop-x-clause-x
-next_from-x-requires-in-loop-x-clause-x g c = omega (arith, c.loop-x-test.true, c.count_along-count.ensures.value, c.nx-count.ensures.value, ap (λ (g : Grid). g.nx) c.sizes-sizes.ensures.value)
+next_from-x-requires-in-loop-x-clause-x g c = omega (arith, c.loop-x-test.true, c.count_along-count.ensures.value, c.nx.ensures.value, ap (λ (g : Grid). g.nx) c.sizes-sizes.ensures.value)
 
 pub loop-x-smaller : goal.loop-x-smaller
 loop-x-smaller g c = let still = c.next_from-x-in-loop-x.ensures in omega (arith, c.loop-x-test.true, still.least)
@@ -53,7 +53,7 @@ pub returns-in_err-write_run-clause-adds : goal.returns-in_err-write_run-clause-
 returns-in_err-write_run-clause-adds g c =
     let v = c.args.field.now in
     let p = err_from_is_err_and c.from_residual.result c.from_residual.ensures.1 in
-    let nx : c.nx-count.result ≡ v.grid.nx = c.nx-count.ensures.value ∙ ap (λ (g : Grid). g.nx) c.sizes-sizes.ensures.value in
+    let nx : c.nx.result ≡ v.grid.nx = c.nx.ensures.value ∙ ap (λ (g : Grid). g.nx) c.sizes-sizes.ensures.value in
     let last_nx : c.nx-last.result ≡ v.grid.nx = c.nx-last.ensures.value ∙ ap (λ (g : Grid). g.nx) c.sizes-sizes.ensures.value in
     let low : 8 * c.loop-x.x ≤ v.grid.nx - 1 = omega (arith, c.loop-x-test.true, c.count_along-count.ensures.value, nx) in
     rw p.1 (run_failed (centre_lines c.args.style.format c.args.style.padded v) (is_cell v.grid) (v.grid.nx * c.args.row) _ _ _ _ _ _ _ _ _ _
@@ -64,7 +64,7 @@ loop-x-preserved g c =
     let v = c.args.field.now in
     let at = found_row v c.sizes-sizes.result c.args.row c.row_at-y.result.0 c.row_at-y.result.1 c.sizes-sizes.ensures.value c.row_at-y.ensures.y c.row_at-y.ensures.z c.row_at-y.ensures.along c.row_at-y.ensures.across c.row_at-y.ensures.row in
     let still = c.next_from-x-in-loop-x.ensures in
-    let nx : c.nx-count.result ≡ v.grid.nx = c.nx-count.ensures.value ∙ ap (λ (g : Grid). g.nx) c.sizes-sizes.ensures.value in
+    let nx : c.nx.result ≡ v.grid.nx = c.nx.ensures.value ∙ ap (λ (g : Grid). g.nx) c.sizes-sizes.ensures.value in
     let last_nx : c.nx-last.result ≡ v.grid.nx = c.nx-last.ensures.value ∙ ap (λ (g : Grid). g.nx) c.sizes-sizes.ensures.value in
     let low : 8 * c.loop-x.x ≤ v.grid.nx - 1 = omega (arith, c.loop-x-test.true, c.count_along-count.ensures.value, nx) in
     record {
@@ -79,7 +79,7 @@ pub returns-clause-adds : goal.returns-clause-adds
 returns-clause-adds g c =
     let v = c.args.field.now in
     let at = found_row v c.sizes-sizes.result c.args.row c.row_at-y.result.0 c.row_at-y.result.1 c.sizes-sizes.ensures.value c.row_at-y.ensures.y c.row_at-y.ensures.z c.row_at-y.ensures.along c.row_at-y.ensures.across c.row_at-y.ensures.row in
-    let nx : c.nx-count.result ≡ v.grid.nx = c.nx-count.ensures.value ∙ ap (λ (g : Grid). g.nx) c.sizes-sizes.ensures.value in
+    let nx : c.nx.result ≡ v.grid.nx = c.nx.ensures.value ∙ ap (λ (g : Grid). g.nx) c.sizes-sizes.ensures.value in
     let least = c.sizes-sizes.ensures.leveled.grid.x.least in
     let far : v.grid.nx - 1 ≤ 8 * c.loop-x.x = omega (arith, c.loop-x-test.false, c.count_along-count.ensures.value, nx) in
     let last : v.grid.nx - 1 + 1 ≡ v.grid.nx = omega (arith, least) in

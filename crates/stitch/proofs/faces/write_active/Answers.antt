@@ -15,16 +15,16 @@ pub next_from-x-requires-clause-first : goal.next_from-x-requires-clause-first
 next_from-x-requires-clause-first g c =
     let v = c.args.field.now in
     let at = found_row v c.sizes-sizes.result c.args.row c.row_at-y.result.0 c.row_at-y.result.1 c.sizes-sizes.ensures.value c.row_at-y.ensures.y c.row_at-y.ensures.z c.row_at-y.ensures.along c.row_at-y.ensures.across c.row_at-y.ensures.row in
-    c.requires.first ∙ sym (ap (λ y. first_brick v.grid y (c.args.row / v.grid.ny)) at.y_is ∙ ap (first_brick v.grid c.row_at-y.result.0) at.z_is)
+    c.requires.first ∙ (ap (λ y. first_brick v.grid y (c.args.row / v.grid.ny)) (sym at.y_is) ∙ ap (first_brick v.grid c.row_at-y.result.0) (sym at.z_is))
 
 pub next_from-x-requires-in-loop-x-clause-first : goal.next_from-x-requires-in-loop-x-clause-first
 next_from-x-requires-in-loop-x-clause-first g c =
     let v = c.args.field.now in
     let at = found_row v c.sizes-sizes.result c.args.row c.row_at-y.result.0 c.row_at-y.result.1 c.sizes-sizes.ensures.value c.row_at-y.ensures.y c.row_at-y.ensures.z c.row_at-y.ensures.along c.row_at-y.ensures.across c.row_at-y.ensures.row in
-    c.requires.first ∙ sym (ap (λ y. first_brick v.grid y (c.args.row / v.grid.ny)) at.y_is ∙ ap (first_brick v.grid c.row_at-y.result.0) at.z_is)
+    c.requires.first ∙ (ap (λ y. first_brick v.grid y (c.args.row / v.grid.ny)) (sym at.y_is) ∙ ap (first_brick v.grid c.row_at-y.result.0) (sym at.z_is))
 
 pub next_from-x-requires-in-loop-x-clause-x : goal.next_from-x-requires-in-loop-x-clause-x
-next_from-x-requires-in-loop-x-clause-x g c = omega (arith, c.loop-x-test.true, c.count_along-count.ensures.value, c.nx-count.ensures.value, ap (λ (g : Grid). g.nx) c.sizes-sizes.ensures.value)
+next_from-x-requires-in-loop-x-clause-x g c = omega (arith, c.loop-x-test.true, c.count_along-count.ensures.value, c.nx.ensures.value, ap (λ (g : Grid). g.nx) c.sizes-sizes.ensures.value)
 
 pub loop-x-smaller : goal.loop-x-smaller
 loop-x-smaller g c = let still = c.next_from-x-in-loop-x.ensures in omega (arith, c.loop-x-test.true, still.least)
@@ -56,7 +56,7 @@ write_run-requires-clause-place g c = (found_row c.args.field.now c.sizes-sizes.
 pub write_run-requires-clause-next : goal.write_run-requires-clause-next
 write_run-requires-clause-next g c =
     let v = c.args.field.now in
-    let nx : c.nx-count.result ≡ v.grid.nx = c.nx-count.ensures.value ∙ ap (λ (g : Grid). g.nx) c.sizes-sizes.ensures.value in
+    let nx : c.nx.result ≡ v.grid.nx = c.nx.ensures.value ∙ ap (λ (g : Grid). g.nx) c.sizes-sizes.ensures.value in
     let low : 8 * c.loop-x.x ≤ v.grid.nx - 1 = omega (arith, c.loop-x-test.true, c.count_along-count.ensures.value, nx) in
     let e : v.grid.nx * c.args.row + min (8 * c.loop-x.x) (v.grid.nx - 1) ≡ v.grid.nx * c.args.row + 8 * c.loop-x.x = omega (arith, low) in
     subst (λ q. HasNumber v c.args.total q c.loop-x.next) e c.loop-x.invariant.next
@@ -65,7 +65,7 @@ pub returns-in_err-next-clause-adds : goal.returns-in_err-next-clause-adds
 returns-in_err-next-clause-adds g c =
     let v = c.args.field.now in
     let p = err_from_is_err_and c.from_residual.result c.from_residual.ensures.1 in
-    let nx : c.nx-count.result ≡ v.grid.nx = c.nx-count.ensures.value ∙ ap (λ (g : Grid). g.nx) c.sizes-sizes.ensures.value in
+    let nx : c.nx.result ≡ v.grid.nx = c.nx.ensures.value ∙ ap (λ (g : Grid). g.nx) c.sizes-sizes.ensures.value in
     let last_nx : c.nx-last.result ≡ v.grid.nx = c.nx-last.ensures.value ∙ ap (λ (g : Grid). g.nx) c.sizes-sizes.ensures.value in
     let low : 8 * c.loop-x.x ≤ v.grid.nx - 1 = omega (arith, c.loop-x-test.true, c.count_along-count.ensures.value, nx) in
     rw p.1 (run_failed (triangle_lines c.args.style.format v) (is_cell v.grid) (v.grid.nx * c.args.row) _ _ _ _ _ _ _ _ _ _
@@ -76,7 +76,7 @@ loop-x-preserved g c =
     let v = c.args.field.now in
     let at = found_row v c.sizes-sizes.result c.args.row c.row_at-y.result.0 c.row_at-y.result.1 c.sizes-sizes.ensures.value c.row_at-y.ensures.y c.row_at-y.ensures.z c.row_at-y.ensures.along c.row_at-y.ensures.across c.row_at-y.ensures.row in
     let still = c.next_from-x-in-loop-x.ensures in
-    let nx : c.nx-count.result ≡ v.grid.nx = c.nx-count.ensures.value ∙ ap (λ (g : Grid). g.nx) c.sizes-sizes.ensures.value in
+    let nx : c.nx.result ≡ v.grid.nx = c.nx.ensures.value ∙ ap (λ (g : Grid). g.nx) c.sizes-sizes.ensures.value in
     let last_nx : c.nx-last.result ≡ v.grid.nx = c.nx-last.ensures.value ∙ ap (λ (g : Grid). g.nx) c.sizes-sizes.ensures.value in
     let low : 8 * c.loop-x.x ≤ v.grid.nx - 1 = omega (arith, c.loop-x-test.true, c.count_along-count.ensures.value, nx) in
     let e : v.grid.nx * c.args.row + c.min-end.result ≡ v.grid.nx * c.args.row + min (8 * (c.loop-x.x + 1)) (v.grid.nx - 1) = omega (arith, last_nx, c.min-end.ensures) in
@@ -94,7 +94,7 @@ pub returns-clause-adds : goal.returns-clause-adds
 returns-clause-adds g c =
     let v = c.args.field.now in
     let at = found_row v c.sizes-sizes.result c.args.row c.row_at-y.result.0 c.row_at-y.result.1 c.sizes-sizes.ensures.value c.row_at-y.ensures.y c.row_at-y.ensures.z c.row_at-y.ensures.along c.row_at-y.ensures.across c.row_at-y.ensures.row in
-    let nx : c.nx-count.result ≡ v.grid.nx = c.nx-count.ensures.value ∙ ap (λ (g : Grid). g.nx) c.sizes-sizes.ensures.value in
+    let nx : c.nx.result ≡ v.grid.nx = c.nx.ensures.value ∙ ap (λ (g : Grid). g.nx) c.sizes-sizes.ensures.value in
     let least = c.sizes-sizes.ensures.leveled.grid.x.least in
     let far : v.grid.nx - 1 ≤ 8 * c.loop-x.x = omega (arith, c.loop-x-test.false, c.count_along-count.ensures.value, nx) in
     let last : v.grid.nx - 1 + 1 ≡ v.grid.nx = omega (arith, least) in
@@ -107,7 +107,7 @@ pub returns-clause-next : goal.returns-clause-next
 returns-clause-next g c =
     let v = c.args.field.now in
     let at = found_row v c.sizes-sizes.result c.args.row c.row_at-y.result.0 c.row_at-y.result.1 c.sizes-sizes.ensures.value c.row_at-y.ensures.y c.row_at-y.ensures.z c.row_at-y.ensures.along c.row_at-y.ensures.across c.row_at-y.ensures.row in
-    let nx : c.nx-count.result ≡ v.grid.nx = c.nx-count.ensures.value ∙ ap (λ (g : Grid). g.nx) c.sizes-sizes.ensures.value in
+    let nx : c.nx.result ≡ v.grid.nx = c.nx.ensures.value ∙ ap (λ (g : Grid). g.nx) c.sizes-sizes.ensures.value in
     let least = c.sizes-sizes.ensures.leveled.grid.x.least in
     let far : v.grid.nx - 1 ≤ 8 * c.loop-x.x = omega (arith, c.loop-x-test.false, c.count_along-count.ensures.value, nx) in
     let last : v.grid.nx - 1 + 1 ≡ v.grid.nx = omega (arith, least) in
