@@ -1,4 +1,4 @@
-use Rattle.std.proofs.Common.{◌≡◌, ◌+◌, ◌/◌, ◌%◌, ◌<◌, subst, sym, arith, refl}
+use Rattle.std.proofs.Common.{◌+◌, ◌/◌, ◌%◌, ◌<◌, subst, sym, arith, refl}
 use Rattle.stitch.specs.declared.corners.Corners.{Corners}
 use Rattle.stitch.specs.FourRows.{AreCorners, AreNear}
 use Rattle.stitch.proofs.CellRuns.{found_row}

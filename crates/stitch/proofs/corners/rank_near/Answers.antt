@@ -1,4 +1,4 @@
-use Rattle.std.proofs.Common.{◌≡◌, ◌+◌, ◌/◌, subst, arith}
+use Rattle.std.proofs.Common.{◌/◌, subst}
 use Rattle.stitch.specs.declared.corners.Corners.{Corners}
 use Rattle.stitch.specs.FourRows.{AreNear}
 use Rattle.stitch.proofs.CellRuns.{found_row}
