@@ -107,7 +107,7 @@ fresh_held v level items brick z plane is at known =
     subst (λ n. is_fresh n level items ≡ true) at.same_brick (is.fresh (subst (λ n. n < brick_count v.grid) (sym at.same_brick) known))
 
 -- one plane of no brick more
-pub none_more : (planes : List Plane) (at : ℕ) (plane : Plane) → at < 129 → plane.brick ≡ 4294967295 → plane.width ≤ 8 → AreNone planes at → AreNone (set planes at plane) (at + 1)
+pub none_more : (planes : List Plane) (at : ℕ) (plane : Plane) → at < 128 → plane.brick ≡ 4294967295 → plane.width ≤ 8 → AreNone planes at → AreNone (set planes at plane) (at + 1)
 none_more planes at plane low none narrow before = record {
   long = length-set planes at plane ∙ before.long;
   brick = λ k d h. elim (cases_lt k at) [
@@ -124,7 +124,7 @@ none_more planes at plane low none narrow before = record {
     placed k d e = subst (λ n. get_or (set planes at plane) n d ≡ plane) e (get_or-set_same planes at plane d (omega (arith, before.long)))
 
 -- a plane that is put in the place of its brick
-pub held_here : (brick z : ℕ) (planes : List Plane) (plane : Plane) → length planes ≡ 129 → plane.brick ≡ brick → plane.z ≡ z → IsHeld brick z (set planes (brick % 129) plane)
+pub held_here : (brick z : ℕ) (planes : List Plane) (plane : Plane) → length planes ≡ 128 → plane.brick ≡ brick → plane.z ≡ z → IsHeld brick z (set planes (brick % 128) plane)
 held_here brick z planes plane long b e = record {
-  here = λ none. subst (IsPlaneAt brick z) (sym (get_or-set_same planes (brick % 129) plane none (omega (arith, long)))) (record { same_brick = b; same_z = e });
+  here = λ none. subst (IsPlaneAt brick z) (sym (get_or-set_same planes (brick % 128) plane none (omega (arith, long)))) (record { same_brick = b; same_z = e });
 }

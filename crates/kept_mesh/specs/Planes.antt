@@ -16,9 +16,9 @@ pub record IsPlane (v : Volume) (level : ℤ) (items : List Item) (plane : Plane
   pub rows : (y : ℕ) → IsCellRow v.grid plane.brick y plane.z
       → take plane.width (drop (8 * y) plane.cases) ≡ looped_cases v.grid (field v.samples level) plane.brick y plane.z
 
--- the first of 129 planes are of no brick
+-- the first of 128 planes are of no brick
 pub record AreNone (planes : List Plane) (count : ℕ) : Type 0 where
-  pub long : length planes ≡ 129
+  pub long : length planes ≡ 128
   pub brick : (k : ℕ) (none : Plane) → k < count → (slice_index_or planes k none).brick ≡ 4294967295
   pub narrow : (k : ℕ) (none : Plane) → k < count → (slice_index_or planes k none).width ≤ 8
 
@@ -29,4 +29,4 @@ pub record IsPlaneAt (brick z : ℕ) (plane : Plane) : Type 0 where
 
 -- of these planes, the one in the brick's place is that plane of that brick
 pub record IsHeld (brick z : ℕ) (planes : List Plane) : Type 0 where
-  pub here : (none : Plane) → IsPlaneAt brick z (slice_index_or planes (brick % 129) none)
+  pub here : (none : Plane) → IsPlaneAt brick z (slice_index_or planes (brick % 128) none)

@@ -31,6 +31,36 @@ fn is_plane(plane: &Plane, brick: BrickId, z: u8) -> bool
 }
 
 /// Makes one of some planes that of a brick, where the cache keeps the brick's entries at a level; says whether it is.
+// Apart, since a row's plane is nearly always at hand.
+#[inline(never)]
+fn hold_anew(
+    store: &BrickStore,
+    cache: &MeshCache,
+    level: Level,
+    brick: BrickId,
+    z: u8,
+    planes: &mut [Plane; PLANES as usize],
+) -> bool
+    requires items { IsRight store.now.grid store.now.samples cache.now.items }
+    requires brick { brick.0 < brick_count store.now.grid }
+    requires z { z < 8 }
+    requires there { in_brick store.now.grid brick.0 1 1 (z + 1) ≡ true }
+    requires planes { All (IsPlane store.now level cache.now.items) planes.old }
+    ensures planes { All (IsPlane store.now level cache.now.items) planes.new }
+    ensures here { OnTrue result (IsHeld brick.0 z planes.new) }
+    ensures kept { result ≡ is_fresh brick.0 level cache.now.items }
+{
+    match cache.kept_entries(brick, level) {
+        Some(entries) => {
+            planes[(brick.0 % PLANES) as usize] = plane_of(store, brick, z, level, entries);
+            true
+        }
+        None => false,
+    }
+}
+
+/// The same, unless it is that plane already.
+#[inline(always)]
 fn hold(
     store: &BrickStore,
     cache: &MeshCache,
@@ -48,17 +78,10 @@ fn hold(
     ensures here { OnTrue result (IsHeld brick.0 z planes.new) }
     ensures kept { result ≡ is_fresh brick.0 level cache.now.items }
 {
-    let at = (brick.0 % PLANES) as usize;
-    if is_plane(&planes[at], brick, z) {
+    if is_plane(&planes[(brick.0 % PLANES) as usize], brick, z) {
         return true;
     }
-    match cache.kept_entries(brick, level) {
-        Some(entries) => {
-            planes[at] = plane_of(store, brick, z, level, entries);
-            true
-        }
-        None => false,
-    }
+    hold_anew(store, cache, level, brick, z, planes)
 }
 
 /// Replaces the rows by the first cases of a row.
@@ -128,6 +151,7 @@ impl<'a> KeptRows<'a> {
 impl<'a> CellRows for KeptRows<'a> {
     ghost named = { named_by };
 
+    #[inline(always)]
     fn row<L: Ledger>(
         &mut self,
         brick: BrickId,

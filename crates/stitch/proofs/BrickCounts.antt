@@ -1,7 +1,6 @@
 -- What the cells of all bricks have, brick after brick.
-use Rattle.std.proofs.Common.{◌≡◌, ℕ, zero, suc, ◌+◌, ◌-◌, ◌*◌, ◌^◌, ◌<◌, ◌≤◌, ◌||◌, Bool, true, false, cond, List, [], ◌∷◌, length, map, min, refl, sym, ◌∙◌, ap, ap₂, subst, arith, inl, inr, ℤ}
-use Rattle.std.specs.List.{filter, list_any, sum_by}
-use Rattle.std.proofs.lemmas.Bool.{cases_lt}
+use Rattle.std.proofs.Common.{◌≡◌, ℕ, suc, ◌+◌, ◌-◌, ◌*◌, ◌^◌, ◌<◌, ◌≤◌, ◌||◌, Bool, true, false, cond, List, [], ◌∷◌, length, map, min, refl, sym, ◌∙◌, ap, subst, arith}
+use Rattle.std.specs.List.{filter, list_any}
 use Rattle.iso_defs.specs.Lists.{below}
 use Rattle.iso_defs.specs.Grid.{is_cell, point_count}
 use Rattle.iso_defs.specs.Rows.{row_count}

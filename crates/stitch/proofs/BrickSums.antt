@@ -1,7 +1,7 @@
 -- Each cell stands in one brick, so that what all cells have is what the bricks' entries have.
-use Rattle.std.proofs.Common.{◌≡◌, ℕ, zero, suc, ◌+◌, ◌-◌, ◌*◌, ◌/◌, ◌%◌, ◌<◌, ◌≤◌, ◌&&◌, Bool, true, false, cond, List, [], ◌∷◌, ◌++◌, map, length, ltb, ℤ, refl, sym, ◌∙◌, ap, ap₂, subst, arith, inl, inr, zero-add}
-use Rattle.std.specs.List.{filter, range_with_len, sum_by}
-use Rattle.std.proofs.lemmas.Bool.{cases_Bool, le-ltb}
+use Rattle.std.proofs.Common.{◌≡◌, ℕ, zero, suc, ◌+◌, ◌*◌, ◌/◌, ◌%◌, ◌<◌, ◌≤◌, ◌&&◌, Bool, true, false, cond, List, [], ◌∷◌, map, length, ltb, ℤ, refl, sym, ◌∙◌, ap, ap₂, arith, zero-add}
+use Rattle.std.specs.List.{filter, sum_by}
+use Rattle.std.proofs.lemmas.Bool.{le-ltb}
 use Rattle.std.proofs.lemmas.List.{map-append}
 use Rattle.std.proofs.lemmas.List.Elements.{filter-append}
 use Rattle.std.proofs.lemmas.List.Sums.{sum_by-append, sum_by-cons}

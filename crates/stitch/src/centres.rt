@@ -8,7 +8,7 @@ ghost use Rattle.flat_mesh.specs.Centres.{IsCellAt, cell_place, local_mean, loop
 ghost use Rattle.cell_loops.specs.Loops.{IsLoop};
 ghost use Rattle.flat_mesh.specs.Faces.{AllCross, loops_at};
 ghost use Rattle.flat_mesh.specs.Lattice.{heights};
-ghost use Rattle.stitch_rows.specs.Bricks.{AreMarked};
+ghost use Rattle.stitch_rows.specs.Bricks.{AreMarked, first_brick};
 ghost use Rattle.stitch_rows.specs.Named.{NamesCases};
 ghost use Rattle.stitch_rows.specs.Rows.{IsCaseOf};
 ghost use Rattle.stitch.specs.Blocks.{Adds, IsBehind};
@@ -250,6 +250,37 @@ pub fn write_cells<H: Heights, K: Sink>(
     Ok(())
 }
 
+/// The same of a row whose active bricks are marked. It goes from one of them to the next, since the cells of others have no loops.
+fn write_active<K: Sink>(
+    field: &Field,
+    style: Style,
+    active: &ActiveRow,
+    row: u32,
+    cases: &[u16],
+    block: &mut Block,
+    sink: &mut K,
+) -> Result<(), Failed>
+    requires row { row < row_count field.now.grid }
+    requires active { AreMarked field.now active.now }
+    requires first { active.now.first ≡ first_brick field.now.grid (row % field.now.grid.ny) (row / field.now.grid.ny) }
+    requires count { length cases.now ≡ field.now.grid.nx }
+    requires cases { IsCaseRow field.now row cases.now }
+    ensures adds { Adds (K.seen sink.old) (K.seen sink.new) block.old block.new result (row_centres_text style field.now row) }
+    ensures bytes { IfOk result (λ _. block.new.total ≤ block.old.total + 256 * field.now.grid.nx) }
+{
+    let sizes = field.sizes();
+    let (y, z) = row_at(&sizes, row);
+    let last = sizes.nx() - 1;
+    let count = count_along(sizes.nx());
+    let mut x = active.next_from(field, 0, y, z);
+    while x < count {
+        let end = (8 * x + 8).min(last);
+        write_run(field, style, row, y, z, 8 * x, end, cases, block, sink)?;
+        x = active.next_from(field, x + 1, y, z);
+    }
+    Ok(())
+}
+
 /// Puts the lines of the centres of the row of cells that a row of points begins behind the others. `cases` is a buffer.
 fn write_row<R: CellRows, K: Sink, L: Ledger>(
     field: &Field,
@@ -279,7 +310,7 @@ fn write_row<R: CellRows, K: Sink, L: Ledger>(
     if !next_cases(field, active, rows, ranks, total, row, cases, steps) {
         return Ok(());
     }
-    write_cells(field, style, row, cases, block, sink)?;
+    write_active(field, style, active, row, cases, block, sink)?;
     Ok(())
 }
 

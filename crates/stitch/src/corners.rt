@@ -12,7 +12,7 @@ ghost use Rattle.stitch_rows.specs.Rows.{AreFirst, AreFlags};
 ghost use Rattle.stitch.specs.FourRows.{AreCorners, AreNear, IsReady};
 ghost use Rattle.stitch.specs.Numbers.{AreRowRanks};
 
-use crate::ranks::{edges_before, row_at};
+use crate::ranks::{edges_to_row, row_at};
 use edge_points::RowRanks;
 use flat_mesh::{Cell, Heights, cell_numbers};
 use stitch_rows::{ActiveRow, Field, ROW, RankedRow, rank_row};
@@ -148,9 +148,9 @@ fn rank_near(field: &Field, ranks: &RowRanks, total: u32, row: u32, corners: &mu
         copy_row(field, y, z + 1, &corners.both, &mut corners.far);
         return;
     }
-    let before = edges_before(field, ranks, total, row);
+    let before = edges_to_row(field, ranks, total, y, z);
     rank_points(field, &mut corners.low, y, z, before, &mut corners.near);
-    let before = edges_before(field, ranks, total, row + sizes.ny());
+    let before = edges_to_row(field, ranks, total, y, z + 1);
     rank_points(field, &mut corners.high, y, z + 1, before, &mut corners.far);
 }
 
@@ -167,9 +167,9 @@ pub fn rank_corners(field: &Field, ranks: &RowRanks, total: u32, row: u32, corne
     let sizes = field.sizes();
     let (y, z) = row_at(&sizes, row);
     rank_near(field, ranks, total, row, corners);
-    let before = edges_before(field, ranks, total, row + 1);
+    let before = edges_to_row(field, ranks, total, y + 1, z);
     rank_points(field, &mut corners.low, y + 1, z, before, &mut corners.up);
-    let before = edges_before(field, ranks, total, row + 1 + sizes.ny());
+    let before = edges_to_row(field, ranks, total, y + 1, z + 1);
     rank_points(
         field,
         &mut corners.high,

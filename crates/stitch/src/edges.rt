@@ -11,7 +11,7 @@ ghost use Rattle.brick_store.specs.Copies.{AreAllCopies};
 ghost use Rattle.crossing_edges.specs.Flags.{flags_at};
 ghost use Rattle.flat_mesh.specs.Lattice.{heights};
 ghost use Rattle.flat_mesh.specs.Rows.{row_start};
-ghost use Rattle.stitch_rows.specs.Bricks.{AreMarked, HoldRows};
+ghost use Rattle.stitch_rows.specs.Bricks.{AreMarked, HoldRows, first_brick};
 ghost use Rattle.stitch_rows.specs.Rows.{AreFlags, AreRuns};
 ghost use Rattle.stitch.specs.Ends.{AreEnds, run_end};
 ghost use Rattle.stitch.specs.Blocks.{Adds, IsBehind};
@@ -19,7 +19,7 @@ ghost use Rattle.stitch.specs.Numbers.{AreRowRanks};
 ghost use Rattle.stitch.specs.Spans.{all_edges_text, edge_line, edges_text, point_edges_text, row_edges_text};
 
 use crate::block::Block;
-use crate::ranks::{edges_before, row_at};
+use crate::ranks::{edges_to_row, row_at};
 use crate::style::Style;
 use byte_streams::{Failed, Sink};
 use crossing_edges::begin_none;
@@ -273,12 +273,13 @@ fn run_end(nx: u32, x: u32) -> u32
     if 8 * x + 9 < nx { 8 * x + 8 } else { nx }
 }
 
-/// Puts the lines of the vertices on the edges that begin in a row of points behind the others, brick by brick, from the samples
-/// of all bricks.
+/// Puts the lines of the vertices on the edges that begin in a row of points behind the others, from the samples of all bricks. It goes
+/// from one active brick to the next, since no crossing edge begins at a point of another one.
 fn write_bricks<T: Packed, K: Sink>(
     field: &Field,
     copies: &[T],
     style: Style,
+    active: &ActiveRow,
     y: u32,
     z: u32,
     flags: &[u8],
@@ -286,6 +287,8 @@ fn write_bricks<T: Packed, K: Sink>(
     sink: &mut K,
 ) -> Result<(), Failed>
     requires copies { AreAllCopies field.now.grid field.now.samples (map T.value copies.now) }
+    requires active { AreMarked field.now active.now }
+    requires first { active.now.first ≡ first_brick field.now.grid y z }
     requires y { y < field.now.grid.ny }
     requires z { z < field.now.grid.nz }
     requires count { length flags.now ≡ field.now.grid.nx }
@@ -295,10 +298,13 @@ fn write_bricks<T: Packed, K: Sink>(
 {
     let sizes = field.sizes();
     let nx = sizes.nx();
+    let count = count_along(nx);
     let rows = rows_at(&sizes, y, z);
-    for x in 0..count_along(nx) {
+    let mut x = active.next_from(field, 0, y, z);
+    while x < count {
         let end = run_end(nx, x);
         write_run(field, copies, style, rows, x, y, z, end, flags, block, sink)?;
+        x = active.next_from(field, x + 1, y, z);
     }
     Ok(())
 }
@@ -307,12 +313,15 @@ fn write_bricks<T: Packed, K: Sink>(
 fn write_points<K: Sink>(
     field: &Field,
     style: Style,
+    active: &ActiveRow,
     y: u32,
     z: u32,
     flags: &[u8],
     block: &mut Block,
     sink: &mut K,
 ) -> Result<(), Failed>
+    requires active { AreMarked field.now active.now }
+    requires first { active.now.first ≡ first_brick field.now.grid y z }
     requires y { y < field.now.grid.ny }
     requires z { z < field.now.grid.nz }
     requires count { length flags.now ≡ field.now.grid.nx }
@@ -321,8 +330,12 @@ fn write_points<K: Sink>(
     ensures bytes { IfOk result (λ _. block.new.total ≤ block.old.total + 192 * field.now.grid.nx) }
 {
     match field.copies() {
-        PackedRun::Bytes(copies) => write_bricks(field, copies, style, y, z, flags, block, sink),
-        PackedRun::Numbers(copies) => write_bricks(field, copies, style, y, z, flags, block, sink),
+        PackedRun::Bytes(copies) => {
+            write_bricks(field, copies, style, active, y, z, flags, block, sink)
+        }
+        PackedRun::Numbers(copies) => {
+            write_bricks(field, copies, style, active, y, z, flags, block, sink)
+        }
     }
 }
 
@@ -348,13 +361,13 @@ fn write_row<K: Sink>(
     ensures bytes { IfOk result (λ _. block.new.total ≤ block.old.total + 192 * field.now.grid.nx) }
 {
     let sizes = field.sizes();
-    if edges_before(field, ranks, total, row) == edges_before(field, ranks, total, row + 1) {
+    let (y, z) = row_at(&sizes, row);
+    if edges_to_row(field, ranks, total, y, z) == edges_to_row(field, ranks, total, y + 1, z) {
         return Ok(());
     }
-    let (y, z) = row_at(&sizes, row);
     active.mark(field, y, z);
     flag_row(field, active, y, z, flags);
-    write_points(field, style, y, z, flags, block, sink)?;
+    write_points(field, style, active, y, z, flags, block, sink)?;
     Ok(())
 }
 

@@ -7,7 +7,7 @@ ghost use Rattle.crossing_edges.specs.Flags.{rank};
 ghost use Rattle.flat_mesh.specs.Lattice.{heights};
 ghost use Rattle.flat_mesh.specs.Faces.{cell_faces, centres_of, loop_faces};
 ghost use Rattle.flat_mesh.specs.Centres.{IsCellAt};
-ghost use Rattle.stitch_rows.specs.Bricks.{AreMarked};
+ghost use Rattle.stitch_rows.specs.Bricks.{AreMarked, first_brick};
 ghost use Rattle.stitch_rows.specs.Named.{NamesCases};
 ghost use Rattle.stitch_rows.specs.Rows.{IsCaseOf};
 ghost use Rattle.stitch.specs.Blocks.{Adds, IsBehind};
@@ -250,6 +250,59 @@ pub fn write_cells<H: Heights, K: Sink>(
     Ok(next)
 }
 
+/// The same of a row whose active bricks are marked. It goes from one of them to the next, since the cells of others have no loops.
+fn write_active<K: Sink>(
+    field: &Field,
+    style: Style,
+    active: &ActiveRow,
+    corners: &Corners,
+    total: u32,
+    row: u32,
+    cases: &[u16],
+    next: u32,
+    block: &mut Block,
+    sink: &mut K,
+) -> Result<u32, Failed>
+    requires row { row < row_count field.now.grid }
+    requires active { AreMarked field.now active.now }
+    requires first { active.now.first ≡ first_brick field.now.grid (row % field.now.grid.ny) (row / field.now.grid.ny) }
+    requires count { length cases.now ≡ field.now.grid.nx }
+    requires cases { IsCaseRow field.now row cases.now }
+    requires corners { AreCorners field.now (row % field.now.grid.ny) (row / field.now.grid.ny) corners.now }
+    requires total { total ≡ rank field.now.grid (heights field.now) (3 * (field.now.grid.nx * row_count field.now.grid)) }
+    requires next { HasNumber field.now total (field.now.grid.nx * row) next }
+    ensures adds { Adds (K.seen sink.old) (K.seen sink.new) block.old block.new result (row_faces_text style field.now row) }
+    ensures next { IfOk result (λ n. HasNumber field.now total (field.now.grid.nx * (row + 1)) n) }
+    ensures bytes { IfOk result (λ _. block.new.total ≤ block.old.total + 3072 * field.now.grid.nx) }
+{
+    let sizes = field.sizes();
+    let (y, z) = row_at(&sizes, row);
+    let last = sizes.nx() - 1;
+    let count = count_along(sizes.nx());
+    let mut next = next;
+    let mut x = active.next_from(field, 0, y, z);
+    while x < count {
+        let end = (8 * x + 8).min(last);
+        next = write_run(
+            field,
+            style,
+            corners,
+            total,
+            row,
+            y,
+            z,
+            8 * x,
+            end,
+            cases,
+            next,
+            block,
+            sink,
+        )?;
+        x = active.next_from(field, x + 1, y, z);
+    }
+    Ok(next)
+}
+
 /// Puts the lines of the triangles of the row of cells that a row of points begins behind the others.
 fn write_row<R: CellRows, K: Sink, L: Ledger>(
     field: &Field,
@@ -286,7 +339,9 @@ fn write_row<R: CellRows, K: Sink, L: Ledger>(
         return Ok(next);
     }
     rank_corners(field, ranks, total, row, corners);
-    let next = write_cells(field, style, corners, total, row, cases, next, block, sink)?;
+    let next = write_active(
+        field, style, active, corners, total, row, cases, next, block, sink,
+    )?;
     Ok(next)
 }
 

@@ -83,7 +83,7 @@ pub fn edges_before<H: Heights>(field: &H, ranks: &RowRanks, total: u32, row: u3
 
 /// How many crossing edges begin in the rows before the one at these coordinates. Behind the last row of a slice stands the
 /// first one of the next slice.
-fn edges_to_row<H: Heights>(field: &H, ranks: &RowRanks, total: u32, y: u32, z: u32) -> u32
+pub fn edges_to_row<H: Heights>(field: &H, ranks: &RowRanks, total: u32, y: u32, z: u32) -> u32
     requires ranks { AreRowRanks (H.leveled field.now) ranks.now total }
     requires y { y ≤ (H.leveled field.now).grid.ny }
     requires z { z < (H.leveled field.now).grid.nz }

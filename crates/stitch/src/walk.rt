@@ -1,9 +1,9 @@
 //! The rows of cells, one after the other.
-ghost use Rattle.std.specs.Prelude.{◌≡◌, ◌+◌, ◌*◌, ◌<◌, ◌≤◌, ℕ, [], false, IsTrue, length, slice_index};
+ghost use Rattle.std.specs.Prelude.{◌≡◌, ◌+◌, ◌*◌, ◌/◌, ◌%◌, ◌<◌, ◌≤◌, ℕ, [], false, IsTrue, length, slice_index};
 ghost use Rattle.iso_defs.specs.Rows.{row_count};
 ghost use Rattle.cell_loops.specs.Loops.{row_loops};
 ghost use Rattle.flat_mesh.specs.Lattice.{heights};
-ghost use Rattle.stitch_rows.specs.Bricks.{AreMarked};
+ghost use Rattle.stitch_rows.specs.Bricks.{AreMarked, first_brick};
 ghost use Rattle.stitch_rows.specs.Named.{NamesCases};
 ghost use Rattle.stitch_rows.specs.Rows.{AreCases};
 ghost use Rattle.stitch.specs.Numbers.{AreQuiet, AreRowRanks, IsCaseRow, asked_in_row};
@@ -60,6 +60,7 @@ pub fn next_cases<R: CellRows, L: Ledger>(
     requires cases { length cases.old ≡ field.now.grid.nx }
     ensures quiet { result ≡ false → AreQuiet field.now (field.now.grid.nx * row) field.now.grid.nx }
     ensures cases { IsTrue result → IsCaseRow field.now row cases.new }
+    ensures first { IsTrue result → active.new.first ≡ first_brick field.now.grid (row % field.now.grid.ny) (row / field.now.grid.ny) }
     ensures marked { AreMarked field.now active.new }
     ensures same { R.named rows.new ≡ R.named rows.old }
     ensures least { steps.old ≤ steps.new }

@@ -7,6 +7,7 @@ use Rattle.iso_defs.specs.Grid.{index}
 use Rattle.iso_defs.specs.Bricks.{brick_point, cell_case, cells_along, is_active, row_cases}
 use Rattle.iso_base.specs.Sizing.{IsGrid}
 use Rattle.cell_loops.specs.Loops.{row_loops}
+use Rattle.flat_mesh.specs.Faces.{loops_at}
 use Rattle.flat_mesh.specs.Lattice.{Leveled, heights}
 use Rattle.stitch_rows.specs.declared.bricks.BrickRow.{BrickRow}
 use Rattle.stitch_rows.specs.Bricks.{HoldRow}
@@ -76,13 +77,16 @@ module _ (v : Leveled) (is : IsGrid v.grid) (x y z : ℕ) (hx : 8 * x + 1 < v.gr
               subst (IsCaseOf v (index v.grid k y z)) (sym e) (subst (λ n. IsCaseOf v (index v.grid n y z) (get_or run i 0)) point (run_at i within)))
         ]
 
-  -- the cells of a brick that is not active have no loops, as case 0 has none
-  pub quiet_at : is_active v.grid (heights v) brick ≡ false → (k : ℕ) → k + 1 < v.grid.nx → 8 * x ≤ k → k < 8 * x + 8 → IsCaseOf v (index v.grid k y z) 0
-  quiet_at quiet k in_row from low =
+  -- the cells of a brick that is not active have no loops
+  pub quiet_loops : is_active v.grid (heights v) brick ≡ false → (k : ℕ) → k + 1 < v.grid.nx → 8 * x ≤ k → k < 8 * x + 8 → loops_at v (index v.grid k y z) ≡ []
+  quiet_loops quiet k in_row from low =
       let i : ℕ = k - 8 * x in
       let point : 8 * x + i ≡ k = omega arith in
       let wide : 8 * x + (i + 1) < v.grid.nx = omega arith in
       let there = row_there v.grid is x y z hx y_in z_in held hold (i + 1) 1 1 wide hy hz in
-      let none = quiet_cell v brick i held.y held.z (index v.grid k y z) quiet (omega arith) (is_row.y_low) (is_row.z_low) there
-      (point_is v.grid is x y z hx y_in z_in held hold i ∙ ap (λ n. index v.grid n y z) point) in
-      quiet_case v (index v.grid k y z) none
+      quiet_cell v brick i held.y held.z (index v.grid k y z) quiet (omega arith) (is_row.y_low) (is_row.z_low) there
+      (point_is v.grid is x y z hx y_in z_in held hold i ∙ ap (λ n. index v.grid n y z) point)
+
+  -- as case 0 has none
+  pub quiet_at : is_active v.grid (heights v) brick ≡ false → (k : ℕ) → k + 1 < v.grid.nx → 8 * x ≤ k → k < 8 * x + 8 → IsCaseOf v (index v.grid k y z) 0
+  quiet_at quiet k in_row from low = quiet_case v (index v.grid k y z) (quiet_loops quiet k in_row from low)

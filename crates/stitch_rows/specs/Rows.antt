@@ -1,5 +1,5 @@
 -- What is known of the points and the cells of a row of a volume.
-use Rattle.std.specs.Prelude.{◌≡◌, ℕ, ◌+◌, ◌*◌, ◌<◌, ◌≤◌, ℤ, List, cond, length, map, nat_lt, slice_index}
+use Rattle.std.specs.Prelude.{◌≡◌, ℕ, ◌+◌, ◌-◌, ◌*◌, ◌<◌, ◌≤◌, ℤ, List, [], cond, min, length, map, nat_lt, slice_index}
 use Rattle.iso_defs.specs.Grid.{index}
 use Rattle.iso_base.specs.Volume.{Volume, sample}
 use Rattle.corner_signs.specs.Rows.{bit_from}
@@ -55,6 +55,13 @@ AreFlags v y z flags = (x : ℕ) → x < v.grid.nx → slice_index flags x ≡ f
 -- no crossing edge begins at a point of a row
 pub record IsStill (v : Leveled) (y z : ℕ) : Type 0 where
   pub none : (x : ℕ) → x < v.grid.nx → flags_at v.grid (heights v) (row_start v.grid y z + x) ≡ 0
+
+-- from one place of a row of bricks on the next active brick stands at another: at points between them no crossing edge begins, and cells
+-- between them have no loops
+pub record AreStill (v : Leveled) (y z from next : ℕ) : Type 0 where
+  pub least : from ≤ next
+  pub points : (x : ℕ) → x < v.grid.nx → 8 * from ≤ min x (v.grid.nx - 2) → min x (v.grid.nx - 2) < 8 * next → flags_at v.grid (heights v) (row_start v.grid y z + x) ≡ 0
+  pub cells : (x : ℕ) → x + 1 < v.grid.nx → 8 * from ≤ x → x < 8 * next → y + 1 < v.grid.ny → z + 1 < v.grid.nz → loops_at v (index v.grid x y z) ≡ []
 
 -- those of the first points, and of all where at most one more is left
 pub record HasMoreFlags (v : Leveled) (y z count : ℕ) (flags : List ℕ) : Type 0 where

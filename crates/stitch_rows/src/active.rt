@@ -1,9 +1,10 @@
 //! Which bricks of a row of bricks are active.
 ghost use Rattle.std.specs.Prelude.{◌≡◌, ℕ, ◌+◌, ◌-◌, ◌*◌, ◌<◌, ◌≤◌, ◌^◌, IsTrue, length, slice_index};
+ghost use Rattle.iso_defs.specs.Bricks.{bricks_along};
 ghost use Rattle.iso_base.specs.Sizing.{IsGrid};
 ghost use Rattle.flat_mesh.specs.Lattice.{Leveled, heights};
 ghost use Rattle.stitch_rows.specs.Bricks.{AreMarked, AreNextTo, IsMarkedLayer, IsNextFrom, first_brick};
-ghost use Rattle.stitch_rows.specs.Rows.{IsStill};
+ghost use Rattle.stitch_rows.specs.Rows.{AreStill, IsStill};
 
 use crate::bricks::{BrickRow, count_along};
 use crate::field::Field;
@@ -138,6 +139,26 @@ impl ActiveRow {
         let _ = (y, z);
         let sizes = field.sizes();
         self.next(0) >= count_along(sizes.nx())
+    }
+
+    /// Where the next active brick stands from a place of the row on, at most behind its last brick: beyond the row where there is none. No
+    /// crossing edge begins at a point between the two places, and no cell between them has loops.
+    #[inline(always)]
+    pub fn next_from(&self, field: &Field, x: u32, y: u32, z: u32) -> u32
+        requires active { AreMarked field.now self.now }
+        requires first { self.now.first ≡ first_brick field.now.grid y z }
+        requires x { x ≤ bricks_along field.now.grid 0 }
+        requires y { y < field.now.grid.ny }
+        requires z { z < field.now.grid.nz }
+        ensures { AreStill field.now y z x result }
+    {
+        let _ = (y, z);
+        let sizes = field.sizes();
+        if x < count_along(sizes.nx()) {
+            self.next(x)
+        } else {
+            x
+        }
     }
 
     /// Where the least active brick stands that is at a place of the row or behind it: beyond the row where there is none in it.

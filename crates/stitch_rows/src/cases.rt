@@ -40,6 +40,7 @@ fn put_zeros(out: &mut [u16])
 }
 
 /// Writes the cases of the cells of a row that an active brick has: those from 8 * x on.
+#[inline(always)]
 fn active_cases<R: CellRows, L: Ledger>(
     field: &Field,
     rows: &mut R,

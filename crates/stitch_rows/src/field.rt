@@ -1,9 +1,9 @@
 //! A volume in bricks at a level: its shifted values, and its active bricks.
-ghost use Rattle.std.specs.Prelude.{◌≡◌, ◌+◌, ◌*◌, ◌<◌, ◌≤◌, ◌^◌, All, length, map, unsigned_abs};
+ghost use Rattle.std.specs.Prelude.{◌≡◌, ◌+◌, ◌*◌, ◌<◌, ◌≤◌, ◌^◌, All, ℤ, int_le, length, map, unsigned_abs};
 ghost use Rattle.iso_defs.specs.Bricks.{brick_count};
 ghost use Rattle.iso_defs.specs.Grid.{index};
 ghost use Rattle.iso_base.specs.Samples.{IsSample};
-ghost use Rattle.iso_base.specs.Shifted.{shifted};
+ghost use Rattle.iso_base.specs.Shifted.{is_above_level, shifted};
 ghost use Rattle.iso_base.specs.Volume.{IsVolume, sample};
 ghost use Rattle.brick_store.specs.Copies.{AreAllCopies};
 ghost use Rattle.packed_samples.specs.Runs.{samples_in};
@@ -41,9 +41,12 @@ pub struct Field<'a> {
     store: &'a BrickStore,
     tree: &'a SpanTree,
     level: Level,
+    least_above: i64,
 }
 
 impl<'a> Model for Field<'a> {
+    ghost use Rattle.std.specs.Prelude.{◌≡◌, ℤ, int_le};
+    ghost use Rattle.iso_base.specs.Shifted.{is_above_level};
     ghost use Rattle.flat_mesh.specs.Lattice.{Leveled};
     ghost use Rattle.span_tree.specs.Spans.{IsRightFor};
     ghost use Rattle.stitch_rows.specs.Rows.{at_level};
@@ -52,7 +55,7 @@ impl<'a> Model for Field<'a> {
 
     ghost view = { λ f. at_level f.store.now f.level };
 
-    ghost invariant = { λ f. IsRightFor f.tree.now f.store.now };
+    ghost invariant = { λ f. IsRightFor f.tree.now f.store.now × ((s : ℤ) → int_le f.least_above s ≡ is_above_level s f.level) };
 }
 
 impl<'a> Field<'a> {
@@ -61,7 +64,12 @@ impl<'a> Field<'a> {
         requires { IsRightFor tree.now store.now }
         ensures { result ≡ at_level store.now level }
     {
-        Field { store, tree, level }
+        Field {
+            store,
+            tree,
+            level,
+            least_above: level.least_above(),
+        }
     }
 
     /// The sizes of the grid.
@@ -168,11 +176,12 @@ impl<'a> Field<'a> {
         self.level.shifted(sample)
     }
 
-    /// The level.
-    pub(crate) fn level(&self) -> Level
-        ensures { result ≡ self.now.level }
+    /// The least sample that is above the level.
+    #[inline(always)]
+    pub(crate) fn least_above(&self) -> i64
+        ensures { (s : ℤ) → int_le result s ≡ is_above_level s self.now.level }
     {
-        self.level
+        self.least_above
     }
 }
 

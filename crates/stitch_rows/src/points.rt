@@ -209,7 +209,7 @@ fn flag_bricks<T: Flagged>(
     let sizes = field.sizes();
     let rows = rows_at(&sizes, y, z);
     let place = row_place(rows.here);
-    let least = field.level().least_above();
+    let least = field.least_above();
     let last = count_along(sizes.nx()) - 1;
     put_zeros(flags);
     let mut x = active.next(0);

@@ -1,43 +1,9 @@
-use Rattle.std.proofs.Common.{◌≡◌, ◌+◌, ◌*◌, ◌/◌, ◌%◌, ◌<◌, ◌∙◌, ap, subst, sym, arith, refl}
-use Rattle.iso_defs.specs.Grid.{Grid}
-use Rattle.crossing_edges.specs.Flags.{rank}
-use Rattle.flat_mesh.specs.Lattice.{heights}
+use Rattle.std.proofs.Common.{◌+◌, ◌/◌, ◌%◌, ◌<◌, subst, sym, arith, refl}
 use Rattle.stitch.specs.declared.corners.Corners.{Corners}
 use Rattle.stitch.specs.FourRows.{AreCorners, AreNear}
 use Rattle.stitch.proofs.CellRuns.{found_row}
 use Rattle.stitch.proofs.CornerRows.{kept_next}
-use Rattle.stitch.proofs.RankedRows.{rows_in}
 use Rattle.stitch.proofs.corners.rank_corners.Goals as goal
-
-pub rank_points-requires-clause-before : goal.rank_points-requires-clause-before
-rank_points-requires-clause-before c =
-    let v = c.args.field.now in
-    let y = c.row_at-y.result.0 in
-    let z = c.row_at-y.result.1 in
-    let at = found_row v c.sizes-sizes.result c.args.row y z c.sizes-sizes.ensures.value c.row_at-y.ensures.y c.row_at-y.ensures.z c.row_at-y.ensures.along c.row_at-y.ensures.across c.row_at-y.ensures.row in
-    let place : c.args.row + 1 ≡ y + 1 + v.grid.ny * z = let e = at.row_is in omega (arith, e) in
-    c.edges_before-before.ensures ∙ ap (λ n. rank v.grid (heights v) (3 * (v.grid.nx * n))) place
-
-pub edges_before-before-requires-2-clause-row : goal.edges_before-before-requires-2-clause-row
-edges_before-before-requires-2-clause-row c =
-    let v = c.args.field.now in
-    let at = found_row v c.sizes-sizes.result c.args.row c.row_at-y.result.0 c.row_at-y.result.1 c.sizes-sizes.ensures.value c.row_at-y.ensures.y c.row_at-y.ensures.z c.row_at-y.ensures.along c.row_at-y.ensures.across c.row_at-y.ensures.row in
-    let ny : c.ny.result ≡ v.grid.ny = c.ny.ensures.value ∙ ap (λ (g : Grid). g.ny) c.sizes-sizes.ensures.value in
-    let y = at.y_is in
-    let z = at.z_is in
-    let hy = c.requires.y in
-    let hz = c.requires.z in
-    omega (arith, rows_in v.grid c.row_at-y.result.0 c.row_at-y.result.1 (omega arith) (omega arith), at.row_is)
-
-pub rank_points-requires-2-clause-before : goal.rank_points-requires-2-clause-before
-rank_points-requires-2-clause-before c =
-    let v = c.args.field.now in
-    let y = c.row_at-y.result.0 in
-    let z = c.row_at-y.result.1 in
-    let at = found_row v c.sizes-sizes.result c.args.row y z c.sizes-sizes.ensures.value c.row_at-y.ensures.y c.row_at-y.ensures.z c.row_at-y.ensures.along c.row_at-y.ensures.across c.row_at-y.ensures.row in
-    let ny : c.ny.result ≡ v.grid.ny = c.ny.ensures.value ∙ ap (λ (g : Grid). g.ny) c.sizes-sizes.ensures.value in
-    let place : c.args.row + 1 + c.ny.result ≡ y + 1 + v.grid.ny * (z + 1) = let e = at.row_is in omega (arith, e, ny) in
-    c.edges_before-before-2.ensures ∙ ap (λ n. rank v.grid (heights v) (3 * (v.grid.nx * n))) place
 
 pub returns-clause-corners : goal.returns-clause-corners
 returns-clause-corners c =

@@ -1,7 +1,6 @@
 use Rattle.std.proofs.Common.{◌≡◌, ◌+◌, ◌-◌, ◌*◌, ◌<◌, ◌≤◌, ◌∙◌, rules, ℤ, w64, to_z, of_z, length, ap, sym, subst, arith}
 use Rattle.std.specs.Prelude.{int_le}
 use Rattle.std.proofs.lemmas.Int.{to_z-of_z}
-use Rattle.iso_base.specs.Shifted.{is_above_level}
 use Rattle.iso_defs.specs.Bricks.{bricks_along}
 use Rattle.iso_defs.specs.Grid.{Grid}
 use Rattle.flat_mesh.specs.Lattice.{heights}
@@ -87,13 +86,13 @@ pub brick_flags-requires-clause-least : goal.brick_flags-requires-clause-least
 brick_flags-requires-clause-least g c = λ s.
     let least : ℤ = c.least_above-least.result in
     let e : to_z w64 (of_z w64 least) ≡ least = search (rules, to_z-of_z) in
-    ap (λ l. int_le l s) e ∙ (c.least_above-least.ensures s ∙ ap (is_above_level s) c.level.ensures)
+    ap (λ l. int_le l s) e ∙ c.least_above-least.ensures s
 
 pub last_flags-requires-clause-least : goal.last_flags-requires-clause-least
 last_flags-requires-clause-least g c = λ s.
     let least : ℤ = c.least_above-least.result in
     let e : to_z w64 (of_z w64 least) ≡ least = search (rules, to_z-of_z) in
-    ap (λ l. int_le l s) e ∙ (c.least_above-least.ensures s ∙ ap (is_above_level s) c.level.ensures)
+    ap (λ l. int_le l s) e ∙ c.least_above-least.ensures s
 
 pub last_flags-requires-clause-before : goal.last_flags-requires-clause-before
 last_flags-requires-clause-before g c =

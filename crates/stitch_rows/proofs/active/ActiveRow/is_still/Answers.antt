@@ -2,12 +2,13 @@ use Rattle.std.proofs.Common.{◌≡◌, ◌≤◌, ap, arith}
 use Rattle.std.proofs.lemmas.Bool.{leb-true}
 use Rattle.iso_defs.specs.Bricks.{bricks_along}
 use Rattle.iso_defs.specs.Grid.{Grid}
-use Rattle.stitch_rows.proofs.StillRows.{first_noted, row_still}
+use Rattle.stitch_rows.proofs.StillRows.{noted_from, row_still}
 use Rattle.stitch_rows.proofs.active.ActiveRow.is_still.Goals as goal
 
 pub next-requires-clause-least : goal.next-requires-clause-least
 next-requires-clause-least c =
-    let next = first_noted c.args.field.now c.args.self.now c.args.y c.args.z c.requires.y c.requires.z c.requires.active c.requires.first c.sizes-sizes.ensures.leveled.grid in
+    let is = c.sizes-sizes.ensures.leveled.grid in
+    let next = noted_from c.args.field.now c.args.self.now c.args.y c.args.z c.requires.y c.requires.z c.requires.active c.requires.first is 0 (let least = is.x.least in omega arith) in
     omega (arith, next.least, c.requires.first)
 
 pub returns : goal.returns

@@ -1,0 +1,20 @@
+use Rattle.std.proofs.Common.{◌≡◌, ◌<◌, ◌≤◌, ap, arith}
+use Rattle.iso_defs.specs.Bricks.{bricks_along}
+use Rattle.iso_defs.specs.Grid.{Grid}
+use Rattle.stitch_rows.proofs.StillRows.{noted_from, still_none, still_to}
+use Rattle.stitch_rows.proofs.active.ActiveRow.next_from.Goals as goal
+
+pub next-requires-clause-least : goal.next-requires-clause-least
+next-requires-clause-least c =
+    let v = c.args.field.now in
+    let count : c.count_along.result ≡ bricks_along v.grid 0 = omega (arith, c.count_along.ensures.value, c.nx.ensures.value, ap (λ (g : Grid). g.nx) c.sizes-sizes.ensures.value) in
+    let low : c.args.x < bricks_along v.grid 0 = omega (arith, count, c.if-x-count_along.true) in
+    let next = noted_from v c.args.self.now c.args.y c.args.z c.requires.y c.requires.z c.requires.active c.requires.first c.sizes-sizes.ensures.leveled.grid c.args.x low in
+    omega (arith, next.least, c.requires.first)
+
+pub returns-then-x-count_along : goal.returns-then-x-count_along
+returns-then-x-count_along c =
+    let v = c.args.field.now in
+    let count : c.count_along.result ≡ bricks_along v.grid 0 = omega (arith, c.count_along.ensures.value, c.nx.ensures.value, ap (λ (g : Grid). g.nx) c.sizes-sizes.ensures.value) in
+    let low : c.args.x < bricks_along v.grid 0 = omega (arith, count, c.if-x-count_along.true) in
+    still_to v c.args.self.now c.args.y c.args.z c.requires.y c.requires.z c.requires.active c.requires.first c.args.x c.next.result c.sizes-sizes.ensures.leveled low c.next.ensures
