@@ -70,6 +70,8 @@ fn run_obj<H: Shelf, L: Ledger>(
 }
 
 /// Writes the volume to a file, with raw samples.
+// Apart, since the buffers that it has on the stack would else be reserved, page by page, for each line of a script.
+#[inline(never)]
 fn run_save<H: Shelf>(bench: &Bench, shelf: &mut H, name: &str) -> Response
     ensures { (steps : ℕ) → TakesTurn bench.now steps (H.seen shelf.old) (Command.Save name.now) (response_text result) bench.now steps (H.seen shelf.new) }
 {
@@ -91,6 +93,8 @@ fn run_savehex<H: Shelf>(bench: &Bench, shelf: &mut H, name: &str) -> Response
 }
 
 /// Writes the mesh of a box of points to a file.
+// Apart, since the buffers that it has on the stack would else be reserved, page by page, for each line of a script.
+#[inline(never)]
 fn run_window<H: Shelf>(
     bench: &Bench,
     shelf: &mut H,
