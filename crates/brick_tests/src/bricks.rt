@@ -111,11 +111,17 @@ fn check_first(rt: &impl Abort, store: &BrickStore)
     assert_eq!(rt; first, 10);
 }
 
-fn check_parts(rt: &impl Abort, store: &BrickStore)
+fn check_part(rt: &impl Abort, store: &BrickStore)
     requires { store.now.grid ≡ record { nx = 17; ny = 17; nz = 17 } }
 {
     let last = store.brick(BrickId(0)).part(720, 9);
-    assert_eq!(rt; (last.length(), last.at(7), last.at(8)), (9, 0, 10));
+    assert_eq!(rt; last.length(), 9);
+    assert_eq!(rt; (last.at(7), last.at(8)), (0, 10));
+}
+
+fn check_part_copy(rt: &impl Abort, store: &BrickStore)
+    requires { store.now.grid ≡ record { nx = 17; ny = 17; nz = 17 } }
+{
     let mut row = [0; 9];
     store.brick(BrickId(7)).part(0, 9).copy_to(&mut row);
     assert_eq!(rt; row, [10, 0, 0, 0, 0, 0, 0, 0, 0]);
@@ -132,7 +138,8 @@ fn check_row(rt: &impl Abort, store: &BrickStore)
 #[test]
 fn copies_of_a_sample(rt: HostRuntime) {
     let store = dotted(rt.alloc()).expect(&rt, "memory suffices");
-    check_parts(&rt, &store);
+    check_part(&rt, &store);
+    check_part_copy(&rt, &store);
     check_row(&rt, &store);
     check_first(&rt, &store);
 }

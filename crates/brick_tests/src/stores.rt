@@ -23,6 +23,17 @@ pub fn level_of(rt: &impl Abort, thousandths: i128) -> Level {
     Level::new(thousandths).expect(rt, "it is a level")
 }
 
+/// A volume of these sizes, all 0. Of any sizes, for the same reason.
+fn zeros_of(alloc: Global, sizes: Sizes) -> Result<BrickStore, Memory>
+    ensures grid { IfOk result (λ b. b.grid ≡ sizes) }
+    ensures kind { IfOk result (λ b. b.kind ≡ U8) }
+    ensures pad { IfOk result (λ b. b.pad ≡ None) }
+{
+    let samples = vec![in alloc; 0; sizes.count() as usize]?;
+    let data = VoxelData::new(sizes, SampleKind::U8, samples);
+    BrickStore::of(alloc, VoxelList::of(data))
+}
+
 /// Seventeen points along each axis, all 0: two bricks along each.
 pub fn zeros(alloc: Global) -> Result<BrickStore, Memory>
     ensures grid { IfOk result (λ b. b.grid ≡ record { nx = 17; ny = 17; nz = 17 }) }
@@ -32,9 +43,7 @@ pub fn zeros(alloc: Global) -> Result<BrickStore, Memory>
     let Some(sizes) = sizes_of(17, 17, 17) else {
         return Err(Memory);
     };
-    let samples = vec![in alloc; 0; 4913]?;
-    let data = VoxelData::new(sizes, SampleKind::U8, samples);
-    BrickStore::of(alloc, VoxelList::of(data))
+    zeros_of(alloc, sizes)
 }
 
 /// The same with 10 in the middle.
