@@ -3,7 +3,7 @@ use Rattle.std.proofs.Common.{◌≡◌, ℕ, ◌+◌, ◌-◌, ◌*◌, ◌<◌
 use Rattle.std.proofs.lemmas.Bool.{cases_lt}
 use Rattle.iso_defs.specs.Grid.{Grid, index, is_cell}
 use Rattle.iso_defs.specs.Signs.{is_crossing}
-use Rattle.iso_io.specs.Seen.{Tape}
+use Rattle.byte_streams.specs.Seen.{Tape}
 use Rattle.crossing_edges.specs.Flags.{flags_at}
 use Rattle.flat_mesh.specs.Faces.{loops_at}
 use Rattle.flat_mesh.specs.Lattice.{Leveled, heights}

@@ -60,7 +60,9 @@ pub record IsStill (v : Leveled) (y z : ℕ) : Type 0 where
 -- between them have no loops
 pub record AreStill (v : Leveled) (y z from next : ℕ) : Type 0 where
   pub least : from ≤ next
-  pub points : (x : ℕ) → x < v.grid.nx → 8 * from ≤ min x (v.grid.nx - 2) → min x (v.grid.nx - 2) < 8 * next → flags_at v.grid (heights v) (row_start v.grid y z + x) ≡ 0
+  pub points :
+      (x : ℕ) → x < v.grid.nx → 8 * from ≤ min x (v.grid.nx - 2) → min x (v.grid.nx - 2) < 8 * next
+      → flags_at v.grid (heights v) (row_start v.grid y z + x) ≡ 0
   pub cells : (x : ℕ) → x + 1 < v.grid.nx → 8 * from ≤ x → x < 8 * next → y + 1 < v.grid.ny → z + 1 < v.grid.nz → loops_at v (index v.grid x y z) ≡ []
 
 -- those of the first points, and of all where at most one more is left
