@@ -136,8 +136,8 @@ fn check_oldest(rt: &impl Abort, log: &mut EditLog) {
         let count = answer(log, Step::Push(old, old + 1));
         assert_eq!(rt; count, Some((old + 1).min(128)));
     }
-    for undone in 0..128 {
-        assert_eq!(rt; answer(log, Step::Undo), Some(128 - undone));
+    for old in (1..129).rev() {
+        assert_eq!(rt; answer(log, Step::Undo), Some(old));
     }
     assert_eq!(rt; answer(log, Step::Undo), None);
 }
