@@ -159,15 +159,16 @@ fn meshes_are_refused(rt: HostRuntime) {
     }
 }
 
-/// How many lines of the mesh are left, and the note on them.
-const CUT_MESHES: [(usize, &[u8]); 2] = [(8, b"3 bad header 9"), (9, b"7 short mesh 5 0")];
+/// The first lines of the mesh are refused with this note.
+fn check_cut(rt: &impl Abort, alloc: Global, lines: &[&[u8]], note: &[u8]) {
+    let mesh = changed(rt, alloc, lines, (14, b""), 0);
+    check_mesh(rt, alloc, "ply", &mesh, note);
+}
 
 #[test]
 fn meshes_that_are_cut_are_refused(rt: HostRuntime) {
-    for (left, note) in CUT_MESHES {
-        let mesh = changed(&rt, rt.alloc(), &MESH[..left], (14, b""), 0);
-        check_mesh(&rt, rt.alloc(), "ply", &mesh, note);
-    }
+    check_cut(&rt, rt.alloc(), &MESH[..8], b"3 bad header 9");
+    check_cut(&rt, rt.alloc(), &MESH[..9], b"7 short mesh 5 0");
 }
 
 /// Formats, whole meshes in them, and the notes on them.
