@@ -1,9 +1,9 @@
 ghost use Rattle.std.specs.Prelude.{◌≡◌, IfSome, None};
 
 use crate::asked::{
-    Edit, SaveAs, begin, change, contour, has_file, report, save, shelf, work, write,
+    Edit, SaveAs, begin, change, contour, has_bytes, has_file, report, save, shelf, work, write,
 };
-use bench_core::{Bench, BenchFault, Capacity, Part};
+use bench_core::{Bench, BenchFault, Capacity, Contours, Part, Report};
 use flat_mesh::{Mesh, extract_flat};
 use iso_base::{Level, Sizes, Written};
 use iso_io::{MemShelf, MemSink};
@@ -12,7 +12,6 @@ use mesh_write::put_mesh_as;
 use nrrd_read::read_volume;
 use std::alloc::Global;
 use std::process::Abort;
-use std::test::Fail;
 use volume_gen::generated;
 use voxel_list::VoxelList;
 
@@ -84,9 +83,8 @@ fn check_log(rt: &impl Abort, bench: &mut Bench) {
 }
 
 #[test]
-fn at_most_128_changes_are_undone_and_made_again(rt: HostRuntime) -> Result<(), Fail> {
-    check_log(&rt, &mut bench(rt.alloc()).ok_or("no bench")?);
-    Ok(())
+fn at_most_128_changes_are_undone_and_made_again(rt: HostRuntime) {
+    check_log(&rt, &mut bench(rt.alloc()).expect(&rt, "there is a bench"));
 }
 
 /// Changes that a bench of bytes without a past refuses.
@@ -118,9 +116,8 @@ fn check_refusals(rt: &impl Abort, bench: &mut Bench) {
 }
 
 #[test]
-fn refusals_have_their_reasons(rt: HostRuntime) -> Result<(), Fail> {
-    check_refusals(&rt, &mut bench(rt.alloc()).ok_or("no bench")?);
-    Ok(())
+fn refusals_have_their_reasons(rt: HostRuntime) {
+    check_refusals(&rt, &mut bench(rt.alloc()).expect(&rt, "there is a bench"));
 }
 
 pub fn mesh_of(vertices: u32, faces: u32, bytes: u64) -> Result<Written, BenchFault> {
@@ -146,29 +143,35 @@ fn check_mesh(
 
 fn check_meshes(rt: &impl Abort, bench: &mut Bench, shelf: &mut MemShelf) {
     let (ply, obj) = (TwoWayFormat::Ply, TwoWayFormat::Obj);
-    check_mesh(rt, bench, shelf, ("a", ply), mesh_of(3, 1, 216), ONE_FACE);
-    let failed = Err(BenchFault::ShelfFailed);
-    check_mesh(rt, bench, shelf, ("b", ply), failed, "");
-    check_mesh(
-        rt,
-        bench,
-        shelf,
-        ("c", obj),
-        mesh_of(3, 1, 68),
-        ONE_FACE_OBJ,
-    );
+    for (order, want, text) in [
+        (("a", ply), mesh_of(3, 1, 216), ONE_FACE),
+        (("b", ply), Err(BenchFault::ShelfFailed), ""),
+        (("c", obj), mesh_of(3, 1, 68), ONE_FACE_OBJ),
+    ] {
+        check_mesh(rt, bench, shelf, order, want, text);
+    }
+}
+
+/// The mesh where all is below the level.
+fn check_no_mesh(rt: &impl Abort, bench: &mut Bench, shelf: &mut MemShelf) {
     assert!(rt; change(bench, Edit::Level(11_000)).is_ok());
     work(bench, 9);
-    check_mesh(rt, bench, shelf, ("b", ply), mesh_of(0, 0, 154), NO_FACES);
+    let order = ("b", TwoWayFormat::Ply);
+    check_mesh(rt, bench, shelf, order, mesh_of(0, 0, 154), NO_FACES);
     assert!(rt; has_file(shelf, "a", ONE_FACE));
+}
+
+fn check_both(rt: &impl Abort, bench: &mut Bench, shelf: &mut MemShelf) {
+    check_meshes(rt, bench, shelf);
+    check_no_mesh(rt, bench, shelf);
 }
 
 /// The mesh of the corner, a shelf that fails once, and the mesh where all is below the level.
 #[test]
-fn meshes_go_to_the_shelf(rt: HostRuntime) -> Result<(), Fail> {
-    let mut shelf = shelf(rt.alloc(), &[4])?;
-    check_meshes(&rt, &mut bench(rt.alloc()).ok_or("no bench")?, &mut shelf);
-    Ok(())
+fn meshes_go_to_the_shelf(rt: HostRuntime) {
+    let mut shelf = shelf(rt.alloc(), &[4]).expect(&rt, "memory suffices");
+    let mut bench = bench(rt.alloc()).expect(&rt, "there is a bench");
+    check_both(&rt, &mut bench, &mut shelf);
 }
 
 /// A bench on three points along each axis, of which the one in the middle has the sample 10, at level 5.
@@ -195,23 +198,27 @@ fn drawn(alloc: Global, nx: u64, ny: u64, nz: u64) -> Option<VoxelList> {
     Some(VoxelList::of(generated(alloc, 0, &sizes).ok()?))
 }
 
-/// A bench on four points along each axis, whose samples are 0 or 1 as if by chance, at level 0.5.
-pub fn four_a_side(alloc: Global) -> Option<Bench> {
-    let mut bench = begin(alloc, drawn(alloc, 4, 4, 4)?, 500, capacity()?)?;
+/// Replaces the samples of four points along each axis by 0 or 1, as if by chance.
+fn draw_bits(bench: &mut Bench) {
     let mut seed: u64 = 1;
     for i in 0..64 {
         seed = next(seed);
         let point = [i % 4, i / 4 % 4, i / 16];
-        let _ = change(&mut bench, Edit::Set(point, (seed >> 63) as i64));
+        let _ = change(bench, Edit::Set(point, (seed >> 63) as i64));
     }
+}
+
+/// A bench on four points along each axis, whose samples are 0 or 1 as if by chance, at level 0.5.
+pub fn four_a_side(alloc: Global) -> Option<Bench> {
+    let mut bench = begin(alloc, drawn(alloc, 4, 4, 4)?, 500, capacity()?)?;
+    draw_bits(&mut bench);
     Some(bench)
 }
 
-/// A bench on 10, 10 and 3 zeros, which are four bricks, at level 0.5.
-fn four_bricks(alloc: Global, capacity: Capacity) -> Option<Bench> {
-    let mut bench = begin(alloc, drawn(alloc, 10, 10, 3)?, 500, capacity)?;
-    change(&mut bench, Edit::Fill([0, 0, 0, 9, 9, 2], 0)).ok()?;
-    Some(bench)
+/// A bench on 10, 10 and 3 points, which are four bricks, at level 0.5.
+fn four_bricks(alloc: Global, bricks: u32, pages: u32) -> Option<Bench> {
+    let capacity = Capacity::new(bricks, pages)?;
+    begin(alloc, drawn(alloc, 10, 10, 3)?, 500, capacity)
 }
 
 /// Replaces so many samples by 0 or 1, told by a seed.
@@ -230,36 +237,51 @@ fn scratch_mesh(alloc: Global, volume: &VoxelList, level: i128) -> Option<Mesh> 
     extract_flat(alloc, volume, Level::new(level)?).ok()
 }
 
+fn put_text(alloc: Global, mesh: &Mesh, sink: &mut MemSink) -> Option<Written> {
+    let mut waiting = Vec::with_capacity(alloc, 65_536).ok()?;
+    put_mesh_as(sink, &mut waiting, mesh, TwoWayFormat::Ply, false).ok()
+}
+
 fn text_of(alloc: Global, mesh: &Mesh) -> Option<MemSink> {
     let mut sink = MemSink::new(alloc, 65_536, Vec::new(alloc)).ok()?;
-    let mut waiting = Vec::with_capacity(alloc, 65_536).ok()?;
-    put_mesh_as(&mut sink, &mut waiting, mesh, TwoWayFormat::Ply, false).ok()?;
+    put_text(alloc, mesh, &mut sink)?;
     Some(sink)
+}
+
+fn scratch_text(alloc: Global, volume: &VoxelList, level: i128) -> Option<MemSink> {
+    text_of(alloc, &scratch_mesh(alloc, volume, level)?)
 }
 
 /// Whether the file `mesh` is the extraction from scratch of the volume that is in the file `volume`.
 fn is_from_scratch(alloc: Global, shelf: &MemShelf, level: i128) -> Option<bool> {
     let volume = volume_of(alloc, shelf.file("volume")?)?;
-    let text = text_of(alloc, &scratch_mesh(alloc, &volume, level)?)?;
-    Some(shelf.file("mesh")? == text.bytes())
+    let text = scratch_text(alloc, &volume, level)?;
+    Some(has_bytes(shelf, "mesh", text.bytes()))
+}
+
+fn check_written(rt: &impl Abort, bench: &mut Bench, shelf: &mut MemShelf) {
+    assert!(rt; write(bench, shelf, "mesh", TwoWayFormat::Ply).is_ok());
+    assert!(rt; save(bench, shelf, "volume", SaveAs::Raw).is_ok());
 }
 
 /// Writes the mesh and the volume, and compares.
-fn check_files(rt: &impl Abort, alloc: Global, bench: &mut Bench, level: i128) -> Result<(), Fail> {
-    let mut shelf = shelf(alloc, &[])?;
-    assert!(rt; write(bench, &mut shelf, "mesh", TwoWayFormat::Ply).is_ok());
-    assert!(rt; save(bench, &mut shelf, "volume", SaveAs::Raw).is_ok());
+fn check_files(rt: &impl Abort, alloc: Global, bench: &mut Bench, level: i128) {
+    let mut shelf = shelf(alloc, &[]).expect(rt, "memory suffices");
+    check_written(rt, bench, &mut shelf);
     assert_eq!(rt; is_from_scratch(alloc, &shelf, level), Some(true));
-    Ok(())
 }
 
-/// Writes after changes here and there, refresh turns, undo and redo, and after a change of the level.
-fn check_script(rt: &impl Abort, alloc: Global, bench: &mut Bench) -> Result<(), Fail> {
+/// Writes after changes here and there and refresh turns.
+fn check_scatters(rt: &impl Abort, alloc: Global, bench: &mut Bench) {
     scatter(bench, 1, 200);
     work(bench, 2);
-    check_files(rt, alloc, bench, 500)?;
+    check_files(rt, alloc, bench, 500);
     scatter(bench, 2, 3);
-    check_files(rt, alloc, bench, 500)?;
+    check_files(rt, alloc, bench, 500);
+}
+
+/// Writes after each of undo, redo, a filled box and a change of the level.
+fn check_edits(rt: &impl Abort, alloc: Global, bench: &mut Bench) {
     for (asked, level) in [
         (Edit::Undo, 500),
         (Edit::Redo, 500),
@@ -267,24 +289,28 @@ fn check_script(rt: &impl Abort, alloc: Global, bench: &mut Bench) -> Result<(),
         (Edit::Level(250), 250),
     ] {
         assert_eq!(rt; change(bench, asked), Ok(()), "{asked:?}");
-        check_files(rt, alloc, bench, level)?;
+        check_files(rt, alloc, bench, level);
     }
-    Ok(())
 }
 
-fn check_extractions(rt: &impl Abort, alloc: Global, bricks: u32, pages: u32) -> Result<(), Fail> {
-    let capacity = Capacity::new(bricks, pages).ok_or("capacity")?;
-    check_script(
-        rt,
-        alloc,
-        &mut four_bricks(alloc, capacity).ok_or("no bench")?,
-    )
+/// From zeros on.
+fn check_script(rt: &impl Abort, alloc: Global, bench: &mut Bench) {
+    let zeros = Edit::Fill([0, 0, 0, 9, 9, 2], 0);
+    assert_eq!(rt; change(bench, zeros), Ok(()));
+    check_scatters(rt, alloc, bench);
+    check_edits(rt, alloc, bench);
 }
 
 #[test]
-fn files_are_extractions(rt: HostRuntime) -> Result<(), Fail> {
-    check_extractions(&rt, rt.alloc(), 4096, 65_536)?;
-    check_extractions(&rt, rt.alloc(), 1, 16)
+fn files_are_extractions(rt: HostRuntime) {
+    let mut bench = four_bricks(rt.alloc(), 4096, 65_536).expect(&rt, "there is a bench");
+    check_script(&rt, rt.alloc(), &mut bench);
+}
+
+#[test]
+fn files_are_extractions_where_little_is_kept(rt: HostRuntime) {
+    let mut bench = four_bricks(rt.alloc(), 1, 16).expect(&rt, "there is a bench");
+    check_script(&rt, rt.alloc(), &mut bench);
 }
 
 /// The dot as each kind of file, where two calls of the shelf fail.
@@ -302,64 +328,63 @@ fn check_saves(rt: &impl Abort, bench: &Bench, shelf: &mut MemShelf) {
 }
 
 #[test]
-fn volumes_go_to_the_shelf(rt: HostRuntime) -> Result<(), Fail> {
-    let mut shelf = shelf(rt.alloc(), &[2, 10])?;
-    check_saves(&rt, &dot_bench(rt.alloc()).ok_or("no bench")?, &mut shelf);
-    Ok(())
+fn volumes_go_to_the_shelf(rt: HostRuntime) {
+    let mut shelf = shelf(rt.alloc(), &[2, 10]).expect(&rt, "memory suffices");
+    check_saves(
+        &rt,
+        &dot_bench(rt.alloc()).expect(&rt, "there is a bench"),
+        &mut shelf,
+    );
 }
 
 #[test]
-fn volumes_go_to_the_shelf_without_their_pad(rt: HostRuntime) -> Result<(), Fail> {
-    let mut shelf = shelf(rt.alloc(), &[2, 10])?;
+fn volumes_go_to_the_shelf_without_their_pad(rt: HostRuntime) {
+    let mut shelf = shelf(rt.alloc(), &[2, 10]).expect(&rt, "memory suffices");
     check_saves(
         &rt,
-        &padded_bench(rt.alloc()).ok_or("no bench")?,
+        &padded_bench(rt.alloc()).expect(&rt, "there is a bench"),
         &mut shelf,
     );
-    Ok(())
 }
 
-/// The only line of a plane is a cycle of four points from this one.
-fn check_cycle(rt: &impl Abort, bench: &Bench, first: (i64, i64)) -> Result<(), Fail> {
-    let contours = contour(bench, 1).ok().ok_or("no lines")?;
+/// The only line is a cycle of four points from this one.
+fn check_line(rt: &impl Abort, contours: &Contours, first: (i64, i64)) {
     let lines = contours.lines();
     assert_eq!(rt; lines.len(), 1);
     assert!(rt; lines[0].cycle());
     let points = lines[0].points();
     assert_eq!(rt; points.len(), 4);
     assert_eq!(rt; (points[0].1.0, points[0].2.0), first);
-    Ok(())
+}
+
+fn check_cycle(rt: &impl Abort, bench: &Bench, first: (i64, i64)) {
+    let contours = contour(bench, 1).expect(rt, "there are lines");
+    check_line(rt, &contours, first);
 }
 
 /// The middle plane has one line, and those off the volume are refused.
-fn check_planes(
-    rt: &impl Abort,
-    bench: &Bench,
-    is_padded: bool,
-    first: (i64, i64),
-) -> Result<(), Fail> {
+fn check_planes(rt: &impl Abort, bench: &Bench, is_padded: bool, first: (i64, i64)) {
     assert_eq!(rt; bench.is_padded(), is_padded);
     for k in [3, -1] {
         let fault = contour(bench, k).err();
         assert_eq!(rt; fault, Some(BenchFault::NoSuchPlane { k }));
     }
-    check_cycle(rt, bench, first)
+    check_cycle(rt, bench, first);
 }
 
 #[test]
-fn the_middle_plane_has_one_line(rt: HostRuntime) -> Result<(), Fail> {
-    let bench = dot_bench(rt.alloc()).ok_or("no bench")?;
-    check_planes(&rt, &bench, false, (1000, 500))
+fn the_middle_plane_has_one_line(rt: HostRuntime) {
+    let bench = dot_bench(rt.alloc()).expect(&rt, "there is a bench");
+    check_planes(&rt, &bench, false, (1000, 500));
 }
 
 #[test]
-fn the_middle_plane_in_a_pad_has_one_line(rt: HostRuntime) -> Result<(), Fail> {
-    let bench = padded_bench(rt.alloc()).ok_or("no bench")?;
-    check_planes(&rt, &bench, true, (2000, 1500))
+fn the_middle_plane_in_a_pad_has_one_line(rt: HostRuntime) {
+    let bench = padded_bench(rt.alloc()).expect(&rt, "there is a bench");
+    check_planes(&rt, &bench, true, (2000, 1500));
 }
 
-fn check_sphere(rt: &impl Abort, bench: &Bench) -> Result<(), Fail> {
-    let report = report(bench).ok().ok_or("no report")?;
+fn check_parts(rt: &impl Abort, report: &Report) {
     let sphere = Part {
         least: 0,
         vertices: 6,
@@ -370,10 +395,14 @@ fn check_sphere(rt: &impl Abort, bench: &Bench) -> Result<(), Fail> {
     };
     assert_eq!(rt; *report.total(), sphere);
     assert_eq!(rt; report.parts(), [sphere].as_slice());
-    Ok(())
+}
+
+fn check_sphere(rt: &impl Abort, bench: &Bench) {
+    let report = report(bench).expect(rt, "there is a report");
+    check_parts(rt, &report);
 }
 
 #[test]
-fn the_mesh_round_the_middle_is_one_sphere(rt: HostRuntime) -> Result<(), Fail> {
-    check_sphere(&rt, &dot_bench(rt.alloc()).ok_or("no bench")?)
+fn the_mesh_round_the_middle_is_one_sphere(rt: HostRuntime) {
+    check_sphere(&rt, &dot_bench(rt.alloc()).expect(&rt, "there is a bench"));
 }

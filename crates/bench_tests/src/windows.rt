@@ -11,7 +11,6 @@ use mesh_read::read_ply;
 use mesh_text::TwoWayFormat;
 use std::alloc::{AllocError, Global};
 use std::process::Abort;
-use std::test::Fail;
 
 const ONE_FACE_OFF: &str =
     "OFF\n3 1 0\n0.500 0.000 0.000\n0.000 0.500 0.000\n0.000 0.000 0.500\n3 0 1 2\n";
@@ -34,10 +33,13 @@ fn check_corner(rt: &impl Abort, bench: &Bench, shelf: &mut MemShelf) {
 }
 
 #[test]
-fn a_corner_in_off_and_vtk(rt: HostRuntime) -> Result<(), Fail> {
-    let mut shelf = shelf(rt.alloc(), &[])?;
-    check_corner(&rt, &bench(rt.alloc()).ok_or("no bench")?, &mut shelf);
-    Ok(())
+fn a_corner_in_off_and_vtk(rt: HostRuntime) {
+    let mut shelf = shelf(rt.alloc(), &[]).expect(&rt, "memory suffices");
+    check_corner(
+        &rt,
+        &bench(rt.alloc()).expect(&rt, "there is a bench"),
+        &mut shelf,
+    );
 }
 
 /// The verdict on the file `w`.
@@ -53,13 +55,16 @@ fn verdict_on(alloc: Global, shelf: &MemShelf) -> Option<Verdict> {
     verdict(alloc, &triangles).ok()
 }
 
-/// The windows of a dot among three points along each axis. Those that are refused leave the file before them.
-fn check_dot(rt: &impl Abort, alloc: Global, bench: &Bench) -> Result<(), Fail> {
-    let mut shelf = shelf(alloc, &[])?;
-    let ply = window(bench, &mut shelf, [1, 1, 1, 2, 2, 2], MeshFormat::Ply);
+/// The window of a dot among three points along each axis has a border of three edges.
+fn check_border(rt: &impl Abort, alloc: Global, bench: &Bench, shelf: &mut MemShelf) {
+    let ply = window(bench, shelf, [1, 1, 1, 2, 2, 2], MeshFormat::Ply);
     assert_eq!(rt; ply, mesh_of(3, 1, 216));
     let border = Verdict::Border { edges: 3 };
-    assert_eq!(rt; verdict_on(alloc, &shelf), Some(border));
+    assert_eq!(rt; verdict_on(alloc, shelf), Some(border));
+}
+
+/// Windows that are refused leave the file before them.
+fn check_refusals(rt: &impl Abort, bench: &Bench, shelf: &mut MemShelf) {
     for (corners, want) in [
         ([2, 1, 2, 1, 2, 1], mesh_of(3, 1, 68)),
         (
@@ -69,25 +74,34 @@ fn check_dot(rt: &impl Abort, alloc: Global, bench: &Bench) -> Result<(), Fail> 
         ([0, 0, 0, 3, 1, 1], Err(BenchFault::Outside)),
         ([0, 0, -1, 0, 0, 0], Err(BenchFault::Outside)),
     ] {
-        let obj = window(bench, &mut shelf, corners, MeshFormat::Obj);
+        let obj = window(bench, shelf, corners, MeshFormat::Obj);
         assert_eq!(rt; obj, want, "{corners:?}");
-        assert!(rt; has_file(&shelf, "w", LAST_FACE_OBJ), "{corners:?}");
+        assert!(rt; has_file(shelf, "w", LAST_FACE_OBJ), "{corners:?}");
     }
-    Ok(())
+}
+
+fn check_dot(rt: &impl Abort, alloc: Global, bench: &Bench) {
+    let mut shelf = shelf(alloc, &[]).expect(rt, "memory suffices");
+    check_border(rt, alloc, bench, &mut shelf);
+    check_refusals(rt, bench, &mut shelf);
 }
 
 #[test]
-fn a_dot(rt: HostRuntime) -> Result<(), Fail> {
-    check_dot(&rt, rt.alloc(), &dot_bench(rt.alloc()).ok_or("no bench")?)
-}
-
-#[test]
-fn a_dot_in_a_pad(rt: HostRuntime) -> Result<(), Fail> {
+fn a_dot(rt: HostRuntime) {
     check_dot(
         &rt,
         rt.alloc(),
-        &padded_bench(rt.alloc()).ok_or("no bench")?,
-    )
+        &dot_bench(rt.alloc()).expect(&rt, "there is a bench"),
+    );
+}
+
+#[test]
+fn a_dot_in_a_pad(rt: HostRuntime) {
+    check_dot(
+        &rt,
+        rt.alloc(),
+        &padded_bench(rt.alloc()).expect(&rt, "there is a bench"),
+    );
 }
 
 /// The thousandths of a coordinate with three decimals.
@@ -147,6 +161,10 @@ fn number_in(part: &Part, word: &str) -> Option<u32> {
     *part.numbers.get(old as usize)?
 }
 
+fn add_number(alloc: Global, line: &mut String, number: u32) -> Result<(), AllocError> {
+    line.push_str(&format!(in alloc; " {number}")?)
+}
+
 /// The line of a face by the numbers of the part; none where a corner of it has none.
 fn face_line(alloc: Global, part: &Part, face: &str) -> Result<Option<String>, AllocError> {
     let mut line = String::from_str(alloc, "3")?;
@@ -154,17 +172,17 @@ fn face_line(alloc: Global, part: &Part, face: &str) -> Result<Option<String>, A
         let Some(number) = number_in(part, word) else {
             return Ok(None);
         };
-        line.push_str(&format!(in alloc; " {number}")?)?;
+        add_number(alloc, &mut line, number)?;
     }
     Ok(Some(line))
 }
 
 fn add_face(alloc: Global, part: &mut Part, face: &str) -> Result<(), AllocError> {
-    if let Some(line) = face_line(alloc, part, face)? {
-        push_line(&mut part.lines, &line)?;
-        part.faces = part.faces.wrapping_add(1);
-    }
-    Ok(())
+    let Some(line) = face_line(alloc, part, face)? else {
+        return Ok(());
+    };
+    part.faces = part.faces.wrapping_add(1);
+    push_line(&mut part.lines, &line)
 }
 
 /// Adds the lines of the whole mesh as PLY: the vertices in the box, and the faces whose corners are all among them.
@@ -185,6 +203,21 @@ fn gather(
     Ok(())
 }
 
+fn gathered(alloc: Global, whole: &str, low: [u32; 3], high: [u32; 3]) -> Result<Part, AllocError> {
+    let mut part = Part {
+        lines: String::new(alloc),
+        numbers: Vec::new(alloc),
+        vertices: 0,
+        faces: 0,
+    };
+    gather(alloc, &mut part, whole, low, high)?;
+    Ok(part)
+}
+
+fn text_of(alloc: Global, part: &Part) -> Result<String, AllocError> {
+    format!(in alloc; "OFF\n{} {} 0\n{}", part.vertices, part.faces, part.lines)
+}
+
 /// The part of a mesh in a box as OFF. Each crossing lies in the middle of its edge, so a cell beside the box has a corner
 /// outside of it.
 fn part_of(
@@ -193,14 +226,7 @@ fn part_of(
     low: [u32; 3],
     high: [u32; 3],
 ) -> Result<String, AllocError> {
-    let mut part = Part {
-        lines: String::new(alloc),
-        numbers: Vec::new(alloc),
-        vertices: 0,
-        faces: 0,
-    };
-    gather(alloc, &mut part, whole, low, high)?;
-    format!(in alloc; "OFF\n{} {} 0\n{}", part.vertices, part.faces, part.lines)
+    text_of(alloc, &gathered(alloc, whole, low, high)?)
 }
 
 /// Opposite corners of a box.
@@ -221,23 +247,28 @@ fn is_part(
     Ok(written.is_ok() && has_file(shelf, "w", &part))
 }
 
-/// How many boxes of four points along each axis have another window.
+/// One of four points along each axis.
+fn point(number: u32) -> [u32; 3] {
+    [number % 4, number / 4 % 4, number / 16]
+}
+
+fn is_below(low: [u32; 3], high: [u32; 3]) -> bool {
+    low[0] < high[0] && low[1] < high[1] && low[2] < high[2]
+}
+
+/// How many boxes of four points along each axis have another window, of those from one point.
 fn boxes_apart(
     alloc: Global,
     bench: &Bench,
     shelf: &mut MemShelf,
     whole: &str,
+    low: [u32; 3],
 ) -> Result<u32, AllocError> {
     let mut apart: u32 = 0;
-    for first in 0..64u32 {
-        for last in 0..64u32 {
-            let low = [first % 4, first / 4 % 4, first / 16];
-            let high = [last % 4, last / 4 % 4, last / 16];
-            if low[0] < high[0] && low[1] < high[1] && low[2] < high[2] {
-                if !is_part(alloc, bench, shelf, whole, (low, high))? {
-                    apart = apart.wrapping_add(1);
-                }
-            }
+    for last in 0..64 {
+        let high = point(last);
+        if is_below(low, high) && !is_part(alloc, bench, shelf, whole, (low, high))? {
+            apart = apart.wrapping_add(1);
         }
     }
     Ok(apart)
@@ -250,23 +281,26 @@ fn body_of(shelf: &MemShelf) -> Option<&str> {
     Some(body)
 }
 
-/// Writes the whole mesh, which has more than a hundred faces, and looks at its boxes.
-fn check_boxes(
-    rt: &impl Abort,
-    alloc: Global,
-    bench: &mut Bench,
-    shelf: &mut MemShelf,
-) -> Result<(), Fail> {
+/// The whole mesh, which has more than a hundred faces.
+fn whole_mesh(rt: &impl Abort, alloc: Global, bench: &mut Bench, shelf: &mut MemShelf) -> String {
     let written = write(bench, shelf, "w", TwoWayFormat::Ply);
     assert!(rt; written.is_ok_and(|written| written.faces > 100));
-    let whole = String::from_str(alloc, body_of(shelf).ok_or("no text")?)?;
-    assert_eq!(rt; boxes_apart(alloc, bench, shelf, &whole)?, 0);
-    Ok(())
+    let body = body_of(shelf).expect(rt, "there is a text");
+    String::from_str(alloc, body).expect(rt, "memory suffices")
+}
+
+/// Writes the whole mesh, and looks at its boxes.
+fn check_boxes(rt: &impl Abort, alloc: Global, bench: &mut Bench, shelf: &mut MemShelf) {
+    let whole = whole_mesh(rt, alloc, bench, shelf);
+    for first in 0..64 {
+        let apart = boxes_apart(alloc, bench, shelf, &whole, point(first));
+        assert_eq!(rt; apart.ok(), Some(0), "from {first}");
+    }
 }
 
 #[test]
-fn each_box_of_a_volume(rt: HostRuntime) -> Result<(), Fail> {
-    let mut shelf = shelf(rt.alloc(), &[])?;
-    let mut bench = four_a_side(rt.alloc()).ok_or("no bench")?;
-    check_boxes(&rt, rt.alloc(), &mut bench, &mut shelf)
+fn each_box_of_a_volume(rt: HostRuntime) {
+    let mut shelf = shelf(rt.alloc(), &[]).expect(&rt, "memory suffices");
+    let mut bench = four_a_side(rt.alloc()).expect(&rt, "there is a bench");
+    check_boxes(&rt, rt.alloc(), &mut bench, &mut shelf);
 }

@@ -1,4 +1,5 @@
-ghost use Rattle.std.specs.Prelude.{◌≡◌, IfSome, IfOk, None};
+//! Boxes that are filled and put back, and the log of changes.
+ghost use Rattle.std.specs.Prelude.{◌≡◌, IfOk, None};
 ghost use Rattle.iso_base.specs.declared.kind.SampleKind.TheVariants.{U8};
 ghost use Rattle.iso_base.specs.Points.{IsPoint};
 
@@ -7,14 +8,8 @@ use brick_store::BrickStore;
 use edit_log::{Change, EditLog, Runs, fill_area};
 use iso_base::{Level, Memory, Point, SampleKind, Sizes, VoxelData};
 use std::alloc::Global;
-use std::test::Fail;
+use std::process::Abort;
 use voxel_list::{FillBox, VoxelList};
-
-fn sizes() -> Option<Sizes>
-    ensures { IfSome result (λ g. g ≡ record { nx = 3; ny = 2; nz = 2 }) }
-{
-    sizes_of(3, 2, 2)
-}
 
 /// Samples 0 to 11 on a grid of 3, 2 and 2 points.
 fn store(alloc: Global, sizes: Sizes) -> Result<BrickStore, Memory>
@@ -30,6 +25,14 @@ fn store(alloc: Global, sizes: Sizes) -> Result<BrickStore, Memory>
     )
 }
 
+/// The samples of the first point of a box and of its last one.
+fn ends(store: &BrickStore, area: &FillBox) -> (i64, i64)
+    requires high { IsPoint store.now.grid area.now.high }
+    requires low { IsPoint store.now.grid area.now.low }
+{
+    (store.get(area.low()), store.get(area.high()))
+}
+
 /// Whether a box of a volume without a pad, filled and put back, has its samples again, and whether it was filled.
 fn is_put_back(alloc: Global, store: &mut BrickStore, area: &FillBox) -> Result<bool, Memory>
     requires high { IsPoint store.old.grid area.now.high }
@@ -37,34 +40,49 @@ fn is_put_back(alloc: Global, store: &mut BrickStore, area: &FillBox) -> Result<
     requires kind { store.old.kind ≡ U8 }
     requires pad { store.old.pad ≡ None }
 {
-    let _ = store.sizes();
-    let (first, last) = (store.get(area.low()), store.get(area.high()));
+    let _ = (store.sizes(), area.low());
+    let before = ends(store, area);
     let old = Runs::of(alloc, store, area)?;
     fill_area(store, area, &7);
-    let filled = store.get(area.low()) == 7 && store.get(area.high()) == 7;
+    let filled = ends(store, area);
     old.write_back(store, area);
-    Ok(filled && store.get(area.low()) == first && store.get(area.high()) == last)
+    Ok(filled == (7, 7) && ends(store, area) == before)
+}
+
+/// Whether a box of six of the twelve samples is filled and put back.
+fn box_is_put_back(alloc: Global) -> Result<bool, Memory> {
+    let Some(sizes) = sizes_of(3, 2, 2) else {
+        return Err(Memory);
+    };
+    let low = Point { x: 2, y: 0, z: 1 };
+    let high = Point { x: 1, y: 1, z: 0 };
+    let area = FillBox::between(&sizes, low, high);
+    let mut store = store(alloc, sizes)?;
+    is_put_back(alloc, &mut store, &area)
 }
 
 #[test]
-fn a_box_is_filled_and_put_back(rt: HostRuntime) -> Result<(), Fail> {
-    let sizes = sizes().ok_or("no sizes")?;
-    let mut store = store(rt.alloc(), sizes).ok().ok_or("memory")?;
-    let area = FillBox::between(
-        &sizes,
-        Point { x: 2, y: 0, z: 1 },
-        Point { x: 1, y: 1, z: 0 },
-    );
-    let back = is_put_back(rt.alloc(), &mut store, &area);
-    assert_eq!(rt; back, Ok(true));
-    Ok(())
+fn a_box_is_filled_and_put_back(rt: HostRuntime) {
+    assert_eq!(rt; box_is_put_back(rt.alloc()), Ok(true));
 }
+
+/// What a log is asked for.
+#[derive(Clone, Copy, Debug)]
+enum Step {
+    /// To take a change from one level to another, in thousandths.
+    Push(i64, i64),
+    Undo,
+    Redo,
+}
+
+/// What stands for a change of something else than the level.
+const NO_LEVEL: i64 = -1;
 
 /// The level that a change of the level leads back to.
 fn old_level(change: Option<&Change>) -> Option<i64> {
-    match change {
-        Some(Change::LevelWas { old, .. }) => Some(old.value()),
-        _ => None,
+    match change? {
+        Change::LevelWas { old, .. } => Some(old.value()),
+        _ => Some(NO_LEVEL),
     }
 }
 
@@ -75,35 +93,57 @@ fn level_change(old: i64, new: i64) -> Option<Change> {
     })
 }
 
-#[test]
-fn changes_are_undone_and_made_again(rt: HostRuntime) -> Result<(), Fail> {
-    let mut log = EditLog::new(rt.alloc()).ok().ok_or("memory")?;
-    assert!(rt; log.undo().is_none());
-    log.push(level_change(1, 2).ok_or("no level")?);
-    log.push(level_change(2, 3).ok_or("no level")?);
-    assert_eq!(rt; log.length(), 2);
-    assert_eq!(rt; old_level(log.undo()), Some(2));
-    assert_eq!(rt; old_level(log.undo()), Some(1));
-    assert_eq!(rt; old_level(log.undo()), None);
-    assert_eq!(rt; old_level(log.redo()), Some(1));
-    log.push(level_change(2, 9).ok_or("no level")?);
-    assert!(rt; log.redo().is_none());
-    assert_eq!(rt; log.length(), 2);
-    assert_eq!(rt; old_level(log.undo()), Some(2));
-    Ok(())
+/// How many changes a log has behind a push, or the level that the change that it hands out leads back to.
+fn answer(log: &mut EditLog, step: Step) -> Option<i64> {
+    match step {
+        Step::Push(old, new) => {
+            log.push(level_change(old, new)?);
+            Some(i64::from(log.length()))
+        }
+        Step::Undo => old_level(log.undo()),
+        Step::Redo => old_level(log.redo()),
+    }
+}
+
+/// Steps with a new log, and what it answers.
+const STEPS: [(Step, Option<i64>); 10] = [
+    (Step::Undo, None),
+    (Step::Push(1, 2), Some(1)),
+    (Step::Push(2, 3), Some(2)),
+    (Step::Undo, Some(2)),
+    (Step::Undo, Some(1)),
+    (Step::Undo, None),
+    (Step::Redo, Some(1)),
+    (Step::Push(2, 9), Some(2)),
+    (Step::Redo, None),
+    (Step::Undo, Some(2)),
+];
+
+fn check_steps(rt: &impl Abort, log: &mut EditLog) {
+    for (step, wanted) in STEPS {
+        assert_eq!(rt; answer(log, step), wanted, "{step:?}");
+    }
 }
 
 #[test]
-fn the_oldest_of_129_is_dropped(rt: HostRuntime) -> Result<(), Fail> {
-    let mut log = EditLog::new(rt.alloc()).ok().ok_or("memory")?;
+fn changes_are_undone_and_made_again(rt: HostRuntime) {
+    let mut log = EditLog::new(rt.alloc()).expect(&rt, "memory suffices");
+    check_steps(&rt, &mut log);
+}
+
+fn check_oldest(rt: &impl Abort, log: &mut EditLog) {
     for old in 0..129 {
-        log.push(level_change(old, old + 1).ok_or("no level")?);
+        let count = answer(log, Step::Push(old, old + 1));
+        assert_eq!(rt; count, Some((old + 1).min(128)));
     }
-    assert_eq!(rt; log.length(), 128);
-    for _ in 0..127 {
-        assert!(rt; log.undo().is_some());
+    for old in (1..129).rev() {
+        assert_eq!(rt; answer(log, Step::Undo), Some(old));
     }
-    assert_eq!(rt; old_level(log.undo()), Some(1));
-    assert!(rt; log.undo().is_none());
-    Ok(())
+    assert_eq!(rt; answer(log, Step::Undo), None);
+}
+
+#[test]
+fn the_oldest_of_129_is_dropped(rt: HostRuntime) {
+    let mut log = EditLog::new(rt.alloc()).expect(&rt, "memory suffices");
+    check_oldest(&rt, &mut log);
 }

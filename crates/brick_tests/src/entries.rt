@@ -1,7 +1,7 @@
 //! Entries of bricks, and the cases of their rows.
-ghost use Rattle.std.specs.Prelude.{◌≡◌, ◌<◌, IfOk, IfSome};
+ghost use Rattle.std.specs.Prelude.{◌≡◌, ◌<◌, IfOk};
 
-use crate::stores::sizes_of;
+use crate::stores::{level_of, sizes_of};
 use arrayvec::ArrayVec;
 use brick_mesh::{extract_brick, extract_row};
 use brick_store::{BrickId, BrickStore};
@@ -9,33 +9,19 @@ use iso_base::{Level, Memory, Point, SampleKind, Sizes, Steps, VoxelData};
 use kept_mesh::count_entries;
 use std::alloc::Global;
 use std::marker::Brand;
+use std::process::Abort;
 use std::sync::ledger::{Blank, Ledger};
-use std::test::Fail;
 use volume_gen::generated;
 use voxel_list::VoxelList;
 
-fn sizes() -> Option<Sizes>
-    ensures { IfSome result (λ g. g ≡ record { nx = 2; ny = 2; nz = 2 }) }
-{
-    sizes_of(2, 2, 2)
-}
-
-/// One cell, whose lowest face is ambiguous at level 5: its products are 4 and 4, a tie.
-fn tie(alloc: Global, sizes: Sizes) -> Result<BrickStore, Memory>
-    requires { sizes ≡ record { nx = 2; ny = 2; nz = 2 } }
+/// One cell, whose lowest face is ambiguous at level 5: its products are 4 and 5 less its third sample.
+fn one_cell(alloc: Global, third: u8) -> Result<BrickStore, Memory>
     ensures { IfOk result (λ store. store.grid ≡ record { nx = 2; ny = 2; nz = 2 }) }
 {
-    let samples = vec![in alloc; 7, 4, 1, 7, 4, 4, 4, 4]?;
-    let volume = VoxelList::of(VoxelData::new(sizes, SampleKind::U8, samples));
-    BrickStore::of(alloc, volume)
-}
-
-/// The same cell with the products 4 and 5.
-fn no_tie(alloc: Global, sizes: Sizes) -> Result<BrickStore, Memory>
-    requires { sizes ≡ record { nx = 2; ny = 2; nz = 2 } }
-    ensures { IfOk result (λ store. store.grid ≡ record { nx = 2; ny = 2; nz = 2 }) }
-{
-    let samples = vec![in alloc; 7, 4, 0, 7, 4, 4, 4, 4]?;
+    let Some(sizes) = sizes_of(2, 2, 2) else {
+        return Err(Memory);
+    };
+    let samples = vec![in alloc; 7, 4, i64::from(third), 7, 4, 4, 4, 4]?;
     let volume = VoxelList::of(VoxelData::new(sizes, SampleKind::U8, samples));
     BrickStore::of(alloc, volume)
 }
@@ -59,38 +45,47 @@ fn extract<L: Ledger>(
     extract_row(store, BrickId(0), 0, 0, level, rows, &mut steps);
 }
 
-#[test]
-fn a_tie_on_the_lowest_face(rt: HostRuntime) {
-    let sizes = sizes().expect(&rt, "2, 2 and 2 are sizes");
-    let store = tie(rt.alloc(), sizes).expect(&rt, "memory suffices");
-    let level = Level::new(5_000).expect(&rt, "5 is a level");
-    let (mut entries, mut rows) = (ArrayVec::new(), ArrayVec::new());
-    extract::<Brand>(&store, level, &mut entries, &mut rows, Blank::new(1));
-    assert_eq!(rt; entries.as_slice(), [11].as_slice());
-    assert_eq!(rt; rows.as_slice(), [11].as_slice());
+/// The same, with a counter of its own.
+fn extracted(
+    store: &BrickStore,
+    level: Level,
+    entries: &mut ArrayVec<u32, 512>,
+    rows: &mut ArrayVec<u16, 8>,
+)
+    requires { store.now.grid ≡ record { nx = 2; ny = 2; nz = 2 } }
+{
+    extract::<Brand>(store, level, entries, rows, Blank::new(1));
 }
 
+/// The entries of the brick of one cell, and the case of its only row, at a level in thousandths.
+fn check_cell(rt: &impl Abort, store: &BrickStore, level: i128, found: &[u32], case: u16)
+    requires { store.now.grid ≡ record { nx = 2; ny = 2; nz = 2 } }
+{
+    let (mut entries, mut rows) = (ArrayVec::new(), ArrayVec::new());
+    entries.push(7);
+    extracted(store, level_of(rt, level), &mut entries, &mut rows);
+    assert_eq!(rt; entries.as_slice(), found);
+    assert_eq!(rt; rows.as_slice(), [case].as_slice());
+}
+
+/// The products of the lowest face are 4 and 4.
+#[test]
+fn a_tie_on_the_lowest_face(rt: HostRuntime) {
+    let store = one_cell(rt.alloc(), 1).expect(&rt, "memory suffices");
+    check_cell(&rt, &store, 5_000, &[11], 11);
+}
+
+/// The products of the lowest face are 4 and 5.
 #[test]
 fn no_tie_on_the_lowest_face(rt: HostRuntime) {
-    let sizes = sizes().expect(&rt, "2, 2 and 2 are sizes");
-    let store = no_tie(rt.alloc(), sizes).expect(&rt, "memory suffices");
-    let level = Level::new(5_000).expect(&rt, "5 is a level");
-    let (mut entries, mut rows) = (ArrayVec::new(), ArrayVec::new());
-    extract::<Brand>(&store, level, &mut entries, &mut rows, Blank::new(1));
-    assert_eq!(rt; entries.as_slice(), [10].as_slice());
-    assert_eq!(rt; rows.as_slice(), [10].as_slice());
+    let store = one_cell(rt.alloc(), 0).expect(&rt, "memory suffices");
+    check_cell(&rt, &store, 5_000, &[10], 10);
 }
 
 #[test]
 fn no_cell_with_a_crossing_edge(rt: HostRuntime) {
-    let sizes = sizes().expect(&rt, "2, 2 and 2 are sizes");
-    let store = tie(rt.alloc(), sizes).expect(&rt, "memory suffices");
-    let level = Level::new(1_000).expect(&rt, "1 is a level");
-    let (mut entries, mut rows) = (ArrayVec::new(), ArrayVec::new());
-    entries.push(7);
-    extract::<Brand>(&store, level, &mut entries, &mut rows, Blank::new(1));
-    assert!(rt; entries.is_empty());
-    assert_eq!(rt; rows.as_slice(), [655].as_slice());
+    let store = one_cell(rt.alloc(), 1).expect(&rt, "memory suffices");
+    check_cell(&rt, &store, 1_000, &[], 655);
 }
 
 /// A cell with two corners above, across a face, has two loops of three edges where the face holds them apart, and one loop of
@@ -142,7 +137,16 @@ fn scatter(store: &mut BrickStore) {
     }
 }
 
-/// Whether the bricks of a store have so many entries each, and these sums: 31 times the sum before, and the entry.
+/// The sum of entries: 31 times the sum before, and the entry.
+fn sum_of(entries: &[u32]) -> u64 {
+    let mut sum = 0u64;
+    for entry in entries {
+        sum = sum.wrapping_mul(31).wrapping_add(u64::from(*entry));
+    }
+    sum
+}
+
+/// Whether the bricks of a store have so many entries each, and these sums.
 fn have_sums<L: Ledger>(
     store: &BrickStore,
     level: Level,
@@ -162,11 +166,7 @@ fn have_sums<L: Ledger>(
             return false;
         }
         extract_brick(store, BrickId(brick), level, &mut entries, &mut steps);
-        let mut found = 0u64;
-        for entry in &entries {
-            found = found.wrapping_mul(31).wrapping_add(u64::from(*entry));
-        }
-        if entries.len() != *count || found != *sum {
+        if entries.len() != *count || sum_of(entries.as_slice()) != *sum {
             return false;
         }
         brick += 1;
@@ -174,27 +174,36 @@ fn have_sums<L: Ledger>(
     brick == store.brick_count()
 }
 
-#[test]
-fn entries_after_many_edits(rt: HostRuntime) -> Result<(), Fail> {
-    let sizes = Sizes::new(18, 10, 11)?;
-    let list = VoxelList::of(generated(rt.alloc(), 0, &sizes)?);
-    let mut store = BrickStore::of(rt.alloc(), list)?;
+/// How many entries each brick has, and their sum.
+const SUMS: [(usize, u64); 12] = [
+    (504, 9_649_620_141_933_448_278),
+    (390, 17_625_225_115_531_019_019),
+    (64, 12_194_442_395_792_130_314),
+    (53, 17_820_795_244_888_508_896),
+    (64, 758_940_442_853_778_975),
+    (5, 127_691_102_730),
+    (100, 17_481_633_643_957_850_002),
+    (126, 887_028_813_876_636_500),
+    (13, 2_518_925_560_932_291_866),
+    (14, 11_721_999_579_406_854_648),
+    (11, 582_877_197_993_591_815),
+    (2, 82_134),
+];
+
+/// Twelve bricks behind many edits.
+fn scattered(alloc: Global) -> Result<BrickStore, Memory> {
+    let Ok(sizes) = Sizes::new(18, 10, 11) else {
+        return Err(Memory);
+    };
+    let list = VoxelList::of(generated(alloc, 0, &sizes)?);
+    let mut store = BrickStore::of(alloc, list)?;
     scatter(&mut store);
-    let level = Level::new(64_500).expect(&rt, "64.5 is a level");
-    let wanted = [
-        (504, 9_649_620_141_933_448_278),
-        (390, 17_625_225_115_531_019_019),
-        (64, 12_194_442_395_792_130_314),
-        (53, 17_820_795_244_888_508_896),
-        (64, 758_940_442_853_778_975),
-        (5, 127_691_102_730),
-        (100, 17_481_633_643_957_850_002),
-        (126, 887_028_813_876_636_500),
-        (13, 2_518_925_560_932_291_866),
-        (14, 11_721_999_579_406_854_648),
-        (11, 582_877_197_993_591_815),
-        (2, 82_134),
-    ];
-    assert!(rt; have_sums::<Brand>(&store, level, &wanted, Blank::new(1)));
-    Ok(())
+    Ok(store)
+}
+
+#[test]
+fn entries_after_many_edits(rt: HostRuntime) {
+    let store = scattered(rt.alloc()).expect(&rt, "memory suffices");
+    let level = level_of(&rt, 64_500);
+    assert!(rt; have_sums::<Brand>(&store, level, &SUMS, Blank::new(1)));
 }

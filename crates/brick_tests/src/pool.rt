@@ -1,6 +1,9 @@
+//! Pages that lists are stored in.
+ghost use Rattle.page_pool.specs.Chains.{Has};
+
 use arrayvec::ArrayVec;
-use page_pool::{Full, Pool, pages_needed};
-use std::test::Fail;
+use page_pool::{Chain, Pool, pages_needed};
+use std::process::Abort;
 
 /// One entry more than a page has room for.
 fn entries() -> [u32; 33] {
@@ -10,61 +13,102 @@ fn entries() -> [u32; 33] {
     entries
 }
 
-#[test]
-fn pages_come_and_go(rt: HostRuntime) -> Result<(), Fail> {
-    let mut pool = Pool::new(rt.alloc(), 16)?;
-    assert_eq!(rt; (pool.total(), pool.free()), (16, 16));
-    let Ok(chain) = pool.store(&entries()) else {
-        return Err(Fail::from("no room"));
-    };
+/// The chain of these entries, for which there is room.
+fn stored(rt: &impl Abort, pool: &mut Pool) -> Chain
+    ensures { Has pool.new result }
+{
+    pool.store(&entries()).expect(rt, "there is room")
+}
+
+/// A list that is too long changes nothing, and a chain that is released gives its pages back.
+fn check_full(rt: &impl Abort, pool: &mut Pool) {
+    let chain = stored(rt, pool);
     assert_eq!(rt; pool.free(), 14);
-    let Err(full) = pool.store(&[7; 512]) else {
-        return Err(Fail::from("room"));
-    };
-    assert_eq!(rt;
-        full,
-        Full {
-            needed: 16,
-            free: 14
-        }
-    );
+    let full = pool.store(&[7; 512]).expect_err(rt, "there is no room");
+    assert_eq!(rt; (full.needed, full.free), (16, 14));
     pool.release(chain);
-    assert_eq!(rt; pool.free(), 16);
-    let Ok(empty) = pool.store(&[]) else {
-        return Err(Fail::from("no room"));
-    };
+}
+
+fn check_empty(rt: &impl Abort, pool: &mut Pool) {
+    let empty = pool.store(&[]).expect(rt, "there is room");
     assert_eq!(rt; (pool.free(), pool.length(&empty)), (15, 0));
-    Ok(())
+}
+
+fn check_pages(rt: &impl Abort, pool: &mut Pool) {
+    assert_eq!(rt; (pool.total(), pool.free()), (16, 16));
+    check_full(rt, pool);
+    assert_eq!(rt; pool.free(), 16);
+    check_empty(rt, pool);
 }
 
 #[test]
-fn a_chain_is_read(rt: HostRuntime) -> Result<(), Fail> {
-    let mut pool = Pool::new(rt.alloc(), 16)?;
-    let Ok(chain) = pool.store(&entries()) else {
-        return Err(Fail::from("no room"));
-    };
-    assert_eq!(rt; pool.length(&chain), 33);
-    assert_eq!(rt; (pool.read(&chain, 31), pool.read(&chain, 32)), (8, 9));
-    assert_eq!(rt; pool.page(&chain, 1), [9].as_slice());
+fn pages_come_and_go(rt: HostRuntime) {
+    let mut pool = Pool::new(rt.alloc(), 16).expect(&rt, "memory suffices");
+    check_pages(&rt, &mut pool);
+}
+
+/// The entry at a place of a chain.
+fn entry(pool: &Pool, chain: &Chain, place: u32) -> Option<u32>
+    requires { Has pool.now chain.now }
+{
+    if place < pool.length(chain) {
+        return Some(pool.read(chain, place));
+    }
+    None
+}
+
+fn check_entries(rt: &impl Abort, pool: &Pool, chain: &Chain)
+    requires { Has pool.now chain.now }
+{
+    assert_eq!(rt; pool.length(chain), 33);
+    for (place, value) in [(31, Some(8)), (32, Some(9))] {
+        assert_eq!(rt; entry(pool, chain, place), value);
+    }
+}
+
+/// The entries of a page of a chain.
+fn page<'a>(pool: &'a Pool, chain: &Chain, number: u32) -> &'a [u32]
+    requires { Has pool.now chain.now }
+{
+    if number < pages_needed(pool.length(chain) as usize) {
+        return pool.page(chain, number);
+    }
+    &[]
+}
+
+fn check_copies(rt: &impl Abort, pool: &Pool, chain: &Chain)
+    requires { Has pool.now chain.now }
+{
+    assert_eq!(rt; page(pool, chain, 1), [9].as_slice());
     let mut copy = ArrayVec::new();
     copy.push(5);
-    pool.copy_to(&chain, &mut copy);
+    pool.copy_to(chain, &mut copy);
     assert_eq!(rt; copy.as_slice(), entries().as_slice());
-    Ok(())
 }
 
 #[test]
-fn a_chain_is_lent_page_by_page(rt: HostRuntime) -> Result<(), Fail> {
-    let mut pool = Pool::new(rt.alloc(), 16)?;
-    let Ok(chain) = pool.store(&entries()) else {
-        return Err(Fail::from("no room"));
-    };
-    let lent = pool.entries(&chain);
+fn a_chain_is_read(rt: HostRuntime) {
+    let mut pool = Pool::new(rt.alloc(), 16).expect(&rt, "memory suffices");
+    let chain = stored(&rt, &mut pool);
+    check_entries(&rt, &pool, &chain);
+    check_copies(&rt, &pool, &chain);
+}
+
+fn check_lent(rt: &impl Abort, pool: &Pool, chain: &Chain)
+    requires { Has pool.now chain.now }
+{
+    let lent = pool.entries(chain);
     assert_eq!(rt; lent.front().len(), 32);
     let rest = lent.rest();
     assert_eq!(rt; rest.front(), [9].as_slice());
     assert!(rt; rest.rest().front().is_empty());
-    Ok(())
+}
+
+#[test]
+fn a_chain_is_lent_page_by_page(rt: HostRuntime) {
+    let mut pool = Pool::new(rt.alloc(), 16).expect(&rt, "memory suffices");
+    let chain = stored(&rt, &mut pool);
+    check_lent(&rt, &pool, &chain);
 }
 
 #[test]

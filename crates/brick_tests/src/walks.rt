@@ -1,7 +1,8 @@
 //! Meshes written while their volume is walked, beside those of extraction from scratch.
-ghost use Rattle.std.specs.Prelude.{◌≡◌, IfSome, false};
+ghost use Rattle.std.specs.Prelude.{◌≡◌, false};
 ghost use Rattle.iso_defs.specs.Bricks.{entries, row_cases};
 ghost use Rattle.iso_base.specs.Shifted.{field};
+ghost use Rattle.span_tree.specs.Spans.{IsRightFor};
 ghost use Rattle.stitch_rows.specs.Named.{counts_of_entries};
 
 use crate::stores::sizes_of;
@@ -11,7 +12,7 @@ use brick_store::{BrickId, BrickStore};
 use byte_streams::{Failed, MemSink};
 use crossing_edges::Numbers;
 use edge_points::RowRanks;
-use flat_mesh::extract_flat;
+use flat_mesh::{Mesh, extract_flat};
 use iso_base::{Level, Memory, Point, SampleKind, Sizes, Steps, VoxelData, Written};
 use kept_mesh::count_entries;
 use list_stitch::ListMesh;
@@ -21,7 +22,6 @@ use span_tree::SpanTree;
 use std::alloc::Global;
 use std::marker::Brand;
 use std::sync::ledger::{Blank, Ledger};
-use std::test::Fail;
 use stitch::{CellRows, Style, write_obj, write_ply};
 use stitch_rows::Counts;
 use volume_gen::generated;
@@ -70,6 +70,19 @@ struct Told {
     written: Result<Written, Failed>,
 }
 
+/// A sink with room for each text.
+fn empty_sink(alloc: Global) -> Result<MemSink, Memory> {
+    MemSink::new(alloc, ROOM, Vec::new(alloc))
+}
+
+/// The text of a mesh.
+fn text_of(alloc: Global, mesh: &Mesh, style: Style) -> Result<Told, Memory> {
+    let mut waiting = Vec::with_capacity(alloc, STAGE)?;
+    let mut sink = empty_sink(alloc)?;
+    let written = put_mesh_as(&mut sink, &mut waiting, mesh, style.format, style.padded);
+    Ok(Told { sink, written })
+}
+
 /// The text of extraction from scratch.
 fn scratch_text(
     alloc: Global,
@@ -77,12 +90,9 @@ fn scratch_text(
     level: Level,
     format: TwoWayFormat,
 ) -> Result<Told, Memory> {
-    let mesh = extract_flat(alloc, volume, level)?;
-    let mut sink = MemSink::new(alloc, ROOM, Vec::new(alloc))?;
-    let mut waiting = Vec::with_capacity(alloc, STAGE)?;
     let padded = volume.pad().is_some();
-    let written = put_mesh_as(&mut sink, &mut waiting, &mesh, format, padded);
-    Ok(Told { sink, written })
+    let mesh = extract_flat(alloc, volume, level)?;
+    text_of(alloc, &mesh, Style { format, padded })
 }
 
 /// The text that is written while the list of samples is walked.
@@ -96,39 +106,51 @@ fn listed_text(
     let samples = Numbers {
         numbers: volume.samples(),
     };
+    let mut sink = empty_sink(alloc)?;
     let mesh = ListMesh::of(alloc, volume.sizes(), &samples, level)?;
-    let mut sink = MemSink::new(alloc, ROOM, Vec::new(alloc))?;
     let written = mesh.write(Style { format, padded }, &mut sink);
     Ok(Told { sink, written })
 }
 
-/// The text of a walk, with one share of the counter's book.
-fn counted_text<L: Ledger>(
-    alloc: Global,
+/// Writes the text of a walk, with one share of the counter's book.
+fn counted_walk<L: Ledger>(
     store: &BrickStore,
+    tree: &SpanTree,
     level: Level,
     format: TwoWayFormat,
+    ranks: &mut RowRanks,
+    sink: &mut MemSink,
     blank: Blank,
-) -> Result<Told, Memory>
+) -> Result<Written, Failed>
+    requires tree { IsRightFor tree.now store.now }
+    requires ranks { ranks.old.grid ≡ store.now.grid }
     requires named { blank.name ≡ L.name }
     requires shares { blank.parts ≡ L.parts }
     requires one { blank.parts ≡ 1 }
 {
     let (book, share) = blank.open::<L>();
     let mut steps = Steps::new(book, share);
-    let tree = SpanTree::of(alloc, store)?;
-    let mut ranks = RowRanks::new(alloc, &store.sizes())?;
-    let mut sink = MemSink::new(alloc, ROOM, Vec::new(alloc))?;
     let mut rows = FreshRows { store, level };
-    let written = match format {
-        TwoWayFormat::Ply => write_ply(
-            store, &tree, level, &mut rows, &mut ranks, &mut sink, &mut steps,
-        ),
-        TwoWayFormat::Obj => write_obj(
-            store, &tree, level, &mut rows, &mut ranks, &mut sink, &mut steps,
-        ),
-    };
-    Ok(Told { sink, written })
+    match format {
+        TwoWayFormat::Ply => write_ply(store, tree, level, &mut rows, ranks, sink, &mut steps),
+        TwoWayFormat::Obj => write_obj(store, tree, level, &mut rows, ranks, sink, &mut steps),
+    }
+}
+
+/// The same, with a counter of its own.
+fn put_walk(
+    alloc: Global,
+    store: &BrickStore,
+    tree: &SpanTree,
+    level: Level,
+    format: TwoWayFormat,
+    sink: &mut MemSink,
+) -> Result<Result<Written, Failed>, Memory>
+    requires { IsRightFor tree.now store.now }
+{
+    let mut ranks = RowRanks::new(alloc, &store.sizes())?;
+    let blank = Blank::new(1);
+    Ok(counted_walk::<Brand>(store, tree, level, format, &mut ranks, sink, blank))
 }
 
 /// The text of a walk.
@@ -138,7 +160,10 @@ fn walked_text(
     level: Level,
     format: TwoWayFormat,
 ) -> Result<Told, Memory> {
-    counted_text::<Brand>(alloc, store, level, format, Blank::new(1))
+    let mut sink = empty_sink(alloc)?;
+    let tree = SpanTree::of(alloc, store)?;
+    let written = put_walk(alloc, store, &tree, level, format, &mut sink)?;
+    Ok(Told { sink, written })
 }
 
 /// Whether two texts are the same and whole.
@@ -149,23 +174,85 @@ fn are_same(a: &Told, b: &Told) -> bool {
     first == second && a.sink.bytes() == b.sink.bytes()
 }
 
+/// The texts of extraction from scratch.
+#[derive(Drop)]
+struct Scratch {
+    ply: Told,
+    obj: Told,
+}
+
+fn scratch_texts(alloc: Global, volume: &VoxelList, level: Level) -> Result<Scratch, Memory> {
+    let ply = scratch_text(alloc, volume, level, TwoWayFormat::Ply)?;
+    let obj = scratch_text(alloc, volume, level, TwoWayFormat::Obj)?;
+    Ok(Scratch { ply, obj })
+}
+
+/// Whether the texts that are written while the list of samples is walked are those from scratch.
+fn are_listed(
+    alloc: Global,
+    volume: &VoxelList,
+    level: Level,
+    texts: &Scratch,
+) -> Result<bool, Memory> {
+    for (format, scratch) in [
+        (TwoWayFormat::Ply, &texts.ply),
+        (TwoWayFormat::Obj, &texts.obj),
+    ] {
+        if !are_same(scratch, &listed_text(alloc, volume, level, format)?) {
+            return Ok(false);
+        }
+    }
+    Ok(true)
+}
+
+/// Whether the texts that are written from brick to brick are those from scratch.
+fn are_walked(
+    alloc: Global,
+    store: &BrickStore,
+    level: Level,
+    texts: &Scratch,
+) -> Result<bool, Memory> {
+    for (format, scratch) in [
+        (TwoWayFormat::Ply, &texts.ply),
+        (TwoWayFormat::Obj, &texts.obj),
+    ] {
+        if !are_same(scratch, &walked_text(alloc, store, level, format)?) {
+            return Ok(false);
+        }
+    }
+    Ok(true)
+}
+
+/// Whether all texts of a volume are those from scratch.
+fn are_all_same(
+    alloc: Global,
+    volume: VoxelList,
+    level: Level,
+    texts: &Scratch,
+) -> Result<bool, Memory> {
+    if !are_listed(alloc, &volume, level, texts)? {
+        return Ok(false);
+    }
+    let store = BrickStore::of(alloc, volume)?;
+    are_walked(alloc, &store, level, texts)
+}
+
+/// How many vertices a text has.
+fn vertices_in(told: &Told) -> Option<u32> {
+    let Ok(written) = &told.written else {
+        return None;
+    };
+    Some(written.vertices)
+}
+
 /// How many vertices all three ways write, where their texts are the same in both formats: from a mesh, while the list of
 /// samples is walked, and from brick to brick.
-fn vertices_of(alloc: Global, volume: VoxelList, level: Level) -> Result<Option<u32>, Memory> {
-    let ply = scratch_text(alloc, &volume, level, TwoWayFormat::Ply)?;
-    let obj = scratch_text(alloc, &volume, level, TwoWayFormat::Obj)?;
-    let listed_ply = listed_text(alloc, &volume, level, TwoWayFormat::Ply)?;
-    let listed_obj = listed_text(alloc, &volume, level, TwoWayFormat::Obj)?;
-    let store = BrickStore::of(alloc, volume)?;
-    let walked_ply = walked_text(alloc, &store, level, TwoWayFormat::Ply)?;
-    let walked_obj = walked_text(alloc, &store, level, TwoWayFormat::Obj)?;
-    if !are_same(&ply, &listed_ply) || !are_same(&obj, &listed_obj) {
-        return Ok(None);
-    }
-    if !are_same(&ply, &walked_ply) || !are_same(&obj, &walked_obj) {
-        return Ok(None);
-    }
-    Ok(ply.written.ok().map(|written| written.vertices))
+fn vertices_of(alloc: Global, volume: VoxelList, level: Level) -> Option<u32> {
+    let texts = scratch_texts(alloc, &volume, level).ok()?;
+    let Ok(true) = are_all_same(alloc, volume, level, &texts) else {
+        return None;
+    };
+    vertices_in(&texts.ply)
 }
 
 /// What the samples of a volume look like.
@@ -202,15 +289,9 @@ fn set_byte(volume: &mut VoxelList, p: Point, value: u8) {
 }
 
 /// A volume of these sizes, where they are sizes.
-fn patterned(
-    alloc: Global,
-    pattern: Pattern,
-    [nx, ny, nz]: [u32; 3],
-) -> Result<Option<VoxelList>, Memory> {
-    let Ok(sizes) = Sizes::new(u64::from(nx), u64::from(ny), u64::from(nz)) else {
-        return Ok(None);
-    };
-    let mut volume = VoxelList::of(generated(alloc, 0, &sizes)?);
+fn patterned(alloc: Global, pattern: Pattern, [nx, ny, nz]: [u32; 3]) -> Option<VoxelList> {
+    let sizes = Sizes::new(u64::from(nx), u64::from(ny), u64::from(nz)).ok()?;
+    let mut volume = VoxelList::of(generated(alloc, 0, &sizes).ok()?);
     for z in 0..nz {
         for y in 0..ny {
             for x in 0..nx {
@@ -219,67 +300,39 @@ fn patterned(
             }
         }
     }
-    Ok(Some(volume))
+    Some(volume)
 }
 
-/// How many vertices both ways write for a volume of these sizes, where their texts are the same.
-fn patterned_vertices(
-    alloc: Global,
-    pattern: Pattern,
-    sizes: [u32; 3],
-    level: Level,
-) -> Result<Option<u32>, Memory> {
-    let Some(volume) = patterned(alloc, pattern, sizes)? else {
-        return Ok(None);
-    };
-    vertices_of(alloc, volume, level)
+/// How many vertices all ways write for a volume of these sizes at a level in thousandths, where their texts are the same.
+fn vertices(alloc: Global, pattern: Pattern, sizes: [u32; 3], thousandths: i128) -> Option<u32> {
+    let level = Level::new(thousandths)?;
+    vertices_of(alloc, patterned(alloc, pattern, sizes)?, level)
 }
 
 #[test]
-fn each_size_along_each_axis(rt: HostRuntime) -> Result<(), Fail> {
-    let level = Level::new(128_000).expect(&rt, "128 is a level");
+fn each_size_along_each_axis(rt: HostRuntime) {
     for n in [2, 3, 5, 7, 9, 11, 13, 15, 17, 19] {
         for sizes in [[n, 5, 4], [4, n, 5], [5, 4, n], [n, n, 3]] {
-            let found = patterned_vertices(rt.alloc(), Pattern::Chance, sizes, level)?;
-            assert!(rt; found.is_some());
+            let found = vertices(rt.alloc(), Pattern::Chance, sizes, 128_000);
+            assert!(rt; found.is_some(), "{sizes:?}");
         }
     }
-    Ok(())
 }
 
 #[test]
-fn ambiguous_faces_and_ties(rt: HostRuntime) -> Result<(), Fail> {
+fn ambiguous_faces_and_ties(rt: HostRuntime) {
     for thousandths in [4_000, 5_000, 5_001, 10_000] {
-        let level = Level::new(thousandths).expect(&rt, "these are levels");
-        let found = patterned_vertices(rt.alloc(), Pattern::Checkers, [10, 9, 17], level)?;
-        assert!(rt; found.is_some());
+        let found = vertices(rt.alloc(), Pattern::Checkers, [10, 9, 17], thousandths);
+        assert!(rt; found.is_some(), "{thousandths}");
     }
-    let level = Level::new(5_000).expect(&rt, "5 is a level");
-    let found = patterned_vertices(rt.alloc(), Pattern::Checkers, [3, 3, 3], level)?;
+    let found = vertices(rt.alloc(), Pattern::Checkers, [3, 3, 3], 5_000);
     assert_eq!(rt; found, Some(54));
-    Ok(())
 }
 
 #[test]
-fn no_crossing_edge(rt: HostRuntime) -> Result<(), Fail> {
-    let level = Level::new(300_000).expect(&rt, "300 is a level");
-    let found = patterned_vertices(rt.alloc(), Pattern::Chance, [9, 9, 9], level)?;
+fn no_crossing_edge(rt: HostRuntime) {
+    let found = vertices(rt.alloc(), Pattern::Chance, [9, 9, 9], 300_000);
     assert_eq!(rt; found, Some(0));
-    Ok(())
-}
-
-#[test]
-fn with_a_pad(rt: HostRuntime) -> Result<(), Fail> {
-    let level = Level::new(128_000).expect(&rt, "128 is a level");
-    for pad in [0, 255] {
-        let volume = patterned(rt.alloc(), Pattern::Chance, [7, 8, 15])?.expect(
-            &rt,
-            "these are sizes",
-        );
-        let padded = padded_volume(rt.alloc(), volume, pad).expect(&rt, "memory suffices");
-        assert!(rt; vertices_of(rt.alloc(), padded, level)?.is_some());
-    }
-    Ok(())
 }
 
 /// A volume without a pad with one.
@@ -290,10 +343,19 @@ fn padded_volume(alloc: Global, volume: VoxelList, pad: u8) -> Option<VoxelList>
     volume.padded(alloc, i64::from(pad)).ok()
 }
 
-fn two_by_two() -> Option<Sizes>
-    ensures { IfSome result (λ g. g ≡ record { nx = 2; ny = 2; nz = 2 }) }
-{
-    sizes_of(2, 2, 2)
+/// The same as `vertices`, with a pad, at level 128.
+fn padded_vertices(alloc: Global, sizes: [u32; 3], pad: u8) -> Option<u32> {
+    let volume = patterned(alloc, Pattern::Chance, sizes)?;
+    let level = Level::new(128_000)?;
+    vertices_of(alloc, padded_volume(alloc, volume, pad)?, level)
+}
+
+#[test]
+fn with_a_pad(rt: HostRuntime) {
+    for pad in [0, 255] {
+        let found = padded_vertices(rt.alloc(), [7, 8, 15], pad);
+        assert!(rt; found.is_some(), "{pad}");
+    }
 }
 
 /// The greatest and the least samples by turns.
@@ -313,13 +375,16 @@ fn extremes(alloc: Global, sizes: Sizes) -> Result<VoxelList, Memory>
     Ok(VoxelList::of(VoxelData::new(sizes, SampleKind::U32, samples)))
 }
 
+/// How many vertices all ways write for them.
+fn extreme_vertices(alloc: Global, thousandths: i128) -> Option<u32> {
+    let (level, sizes) = (Level::new(thousandths)?, sizes_of(2, 2, 2)?);
+    vertices_of(alloc, extremes(alloc, sizes).ok()?, level)
+}
+
 #[test]
-fn the_greatest_samples(rt: HostRuntime) -> Result<(), Fail> {
-    let sizes = two_by_two().expect(&rt, "2, 2 and 2 are sizes");
+fn the_greatest_samples(rt: HostRuntime) {
     for thousandths in [1, 2_147_483_647_500, 4_294_967_295_000] {
-        let level = Level::new(thousandths).expect(&rt, "these are levels");
-        let volume = extremes(rt.alloc(), sizes)?;
-        assert_eq!(rt; vertices_of(rt.alloc(), volume, level)?, Some(12));
+        let found = extreme_vertices(rt.alloc(), thousandths);
+        assert_eq!(rt; found, Some(12), "{thousandths}");
     }
-    Ok(())
 }

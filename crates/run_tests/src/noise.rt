@@ -9,10 +9,9 @@ use endings::Status;
 use iso_io::{Failed, Source};
 use std::alloc::{AllocError, Global};
 use std::process::Abort;
-use std::test::Fail;
 
 /// So many bytes.
-fn noise(alloc: Global, seed: u64, count: usize) -> Result<Vec<u8>, AllocError> {
+fn noise_bytes(alloc: Global, seed: u64, count: usize) -> Result<Vec<u8>, AllocError> {
     let mut state = seed;
     let mut all = Vec::new(alloc);
     for _ in 0..count {
@@ -22,6 +21,11 @@ fn noise(alloc: Global, seed: u64, count: usize) -> Result<Vec<u8>, AllocError> 
         all.push((state >> 56) as u8)?;
     }
     Ok(all)
+}
+
+/// The same, where memory suffices.
+fn noise(rt: &impl Abort, alloc: Global, seed: u64, count: usize) -> Vec<u8> {
+    noise_bytes(alloc, seed, count).expect(rt, "memory suffices")
 }
 
 /// No line of such a script is a command.
@@ -34,22 +38,26 @@ fn check_script(rt: &impl Abort, outcome: &Outcome) {
 }
 
 /// No such bytes are a volume.
-fn check_volume(rt: &impl Abort, alloc: Global, volume: &[u8]) -> Result<(), Fail> {
+fn check_volume(rt: &impl Abort, alloc: Global, volume: &[u8]) {
     let note = b"isobench: volume 1 not nrrd\n";
     let words = ["points", "--level=5"];
-    check_output(rt, alloc, &words, volume, Status::BadVolume, b"", note)
+    check_output(rt, alloc, &words, volume, Status::BadVolume, b"", note);
 }
 
 #[test]
-fn noise_is_refused(rt: HostRuntime) -> Result<(), Fail> {
-    let alloc = rt.alloc();
-    let zeros = zeros(alloc, SEVENTEEN, 4913)?;
+fn scripts_of_noise_are_refused(rt: HostRuntime) {
+    let zeros = zeros(&rt, rt.alloc(), SEVENTEEN, 4913);
     for seed in 0..32 {
-        let script = noise(alloc, seed, 1024)?;
-        check_script(&rt, &outcome_of(alloc, &worked(&zeros, &script))?);
-        check_volume(&rt, alloc, &noise(alloc, seed, 256)?)?;
+        let script = noise(&rt, rt.alloc(), seed, 1024);
+        check_script(&rt, &outcome_of(&rt, rt.alloc(), &worked(&zeros, &script)));
     }
-    Ok(())
+}
+
+#[test]
+fn volumes_of_noise_are_refused(rt: HostRuntime) {
+    for seed in 0..32 {
+        check_volume(&rt, rt.alloc(), &noise(&rt, rt.alloc(), seed, 256));
+    }
 }
 
 /// Gives the byte 0 without end.
@@ -66,9 +74,8 @@ impl Source for Zeros {
 }
 
 #[test]
-fn an_input_without_end_is_too_long(rt: HostRuntime) -> Result<(), Fail> {
+fn an_input_without_end_is_too_long(rt: HostRuntime) {
     let call = call_of(&["points", "--level=5"], b"");
-    let outcome = outcome_over(rt.alloc(), &call, &mut Zeros)?;
+    let outcome = outcome_over(rt.alloc(), &call, &mut Zeros).expect(&rt, "memory suffices");
     assert_eq!(rt; outcome.status, Status::InputTooLong);
-    Ok(())
 }

@@ -1,4 +1,0 @@
-use Rattle.brick_tests.proofs.walks.walked_text.Given as goal
-
-abbrev pub ghosts-counted_text : goal.ghosts-counted_text
-ghosts-counted_text a = record { name = a.blank.name; parts = a.blank.parts }
