@@ -80,10 +80,12 @@ fn check_raw(rt: &impl Abort, alloc: Global, volume: &RawVolume<'_>) -> Result<(
 fn samples_in_the_bytes_of_a_file(rt: HostRuntime) -> Result<(), Fail> {
     let text =
         b"NRRD0001\ntype: int16\ndimension: 3\nsizes: 2 2 2\nendian: little\nencoding: raw\n\n\x01\x00\x02\x00\x03\x00\x04\x00\x05\x00\x06\x00\xff\xff\x00\x80";
-    match read_file_volume(rt.alloc(), text)? {
-        (FileVolume::Raw(volume), 0) => check_raw(&rt, rt.alloc(), &volume),
-        _ => Err("raw samples stay in the file")?,
-    }
+    let (volume, surplus) = read_file_volume(rt.alloc(), text)?;
+    let FileVolume::Raw(volume) = volume else {
+        return Err("raw samples stay in the file")?;
+    };
+    assert!(rt; surplus == 0);
+    check_raw(&rt, rt.alloc(), &volume)
 }
 
 // The files are laid out as the format's usual tool does: ten numbers a line, spaces before numbers of hex digits' lines,

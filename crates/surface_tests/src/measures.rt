@@ -228,19 +228,35 @@ fn zeros(alloc: Global, sizes: Sizes) -> Result<VoxelList, Memory>
     Ok(VoxelList::of(VoxelData::new(sizes, SampleKind::U8, samples)))
 }
 
-/// In a pad of 0, a shape is one closed part, whose volume is that of its voxels but for a twentieth: the mesh cuts their
-/// edges and corners off.
-fn expect_volume(rt: &impl Abort, alloc: Global, shape: Shape) -> Result<(), Fail> {
+fn shaped(alloc: Global, shape: Shape) -> Result<VoxelList, Fail>
+    ensures { IfOk result (λ v. v.pad ≡ None) }
+{
     let mut volume = zeros(alloc, grid().ok_or("13, 13 and 7 are sizes")?)?;
     put_shape(&mut volume, shape);
-    let voxels = volume.samples().iter().filter(|s| **s == 10).count() as u128;
-    let measures = measured_at_5(alloc, &volume.padded(alloc, 0)?)?;
+    Ok(volume)
+}
+
+fn voxels_in(volume: &VoxelList) -> usize {
+    volume.samples().iter().filter(|s| **s == 10).count()
+}
+
+/// One closed part, whose volume is that of so many voxels but for a twentieth: the mesh cuts their edges and corners off.
+fn check_volume(rt: &impl Abort, measures: &Measures, voxels: usize) {
+    let voxels = voxels as u128;
     for share in measures.shares() {
-        assert_eq!(rt; *share, closed(share.six));
+        assert!(rt; *share == closed(share.six));
         let lost = share.six.abs_diff(6_000_000_000 * voxels as i128);
         assert!(rt; lost <= 300_000_000 * voxels);
     }
-    assert_eq!(rt; measures.shares().len(), 1);
+    assert!(rt; measures.shares().len() == 1);
+}
+
+/// In a pad of 0.
+fn expect_volume(rt: &impl Abort, alloc: Global, shape: Shape) -> Result<(), Fail> {
+    let volume = shaped(alloc, shape)?;
+    let voxels = voxels_in(&volume);
+    let padded = volume.padded(alloc, 0)?;
+    check_volume(rt, &measured_at_5(alloc, &padded)?, voxels);
     Ok(())
 }
 
