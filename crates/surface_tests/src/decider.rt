@@ -1,14 +1,23 @@
 //! Tests of `face_decider`.
 
+ghost use Rattle.std.specs.Prelude.{◌<◌};
+
 use face_decider::{face_joined, face_segments};
+
+/// Where the segment of each edge of a face ends.
+fn ends(signs: u8, joined: bool) -> [u8; 4]
+    requires { signs < 16 }
+{
+    face_segments(signs, joined).next
+}
 
 #[test]
 fn ambiguous_rows(rt: HostRuntime) {
     let found = [
-        face_segments(5, false).next,
-        face_segments(5, true).next,
-        face_segments(10, false).next,
-        face_segments(10, true).next,
+        ends(5, false),
+        ends(5, true),
+        ends(10, false),
+        ends(10, true),
     ];
     assert!(rt; found == [[4, 2, 4, 0], [4, 0, 4, 2], [1, 4, 3, 4], [3, 4, 1, 4]]);
 }
