@@ -7,16 +7,12 @@ use std::alloc::Global;
 use std::process::Abort;
 use std::test::Fail;
 
+// The word of a line of corners, the corners, which for a point are followed by zeros, and the value.
 fn corners(line: &[u8]) -> Option<(&'static str, [i64; 6], i64)> {
     match read_line(line) {
-        Ok(
-            Some(
-                Command::Set {
-                    at: [x, y, z],
-                    value,
-                },
-            ),
-        ) => Some(("set", [x, y, z, 0, 0, 0], value)),
+        Ok(Some(Command::Set { at, value })) => {
+            Some(("set", [at[0], at[1], at[2], 0, 0, 0], value))
+        }
         Ok(Some(Command::Fill { corners, value })) => Some(("fill", corners, value)),
         _ => None,
     }
