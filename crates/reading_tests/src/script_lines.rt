@@ -211,6 +211,7 @@ fn other_lines_are_refused(rt: HostRuntime) {
 
 /// A comment of 4097 bytes.
 fn check_long(rt: &impl Abort, long: &[u8]) {
+    assert!(rt; long.len() == 4097);
     assert!(rt; fault(long) == Some(LineFault::LineTooLong { n: 4097 }));
     assert!(rt; word(&long[1..]).0 == "nothing");
 }
@@ -227,6 +228,7 @@ fn is_name(bytes: &[u8]) -> bool {
 
 /// A name of 256 bytes.
 fn check_name(rt: &impl Abort, long: &[u8]) {
+    assert!(rt; long.len() == 256);
     let found = [is_name(long), is_name(&long[1..]), is_name(b"")];
     assert!(rt; found == [false, true, false]);
 }

@@ -158,7 +158,8 @@ fn a_shelf_fails_where_told(rt: HostRuntime) -> Result<(), Fail> {
 }
 
 /// Writes the file `a` in two pieces.
-fn write_pieces<H: Shelf>(rt: &impl Abort, shelf: &mut H) {
+fn write_pieces(rt: &impl Abort, shelf: &mut FileShelf) {
+    assert!(rt; shelf.start("a") == Ok(()));
     let mut file = ShelfFile::new(shelf, "a");
     check_put(rt, &mut file, b"abc", Ok(()));
     check_put(rt, &mut file, b"def", Ok(()));
@@ -172,9 +173,8 @@ fn check_read<H: Shelf>(rt: &impl Abort, alloc: Global, shelf: &mut H) {
     }
 }
 
-fn check_pieces<H: Shelf>(rt: &impl Abort, alloc: Global, shelf: &mut H) {
+fn check_pieces(rt: &impl Abort, alloc: Global, shelf: &mut FileShelf) {
     check_unread(rt, alloc, shelf, ("a", 9), ShelfError::Failed);
-    check_start(rt, shelf, "a", Ok(()));
     write_pieces(rt, shelf);
     check_unread(rt, alloc, shelf, ("a", 5), ShelfError::TooLong { limit: 5 });
     check_read(rt, alloc, shelf);
