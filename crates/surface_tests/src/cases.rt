@@ -6,6 +6,7 @@ use case_table::{CaseRow, classify, joined_faces, row_of, successors};
 use iso_base::Steps;
 use std::marker::Brand;
 use std::sync::ledger::{Blank, Ledger};
+use std::test::Fail;
 
 fn classified<L: Ledger>(values: &[i64; 8], blank: Blank) -> u16
     requires named { blank.name ≡ L.name }
@@ -18,20 +19,15 @@ fn classified<L: Ledger>(values: &[i64; 8], blank: Blank) -> u16
     classify(values, &mut steps).number()
 }
 
-/// The faces that are joined, and the number of the case.
-fn seen(values: &[i64; 8]) -> (u8, u16)
-    requires { All (λ v. unsigned_abs v < 2 ^ 44) values.now }
-{
-    (
-        joined_faces(values),
-        classified::<Brand>(values, Blank::new(1)),
-    )
-}
-
 #[test]
-fn a_tie_on_the_lowest_face(rt: HostRuntime) {
-    assert!(rt; seen(&[2, -1, -4, 2, -1, -1, -1, -1]) == (16, 11));
-    assert!(rt; seen(&[2, -1, -5, 2, -1, -1, -1, -1]) == (0, 10));
+fn a_tie_on_the_lowest_face(rt: HostRuntime) -> Result<(), Fail> {
+    let tie = [2, -1, -4, 2, -1, -1, -1, -1];
+    assert_eq!(rt; joined_faces(&tie), 16);
+    assert_eq!(rt; classified::<Brand>(&tie, Blank::new(1)), 11);
+    let apart = [2, -1, -5, 2, -1, -1, -1, -1];
+    assert_eq!(rt; joined_faces(&apart), 0);
+    assert_eq!(rt; classified::<Brand>(&apart, Blank::new(1)), 10);
+    Ok(())
 }
 
 #[test]
