@@ -12,29 +12,51 @@ fn list(alloc: Global, numbers: &[u64]) -> Result<Vec<u64>, AllocError> {
     Vec::from_slice(alloc, numbers)
 }
 
+/// How much of five bytes is read in pieces of two, where the read of this number fails.
+fn read_up_to(
+    alloc: Global,
+    limit: u64,
+    failing: u64,
+) -> Result<Result<usize, ReadFault>, AllocError> {
+    let bytes = Vec::from_slice(alloc, b"abcde")?;
+    let mut source = MemSource::new(bytes, 2, list(alloc, &[failing])?);
+    Ok(match read_all_of(alloc, &mut source, limit) {
+        Ok(all) => Ok(all.len()),
+        Err(fault) => Err(fault),
+    })
+}
+
+/// Limits, reads that fail, and how much is read.
+const READS: &[(u64, u64, Result<usize, ReadFault>)] = &[
+    (5, 9, Ok(5)),
+    (4, 9, Err(ReadFault::TooLong)),
+    (5, 2, Err(ReadFault::Failed)),
+];
+
 #[test]
 fn a_source_is_read_to_its_limit(rt: HostRuntime) -> Result<(), Fail> {
-    for (limit, failing, want) in [
-        (5, 9, Ok(5)),
-        (4, 9, Err(ReadFault::TooLong)),
-        (5, 2, Err(ReadFault::Failed)),
-    ] {
-        let bytes = Vec::from_slice(rt.alloc(), b"abcde")?;
-        let mut source = MemSource::new(bytes, 2, list(rt.alloc(), &[failing])?);
-        let read = read_all_of(rt.alloc(), &mut source, limit);
-        assert_eq!(rt; read.map(|all| all.len()), want);
+    for (limit, failing, want) in READS {
+        let read = read_up_to(rt.alloc(), *limit, *failing)?;
+        assert!(rt; read == *want, "{limit} {failing}");
     }
     Ok(())
 }
 
+fn check_put<K: Sink>(rt: &impl Abort, sink: &mut K, bytes: &[u8], want: Result<(), Failed>) {
+    assert!(rt; write_all_of(sink, bytes) == want);
+}
+
+fn check_write(rt: &impl Abort, sink: &mut MemSink, bytes: &[u8], want: Result<usize, Failed>) {
+    assert!(rt; sink.write(bytes) == want);
+}
+
 /// A sink of six bytes, whose second call fails.
 fn check_writes(rt: &impl Abort, sink: &mut MemSink) {
-    assert_eq!(rt; write_all_of(sink, b"abc"), Ok(()));
-    assert_eq!(rt; write_all_of(sink, b"def"), Err(Failed));
-    for (bytes, want) in [(b"defg".as_slice(), Err(Failed)), (b"def", Ok(3))] {
-        assert_eq!(rt; sink.write(bytes), want);
-    }
-    assert_eq!(rt; sink.bytes(), b"abcdef".as_slice());
+    check_put(rt, sink, b"abc", Ok(()));
+    check_put(rt, sink, b"def", Err(Failed));
+    check_write(rt, sink, b"defg", Err(Failed));
+    check_write(rt, sink, b"def", Ok(3));
+    assert!(rt; sink.bytes() == b"abcdef".as_slice());
 }
 
 #[test]
@@ -46,87 +68,126 @@ fn a_sink_fails_where_told(rt: HostRuntime) -> Result<(), Fail> {
     Ok(())
 }
 
+/// Stages 9,000 lines of ten bytes.
+fn stage_lines(sink: &mut MemSink, waiting: &mut Vec<u8>) -> Result<(), Failed> {
+    for _ in 0..9_000 {
+        stage(sink, waiting, b"0123456789")?;
+    }
+    Ok(())
+}
+
+/// That many bytes were put, all of them whole lines but for the last.
+fn check_lines(rt: &impl Abort, bytes: &[u8], count: usize) {
+    assert!(rt; bytes.len() == count);
+    for line in bytes.chunks(10) {
+        assert!(rt; line == b"0123456789".as_slice());
+    }
+}
+
+fn check_staged(rt: &impl Abort, sink: &mut MemSink, waiting: &mut Vec<u8>) {
+    assert!(rt; stage_lines(sink, waiting).is_ok());
+    check_lines(rt, sink.bytes(), 65_540);
+    check_put(rt, sink, waiting, Ok(()));
+    check_lines(rt, sink.bytes(), 90_000);
+}
+
 #[test]
 fn staged_bytes_come_in_order(rt: HostRuntime) -> Result<(), Fail> {
     let mut sink = MemSink::new(rt.alloc(), 100_000, Vec::new(rt.alloc()))?;
-    let mut waiting = Vec::new(rt.alloc());
-    for _ in 0..9_000 {
-        assert_eq!(rt; stage(&mut sink, &mut waiting, b"0123456789"), Ok(()));
-    }
-    assert_eq!(rt; sink.bytes().len(), 65_540);
-    assert_eq!(rt; write_all_of(&mut sink, &waiting), Ok(()));
-    assert_eq!(rt; sink.bytes().len(), 90_000);
-    assert!(rt;
-        sink.bytes()
-            .chunks(10)
-            .all(|line| line == b"0123456789".as_slice())
-    );
+    check_staged(&rt, &mut sink, &mut Vec::new(rt.alloc()));
     Ok(())
+}
+
+fn check_start<H: Shelf>(rt: &impl Abort, shelf: &mut H, name: &str, want: Result<(), Failed>) {
+    assert!(rt; shelf.start(name) == want, "{name}");
+}
+
+fn check_append(
+    rt: &impl Abort,
+    shelf: &mut MemShelf,
+    (name, bytes): (&str, &[u8]),
+    want: Result<(), Failed>,
+) {
+    assert!(rt; shelf.append(name, bytes) == want, "{name}");
+}
+
+/// A file is not read to its end.
+fn check_unread<H: Shelf>(
+    rt: &impl Abort,
+    alloc: Global,
+    shelf: &mut H,
+    (name, limit): (&str, u64),
+    want: ShelfError,
+) {
+    assert!(rt;
+        shelf.read(alloc, name, limit).err() == Some(want),
+        "{name}"
+    );
+}
+
+fn check_file(rt: &impl Abort, shelf: &MemShelf, name: &str, bytes: Option<&[u8]>) {
+    assert!(rt; shelf.file(name) == bytes, "{name}");
 }
 
 /// A shelf of two files of four bytes, whose third call fails.
 fn check_appends(rt: &impl Abort, shelf: &mut MemShelf) {
-    assert_eq!(rt; shelf.start("a"), Ok(()));
-    assert_eq!(rt; shelf.append("a", b"abc"), Ok(()));
-    assert_eq!(rt; shelf.append("a", b"d"), Err(Failed));
-    assert_eq!(rt; shelf.append("a", b"de"), Err(Failed));
-    assert_eq!(rt; shelf.append("b", b"xyz"), Ok(()));
+    check_start(rt, shelf, "a", Ok(()));
+    check_append(rt, shelf, ("a", b"abc"), Ok(()));
+    check_append(rt, shelf, ("a", b"d"), Err(Failed));
+    check_append(rt, shelf, ("a", b"de"), Err(Failed));
+    check_append(rt, shelf, ("b", b"xyz"), Ok(()));
+    check_start(rt, shelf, "c", Err(Failed));
+    check_file(rt, shelf, "a", Some(b"abc"));
 }
 
-fn check_file(rt: &impl Abort, shelf: &MemShelf, name: &str, bytes: Option<&[u8]>) {
-    assert_eq!(rt; shelf.file(name), bytes, "{name}");
-}
-
-/// Two of its files are not read.
+/// What is then read and made anew.
 fn check_reads(rt: &impl Abort, alloc: Global, shelf: &mut MemShelf) {
-    for (name, want) in [
-        ("b", ShelfError::TooLong { limit: 2 }),
-        ("c", ShelfError::Failed),
-    ] {
-        assert_eq!(rt; shelf.read(alloc, name, 2).err(), Some(want));
-    }
+    check_unread(rt, alloc, shelf, ("b", 2), ShelfError::TooLong { limit: 2 });
+    check_unread(rt, alloc, shelf, ("c", 2), ShelfError::Failed);
+    check_start(rt, shelf, "b", Ok(()));
+    check_file(rt, shelf, "b", Some(b""));
+    check_file(rt, shelf, "c", None);
 }
 
 #[test]
 fn a_shelf_fails_where_told(rt: HostRuntime) -> Result<(), Fail> {
     let mut shelf = MemShelf::new(rt.alloc(), 2, 4, list(rt.alloc(), &[3])?)?;
     check_appends(&rt, &mut shelf);
-    assert_eq!(rt; shelf.start("c"), Err(Failed));
-    check_file(&rt, &shelf, "a", Some(b"abc"));
     check_reads(&rt, rt.alloc(), &mut shelf);
-    assert_eq!(rt; shelf.start("b"), Ok(()));
-    check_file(&rt, &shelf, "b", Some(b""));
-    check_file(&rt, &shelf, "c", None);
     Ok(())
 }
 
+/// Writes the file `a` in two pieces.
+fn write_pieces(rt: &impl Abort, shelf: &mut FileShelf) {
+    assert!(rt; shelf.start("a") == Ok(()));
+    let mut file = ShelfFile::new(shelf, "a");
+    check_put(rt, &mut file, b"abc", Ok(()));
+    check_put(rt, &mut file, b"def", Ok(()));
+}
+
 /// The file `a` has six bytes.
-fn check_read<H: Shelf>(rt: &impl Abort, alloc: Global, shelf: &mut H) -> Result<(), Fail> {
-    assert_eq!(rt;
-        shelf.read(alloc, "a", 5).err(),
-        Some(ShelfError::TooLong { limit: 5 })
-    );
-    let bytes = shelf.read(alloc, "a", 6).ok().ok_or("not read")?;
-    assert_eq!(rt; bytes.as_slice(), b"abcdef".as_slice());
-    Ok(())
+fn check_read<H: Shelf>(rt: &impl Abort, alloc: Global, shelf: &mut H) {
+    match shelf.read(alloc, "a", 6) {
+        Ok(bytes) => assert!(rt; bytes.as_slice() == b"abcdef".as_slice()),
+        Err(fault) => panic!(rt; "{fault:?}"),
+    }
+}
+
+fn check_pieces(rt: &impl Abort, alloc: Global, shelf: &mut FileShelf) {
+    check_unread(rt, alloc, shelf, ("a", 9), ShelfError::Failed);
+    write_pieces(rt, shelf);
+    check_unread(rt, alloc, shelf, ("a", 5), ShelfError::TooLong { limit: 5 });
+    check_read(rt, alloc, shelf);
+    check_start(rt, shelf, "no/such/folder", Err(Failed));
 }
 
 // The system's files, in the test's own folder.
 #[test]
-fn files_are_written_and_read(rt: HostRuntime) -> Result<(), Fail> {
-    let mut shelf = FileShelf::new(&rt);
-    assert_eq!(rt;
-        shelf.read(rt.alloc(), "a", 9).err(),
-        Some(ShelfError::Failed)
-    );
-    assert_eq!(rt; shelf.start("a"), Ok(()));
-    {
-        let mut file = ShelfFile::new(&mut shelf, "a");
-        assert_eq!(rt; write_all_of(&mut file, b"abc"), Ok(()));
-        assert_eq!(rt; write_all_of(&mut file, b"def"), Ok(()));
-    }
-    check_read(&rt, rt.alloc(), &mut shelf)?;
-    assert_eq!(rt; shelf.start("no/such/folder"), Err(Failed));
-    assert_eq!(rt; write_all_of(&mut StdSink::new(rt.stdout()), b""), Ok(()));
-    Ok(())
+fn files_are_written_and_read(rt: HostRuntime) {
+    check_pieces(&rt, rt.alloc(), &mut FileShelf::new(&rt));
+}
+
+#[test]
+fn nothing_is_written_to_the_output(rt: HostRuntime) {
+    check_put(&rt, &mut StdSink::new(rt.stdout()), b"", Ok(()));
 }

@@ -1,9 +1,9 @@
 //! Tests of `nrrd` and `nrrd_text`.
 
-use iso_base::{SampleKind, VoxelData};
-use iso_io::MemSink;
+use iso_base::{SampleKind, Sizes, VoxelData};
+use iso_io::{Failed, MemSink};
 use nrrd::{
-    FileVolume, NrrdFault, put_coded_head, put_nrrd_head, put_samples, read_file_volume,
+    FileVolume, NrrdFault, RawVolume, put_coded_head, put_nrrd_head, put_samples, read_file_volume,
     read_volume,
 };
 use nrrd_text::{put_hex, put_text};
@@ -25,27 +25,55 @@ fn check_volume(
     left: u64,
 ) -> Result<(), Fail> {
     let (volume, surplus) = read(alloc, text)?;
-    assert_eq!(rt; surplus, left);
-    assert!(rt; volume.samples() == samples);
+    assert!(rt; surplus == left && volume.samples() == samples);
     Ok(())
 }
 
-/// Writes a volume with raw samples.
-fn put_volume(sink: &mut MemSink, volume: &VoxelData) -> Result<(), Fail> {
+/// Writes the volume of a text with raw samples.
+fn put_read(sink: &mut MemSink, alloc: Global, text: &[u8]) -> Result<(), Fail> {
+    let (volume, _) = read(alloc, text)?;
+    Ok(put_volume(sink, &volume)?)
+}
+
+fn put_volume(sink: &mut MemSink, volume: &VoxelData) -> Result<(), Failed> {
     put_nrrd_head(sink, &volume.sizes(), volume.kind())?;
-    put_samples(sink, volume.kind(), volume.samples())?;
-    Ok(())
+    put_samples(sink, volume.kind(), volume.samples())
+}
+
+/// A text is a volume of these samples, but for one byte behind, and so it is when it was written.
+fn check_written(
+    rt: &impl Abort,
+    alloc: Global,
+    text: &[u8],
+    samples: &[i64],
+    sink: &mut MemSink,
+) -> Result<(), Fail> {
+    check_volume(rt, alloc, text, samples, 1)?;
+    put_read(sink, alloc, text)?;
+    check_volume(rt, alloc, sink.bytes(), samples, 0)
 }
 
 #[test]
 fn a_written_volume_is_read_again(rt: HostRuntime) -> Result<(), Fail> {
     let text =
         b"NRRD0005\n# made by hand\nType: Unsigned Short\ndimension:3\nkind:=a\nsizes: 2 2 2\nendian: BIG\nencoding: raw\n\n\x00\x01\x00\x02\x00\x03\x00\x04\x00\x05\x00\x06\x00\x07\xff\xfe!";
-    let samples = [1, 2, 3, 4, 5, 6, 7, 65_534];
-    check_volume(&rt, rt.alloc(), text, &samples, 1)?;
+    let samples = &[1, 2, 3, 4, 5, 6, 7, 65_534];
     let mut sink = MemSink::new(rt.alloc(), 200, Vec::new(rt.alloc()))?;
-    put_volume(&mut sink, &read(rt.alloc(), text)?.0)?;
-    check_volume(&rt, rt.alloc(), sink.bytes(), &samples, 0)
+    check_written(&rt, rt.alloc(), text, samples, &mut sink)
+}
+
+fn check_part(rt: &impl Abort, alloc: Global, volume: &RawVolume<'_>) -> Result<(), Fail> {
+    assert!(rt; volume.sizes().count() == 8);
+    let part = volume.part(alloc, 5, 2)?;
+    assert!(rt; part.as_slice() == [6, -1].as_slice());
+    Ok(())
+}
+
+/// Eight samples, the last of which is the least of its kind.
+fn check_raw(rt: &impl Abort, alloc: Global, volume: &RawVolume<'_>) -> Result<(), Fail> {
+    assert!(rt; volume.sizes().count() == 8);
+    assert!(rt; volume.at(7) == -32_768);
+    check_part(rt, alloc, volume)
 }
 
 #[test]
@@ -53,15 +81,11 @@ fn samples_in_the_bytes_of_a_file(rt: HostRuntime) -> Result<(), Fail> {
     let text =
         b"NRRD0001\ntype: int16\ndimension: 3\nsizes: 2 2 2\nendian: little\nencoding: raw\n\n\x01\x00\x02\x00\x03\x00\x04\x00\x05\x00\x06\x00\xff\xff\x00\x80";
     let (volume, surplus) = read_file_volume(rt.alloc(), text)?;
-    assert_eq!(rt; surplus, 0);
     let FileVolume::Raw(volume) = volume else {
         return Err("raw samples stay in the file")?;
     };
-    assert!(rt; volume.sizes().count() == 8);
-    assert_eq!(rt; volume.at(7), -32_768);
-    let part = volume.part(rt.alloc(), 5, 2)?;
-    assert_eq!(rt; part.as_slice(), [6, -1].as_slice());
-    Ok(())
+    assert!(rt; surplus == 0);
+    check_raw(&rt, rt.alloc(), &volume)
 }
 
 // The files are laid out as the format's usual tool does: ten numbers a line, spaces before numbers of hex digits' lines,
@@ -86,41 +110,81 @@ fn fault_of(rt: &HostRuntime, encoding: &str, samples: &str) -> Result<Option<Nr
     Ok(read(rt.alloc(), text.as_bytes()).err())
 }
 
+/// Encodings, samples in print, and what is wrong with them.
+const FAULTY: &[(&str, &str, NrrdFault)] = &[
+    (
+        "text",
+        "10 0 0 0 0 0 0",
+        NrrdFault::ShortSamples {
+            needed: 8,
+            present: 7,
+        },
+    ),
+    ("txt", "10 0 300", NrrdFault::BadSample { place: 2 }),
+    (
+        "text",
+        "10 0 0 0 0 0 0 0\0",
+        NrrdFault::BadSample { place: 7 },
+    ),
+    (
+        "hex",
+        "0A000000 000x0000",
+        NrrdFault::BadSample { place: 5 },
+    ),
+    (
+        "hex",
+        "0A000000,0000000",
+        NrrdFault::ShortSamples {
+            needed: 16,
+            present: 15,
+        },
+    ),
+];
+
 #[test]
 fn faulty_samples_in_print(rt: HostRuntime) -> Result<(), Fail> {
-    let seven = NrrdFault::ShortSamples {
-        needed: 8,
-        present: 7,
-    };
-    assert!(rt; fault_of(&rt, "text", "10 0 0 0 0 0 0")? == Some(seven));
-    assert!(rt; fault_of(&rt, "txt", "10 0 300")? == Some(NrrdFault::BadSample { place: 2 }));
-    let nul = fault_of(&rt, "text", "10 0 0 0 0 0 0 0\0")?;
-    assert!(rt; nul == Some(NrrdFault::BadSample { place: 7 }));
-    let letter = fault_of(&rt, "hex", "0A000000 000x0000")?;
-    assert!(rt; letter == Some(NrrdFault::BadSample { place: 5 }));
-    let digits = NrrdFault::ShortSamples {
-        needed: 16,
-        present: 15,
-    };
-    assert!(rt; fault_of(&rt, "hex", "0A000000,0000000")? == Some(digits));
+    for (encoding, samples, fault) in FAULTY {
+        let found = fault_of(&rt, encoding, samples)?;
+        assert!(rt; found == Some(*fault), "{samples}");
+    }
+    Ok(())
+}
+
+const ROWS: &[[i64; 2]] = &[[1, -128], [77, 0], [5, 6], [7, 127]];
+
+/// Writes the rows in print.
+fn put_rows(sink: &mut MemSink) -> Result<(), Fail> {
+    let sizes = Sizes::new(2, 2, 2)?;
+    put_coded_head(sink, &sizes, SampleKind::I8, false)?;
+    for row in ROWS {
+        put_text(sink, row)?;
+    }
+    Ok(())
+}
+
+fn check_rows(rt: &impl Abort, sink: &mut MemSink) -> Result<(), Fail> {
+    put_rows(sink)?;
+    let rows = b"\nencoding: text\n\n1 -128\n77 0\n5 6\n7 127\n";
+    assert!(rt; sink.bytes().ends_with(rows));
     Ok(())
 }
 
 #[test]
-fn printed_samples_are_read_again(rt: HostRuntime) -> Result<(), Fail> {
-    let rows = [[1i64, -128], [77, 0], [5, 6], [7, 127]];
-    let sizes = iso_base::Sizes::new(2, 2, 2)?;
+fn samples_are_written_in_print(rt: HostRuntime) -> Result<(), Fail> {
     let mut sink = MemSink::new(rt.alloc(), 200, Vec::new(rt.alloc()))?;
-    put_coded_head(&mut sink, &sizes, SampleKind::I8, false)?;
-    for row in &rows {
-        put_text(&mut sink, row)?;
-    }
-    assert!(rt;
-        sink.bytes()
-            .ends_with(b"\nencoding: text\n\n1 -128\n77 0\n5 6\n7 127\n")
+    check_rows(&rt, &mut sink)
+}
+
+fn check_digits(rt: &impl Abort, sink: &mut MemSink) {
+    assert!(rt; put_hex(sink, SampleKind::I16, &[1, -128]).is_ok());
+    assert!(rt; sink.bytes() == b"010080ff\n".as_slice());
+}
+
+#[test]
+fn samples_are_written_in_hex_digits(rt: HostRuntime) -> Result<(), Fail> {
+    check_digits(
+        &rt,
+        &mut MemSink::new(rt.alloc(), 200, Vec::new(rt.alloc()))?,
     );
-    let mut digits = MemSink::new(rt.alloc(), 200, Vec::new(rt.alloc()))?;
-    put_hex(&mut digits, SampleKind::I16, &rows[0])?;
-    assert!(rt; digits.bytes() == b"010080ff\n".as_slice());
     Ok(())
 }

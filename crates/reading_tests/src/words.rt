@@ -1,6 +1,8 @@
 use command_words::{Request, read_words};
+use iso_base::Level;
 use mesh_text::TwoWayFormat;
 use std::alloc::{AllocError, Global};
+use std::process::Abort;
 use std::test::Fail;
 
 /// The words of a line, one space between two of them.
@@ -19,26 +21,37 @@ fn format_name(format: TwoWayFormat) -> &'static str {
     }
 }
 
+fn told_mesh(
+    alloc: Global,
+    level: Level,
+    pad: Option<i64>,
+    format: TwoWayFormat,
+) -> Result<String, AllocError> {
+    format!(in alloc; "extract {} {pad:?} {}", level.value(), format_name(format))
+}
+
+/// Where a session begins, and its bricks and pages.
+fn told_session(
+    alloc: Global,
+    (level, pad): (Level, Option<i64>),
+    name: &str,
+    (bricks, pages): (u32, u32),
+) -> Result<String, AllocError> {
+    format!(in alloc; "session {} {pad:?} {name} {bricks} {pages}", level.value())
+}
+
 /// A request in words of this test, with the level in thousandths.
 fn told(alloc: Global, request: Request) -> Result<String, AllocError> {
     match request {
         Request::Points { level } => format!(in alloc; "points {}", level.value()),
-        Request::Extract { level, pad, format } => {
-            format!(in alloc; "extract {} {pad:?} {}", level.value(), format_name(format))
-        }
+        Request::Extract { level, pad, format } => told_mesh(alloc, level, pad, format),
         Request::Session {
             level,
             pad,
             name,
             bricks,
             pages,
-        } => {
-            format!(in alloc;
-                "session {} {pad:?} {} {bricks} {pages}",
-                level.value(),
-                name.as_str()
-            )
-        }
+        } => told_session(alloc, (level, pad), name.as_str(), (bricks, pages)),
         Request::Check { format } => format!(in alloc; "check {}", format_name(format)),
         Request::Gen { seed, sizes } => {
             format!(in alloc; "gen {seed} {} {} {}", sizes.nx(), sizes.ny(), sizes.nz())
@@ -56,8 +69,14 @@ fn read(alloc: Global, line: &str) -> Result<String, AllocError> {
     }
 }
 
+fn check_line(rt: &impl Abort, alloc: Global, line: &str, want: &str) -> Result<(), Fail> {
+    let found = read(alloc, line)?;
+    assert!(rt; found.as_str() == want, "{line}");
+    Ok(())
+}
+
 /// Lines of words, and what they ask for.
-const COMMAND_LINES: [(&str, &str); 19] = [
+const COMMAND_LINES: &[(&str, &str)] = &[
     ("points --level=-0", "points 0"),
     ("points --level=000000000000000005", "points 5000"),
     ("points --level=0.5", "points 500"),
@@ -100,7 +119,7 @@ const COMMAND_LINES: [(&str, &str); 19] = [
 #[test]
 fn command_lines_are_read(rt: HostRuntime) -> Result<(), Fail> {
     for (line, want) in COMMAND_LINES {
-        assert_eq!(rt; read(rt.alloc(), line)?.as_str(), want);
+        check_line(&rt, rt.alloc(), line, want)?;
     }
     Ok(())
 }
@@ -112,7 +131,7 @@ const OTHER_WORDS: &str =
 #[test]
 fn other_words_are_refused(rt: HostRuntime) -> Result<(), Fail> {
     for line in OTHER_WORDS.split('\n') {
-        assert_eq!(rt; read(rt.alloc(), line)?.as_str(), "none", "{line}");
+        check_line(&rt, rt.alloc(), line, "none")?;
     }
     assert!(rt; read_words(&[]).is_none());
     Ok(())

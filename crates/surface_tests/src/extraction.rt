@@ -6,13 +6,14 @@ ghost use Rattle.iso_defs.specs.Grid.{Grid};
 use crate::grids::{three_a_side, two_a_side};
 use crate::volumes::one_above;
 use flat_mesh::{Mesh, VertexName, extract_flat};
-use iso_base::{EdgeName, Level, Memory, SampleKind, Sizes, Thousandth, VoxelData};
+use iso_base::{EdgeName, Level, Memory, SampleKind, Sizes, Thousandth, TriangleList, VoxelData};
 use std::alloc::Global;
+use std::process::Abort;
 use std::test::Fail;
 use voxel_list::VoxelList;
 
 /// The mesh at a level of two by two by two samples, the first of which is 10.
-pub fn corner_mesh(alloc: Global, sizes: Sizes, level: Level) -> Result<Mesh, Memory>
+fn corner_mesh(alloc: Global, sizes: Sizes, level: Level) -> Result<Mesh, Memory>
     requires { sizes ≡ record { nx = 2; ny = 2; nz = 2 } }
 {
     let samples = vec![in alloc; 10, 0, 0, 0, 0, 0, 0, 0]?;
@@ -20,55 +21,90 @@ pub fn corner_mesh(alloc: Global, sizes: Sizes, level: Level) -> Result<Mesh, Me
     extract_flat(alloc, &volume, level)
 }
 
-/// A vertex on the edge of that name.
-fn on_edge(name: u32, at: [i64; 3]) -> (VertexName, [Thousandth; 3]) {
-    (VertexName::Edge(EdgeName(name)), at.map(Thousandth))
+/// That mesh at level 5.
+pub fn corner_at_5(alloc: Global) -> Result<Mesh, Fail> {
+    let sizes = two_a_side().ok_or("2, 2 and 2 are sizes")?;
+    let level = Level::new(5_000).ok_or("5 is a level")?;
+    Ok(corner_mesh(alloc, sizes, level)?)
+}
+
+fn check_corner(rt: &impl Abort, mesh: &Mesh) {
+    assert!(rt; mesh.vertex_count() == 3 && mesh.triangle_count() == 1);
+    if mesh.vertex_count() == 3 && mesh.triangle_count() == 1 {
+        let at = [Thousandth(0), Thousandth(500), Thousandth(0)];
+        assert!(rt; mesh.vertex(1) == (VertexName::Edge(EdgeName(1)), at));
+        assert!(rt; mesh.triangle(0) == [0, 1, 2]);
+    }
+}
+
+fn check_list(rt: &impl Abort, list: &TriangleList) {
+    assert!(rt; list.vertex_count() == 3 && list.triangles() == [[0, 1, 2]].as_slice());
 }
 
 #[test]
 fn one_corner(rt: HostRuntime) -> Result<(), Fail> {
-    let sizes = two_a_side().ok_or("2, 2 and 2 are sizes")?;
-    let level = Level::new(5_000).ok_or("5 is a level")?;
-    let mesh = corner_mesh(rt.alloc(), sizes, level)?;
-    assert_eq!(rt; mesh.vertex_count(), 3);
-    assert_eq!(rt; mesh.triangle_count(), 1);
-    if mesh.vertex_count() == 3 && mesh.triangle_count() == 1 {
-        assert_eq!(rt; mesh.vertex(1), on_edge(1, [0, 500, 0]));
-        assert_eq!(rt; mesh.triangle(0), [0, 1, 2]);
-    }
-    let list = mesh.triangle_list(rt.alloc())?;
-    assert_eq!(rt; list.vertex_count(), 3);
-    assert_eq!(rt; list.triangles(), [[0, 1, 2]].as_slice());
+    check_corner(&rt, &corner_at_5(rt.alloc())?);
     Ok(())
+}
+
+fn listed_corner(alloc: Global) -> Result<TriangleList, Fail> {
+    let mesh = corner_at_5(alloc)?;
+    Ok(mesh.triangle_list(alloc)?)
+}
+
+#[test]
+fn the_triangles_of_one_corner(rt: HostRuntime) -> Result<(), Fail> {
+    check_list(&rt, &listed_corner(rt.alloc())?);
+    Ok(())
+}
+
+/// The mesh at level 5 round the middle of three points a side.
+fn above_at_5(alloc: Global) -> Result<Mesh, Fail> {
+    let sizes = three_a_side().ok_or("3, 3 and 3 are sizes")?;
+    let level = Level::new(5_000).ok_or("5 is a level")?;
+    let volume = one_above(alloc, sizes)?;
+    Ok(extract_flat(alloc, &volume, level)?)
+}
+
+/// Its vertices: names of edges and places.
+const VERTICES: &[(u32, [i64; 3])] = &[
+    (14, [1000, 1000, 500]),
+    (31, [1000, 500, 1000]),
+    (36, [500, 1000, 1000]),
+    (39, [1500, 1000, 1000]),
+    (40, [1000, 1500, 1000]),
+    (41, [1000, 1000, 1500]),
+];
+
+const FACES: &[[u32; 3]] = &[
+    [2, 0, 1],
+    [3, 1, 0],
+    [2, 4, 0],
+    [3, 0, 4],
+    [2, 1, 5],
+    [3, 5, 1],
+    [2, 5, 4],
+    [3, 4, 5],
+];
+
+/// The name and the place of a vertex that is on an edge.
+fn on_edge((name, [x, y, z]): (VertexName, [Thousandth; 3])) -> Option<(u32, [i64; 3])> {
+    match name {
+        VertexName::Edge(EdgeName(edge)) => Some((edge, [x.0, y.0, z.0])),
+        _ => None,
+    }
+}
+
+fn check_above(rt: &impl Abort, mesh: &Mesh) {
+    for i in 0..mesh.vertex_count() {
+        let found = on_edge(mesh.vertex(i));
+        assert!(rt; found.as_ref() == VERTICES.get(i as usize), "vertex {i}");
+    }
+    assert!(rt; mesh.vertex_count() == 6 && mesh.triangles() == FACES);
 }
 
 #[test]
 fn one_sample_above(rt: HostRuntime) -> Result<(), Fail> {
-    let sizes = three_a_side().ok_or("3, 3 and 3 are sizes")?;
-    let level = Level::new(5_000).ok_or("5 is a level")?;
-    let mesh = extract_flat(rt.alloc(), &one_above(rt.alloc(), sizes)?, level)?;
-    let vertices = [
-        on_edge(14, [1000, 1000, 500]),
-        on_edge(31, [1000, 500, 1000]),
-        on_edge(36, [500, 1000, 1000]),
-        on_edge(39, [1500, 1000, 1000]),
-        on_edge(40, [1000, 1500, 1000]),
-        on_edge(41, [1000, 1000, 1500]),
-    ];
-    assert_eq!(rt; mesh.vertex_count(), 6);
-    for i in 0..mesh.vertex_count() {
-        assert_eq!(rt; vertices.get(i as usize), Some(&mesh.vertex(i)));
-    }
-    let faces = [
-        [2, 0, 1],
-        [3, 1, 0],
-        [2, 4, 0],
-        [3, 0, 4],
-        [2, 1, 5],
-        [3, 5, 1],
-        [2, 5, 4],
-        [3, 4, 5],
-    ];
-    assert_eq!(rt; mesh.triangles(), faces.as_slice());
+    check_above(&rt, &above_at_5(rt.alloc())?);
     Ok(())
 }

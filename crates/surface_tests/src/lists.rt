@@ -2,7 +2,7 @@
 
 ghost use Rattle.std.specs.Prelude.{◌≡◌, ◌≤◌, ◌↔◌, length, All, IfOk, IsTrue};
 ghost use Rattle.iso_defs.specs.Manifold.{HasThreeCorners};
-ghost use Rattle.iso_base.specs.Triangles.{triangle_of};
+ghost use Rattle.iso_base.specs.Triangles.{IsBelow, triangle_of};
 
 use iso_base::TriangleList;
 use std::alloc::Global;
@@ -10,7 +10,13 @@ use std::process::Abort;
 use std::test::Fail;
 
 /// The faces of a tetrahedron.
-pub const TETRAHEDRON: [[u32; 3]; 4] = [[0, 1, 2], [0, 2, 3], [0, 3, 1], [1, 3, 2]];
+pub const TETRAHEDRON: &[[u32; 3]] = &[[0, 1, 2], [0, 2, 3], [0, 3, 1], [1, 3, 2]];
+
+fn is_below_nine(t: &[u32; 3]) -> bool
+    ensures { IsTrue result → IsBelow 9 (triangle_of t.now) }
+{
+    t[0] < 9 && t[1] < 9 && t[2] < 9
+}
 
 /// At most nine triangles over nine vertices.
 pub fn list_of(rt: &impl Abort, alloc: Global, triangles: &[[u32; 3]]) -> Result<TriangleList, Fail>
@@ -19,7 +25,7 @@ pub fn list_of(rt: &impl Abort, alloc: Global, triangles: &[[u32; 3]]) -> Result
     ensures triangles { IfOk result (λ m. m.triangles ≡ triangles.now) }
 {
     assert!(rt; triangles.len() <= 9);
-    assert!(rt; triangles.iter().all(|t| t[0] < 9 && t[1] < 9 && t[2] < 9));
+    assert!(rt; triangles.iter().all(|t| is_below_nine(t)));
     Ok(TriangleList::new(9, triangles.to_vec(alloc)?))
 }
 

@@ -8,7 +8,7 @@ ghost use Rattle.iso_base.specs.declared.kind.SampleKind.TheVariants.{U8};
 ghost use Rattle.measure.specs.Positions.{IsWithin, vector_of};
 
 use crate::grids::{sizes_of, three_a_side, two_a_side};
-use crate::lists::{TETRAHEDRON, surface_of};
+use crate::lists::surface_of;
 use crate::volumes::{one_above, one_below};
 use iso_base::{Level, Memory, Point, SampleKind, Sizes, VoxelData, point_of};
 use measure::{Measures, Share, measure};
@@ -59,21 +59,29 @@ const FAR: [[i64; 3]; 9] = [
     [0, 0, 0],
 ];
 
+fn check_measured(
+    rt: &impl Abort,
+    alloc: Global,
+    triangles: &[[u32; 3]],
+    shares: &[Share],
+) -> Result<(), Fail> {
+    let measures = measured(rt, alloc, triangles, &FAR)?;
+    assert!(rt; measures.shares() == shares);
+    Ok(())
+}
+
 #[test]
 fn corners_far_from_the_origin(rt: HostRuntime) -> Result<(), Fail> {
-    let [a, b, c, d] = TETRAHEDRON;
     let triangle = Share {
         least: 4,
         six: -36_893_488_147_419_103_232,
         area: [-17_592_186_044_416; 3],
         border: 3,
     };
-    let measures = measured(&rt, rt.alloc(), &[a, b, [5, 4, 6], c, d], &FAR)?;
-    assert_eq!(rt; measures.shares(), [closed(-30), triangle].as_slice());
-    let [a, b, c, d] = TETRAHEDRON.map(|[x, y, z]| [y, x, z]);
-    let turned = measured(&rt, rt.alloc(), &[a, b, c, d], &FAR)?;
-    assert_eq!(rt; turned.shares(), [closed(30)].as_slice());
-    Ok(())
+    let triangles = &[[0, 1, 2], [0, 2, 3], [5, 4, 6], [0, 3, 1], [1, 3, 2]];
+    check_measured(&rt, rt.alloc(), triangles, &[closed(-30), triangle])?;
+    let turned = &[[1, 0, 2], [2, 0, 3], [3, 0, 1], [3, 1, 2]];
+    check_measured(&rt, rt.alloc(), turned, &[closed(30)])
 }
 
 /// Eight samples, with one value for the first and one for the others.
@@ -95,41 +103,72 @@ fn measured_at_5(alloc: Global, volume: &VoxelList) -> Result<Measures, Fail> {
     Ok(mesh_measures(alloc, volume, level)?)
 }
 
+/// The measures of the mesh of eight samples.
+fn measured_eight(alloc: Global, first: i64, others: i64) -> Result<Measures, Fail>
+    requires first { IsOfKind U8 first }
+    requires others { IsOfKind U8 others }
+{
+    let sizes = two_a_side().ok_or("2, 2 and 2 are sizes")?;
+    measured_at_5(alloc, &eight(alloc, sizes, first, others)?)
+}
+
+fn check_shares(rt: &impl Abort, measures: &Measures, shares: &[Share]) {
+    assert!(rt; measures.shares() == shares);
+}
+
 #[test]
 fn one_corner_has_a_border(rt: HostRuntime) -> Result<(), Fail> {
-    let sizes = two_a_side().ok_or("2, 2 and 2 are sizes")?;
-    let volume = eight(rt.alloc(), sizes, 10, 0)?;
     let corner = Share {
         least: 0,
         six: 125_000_000,
         area: [250_000; 3],
         border: 3,
     };
-    let measures = measured_at_5(rt.alloc(), &volume)?;
-    assert_eq!(rt; measures.shares(), [corner].as_slice());
-    let sizes = two_a_side().ok_or("2, 2 and 2 are sizes")?;
-    let nothing = eight(rt.alloc(), sizes, 0, 0)?;
-    assert!(rt; measured_at_5(rt.alloc(), &nothing)?.shares().is_empty());
+    check_shares(&rt, &measured_eight(rt.alloc(), 10, 0)?, &[corner]);
+    Ok(())
+}
+
+#[test]
+fn nothing_has_no_measures(rt: HostRuntime) -> Result<(), Fail> {
+    check_shares(&rt, &measured_eight(rt.alloc(), 0, 0)?, &[]);
+    Ok(())
+}
+
+fn measured_above(alloc: Global) -> Result<Measures, Fail> {
+    let sizes = three_a_side().ok_or("3, 3 and 3 are sizes")?;
+    measured_at_5(alloc, &one_above(alloc, sizes)?)
+}
+
+fn measured_below(alloc: Global) -> Result<Measures, Fail> {
+    let sizes = three_a_side().ok_or("3, 3 and 3 are sizes")?;
+    measured_at_5(alloc, &one_below(alloc, sizes)?)
+}
+
+#[test]
+fn one_sample_above(rt: HostRuntime) -> Result<(), Fail> {
+    check_shares(&rt, &measured_above(rt.alloc())?, &[closed(1_000_000_000)]);
     Ok(())
 }
 
 #[test]
 fn above_and_below_exchanged(rt: HostRuntime) -> Result<(), Fail> {
-    let sizes = three_a_side().ok_or("3, 3 and 3 are sizes")?;
-    let measures = measured_at_5(rt.alloc(), &one_above(rt.alloc(), sizes)?)?;
-    assert_eq!(rt; measures.shares(), [closed(1_000_000_000)].as_slice());
-    let sizes = three_a_side().ok_or("3, 3 and 3 are sizes")?;
-    let measures = measured_at_5(rt.alloc(), &one_below(rt.alloc(), sizes)?)?;
-    assert_eq!(rt; measures.shares(), [closed(-1_000_000_000)].as_slice());
+    check_shares(&rt, &measured_below(rt.alloc())?, &[closed(-1_000_000_000)]);
     Ok(())
+}
+
+fn block_in_a_pad(alloc: Global) -> Result<VoxelList, Fail> {
+    let sizes = two_a_side().ok_or("2, 2 and 2 are sizes")?;
+    Ok(eight(alloc, sizes, 10, 10)?.padded(alloc, 0)?)
 }
 
 #[test]
 fn a_block_in_a_pad(rt: HostRuntime) -> Result<(), Fail> {
-    let sizes = two_a_side().ok_or("2, 2 and 2 are sizes")?;
-    let volume = eight(rt.alloc(), sizes, 10, 10)?.padded(rt.alloc(), 0)?;
-    let measures = measured_at_5(rt.alloc(), &volume)?;
-    assert_eq!(rt; measures.shares(), [closed(34_000_000_000)].as_slice());
+    let volume = block_in_a_pad(rt.alloc())?;
+    check_shares(
+        &rt,
+        &measured_at_5(rt.alloc(), &volume)?,
+        &[closed(34_000_000_000)],
+    );
     Ok(())
 }
 
@@ -189,19 +228,35 @@ fn zeros(alloc: Global, sizes: Sizes) -> Result<VoxelList, Memory>
     Ok(VoxelList::of(VoxelData::new(sizes, SampleKind::U8, samples)))
 }
 
-/// In a pad of 0, a shape is one closed part, whose volume is that of its voxels but for a twentieth: the mesh cuts their
-/// edges and corners off.
-fn expect_volume(rt: &impl Abort, alloc: Global, shape: Shape) -> Result<(), Fail> {
+fn shaped(alloc: Global, shape: Shape) -> Result<VoxelList, Fail>
+    ensures { IfOk result (λ v. v.pad ≡ None) }
+{
     let mut volume = zeros(alloc, grid().ok_or("13, 13 and 7 are sizes")?)?;
     put_shape(&mut volume, shape);
-    let voxels = volume.samples().iter().filter(|s| **s == 10).count() as u128;
-    let measures = measured_at_5(alloc, &volume.padded(alloc, 0)?)?;
+    Ok(volume)
+}
+
+fn voxels_in(volume: &VoxelList) -> usize {
+    volume.samples().iter().filter(|s| **s == 10).count()
+}
+
+/// One closed part, whose volume is that of so many voxels but for a twentieth: the mesh cuts their edges and corners off.
+fn check_volume(rt: &impl Abort, measures: &Measures, voxels: usize) {
+    let voxels = voxels as u128;
     for share in measures.shares() {
-        assert_eq!(rt; *share, closed(share.six));
+        assert!(rt; *share == closed(share.six));
         let lost = share.six.abs_diff(6_000_000_000 * voxels as i128);
         assert!(rt; lost <= 300_000_000 * voxels);
     }
-    assert_eq!(rt; measures.shares().len(), 1);
+    assert!(rt; measures.shares().len() == 1);
+}
+
+/// In a pad of 0.
+fn expect_volume(rt: &impl Abort, alloc: Global, shape: Shape) -> Result<(), Fail> {
+    let volume = shaped(alloc, shape)?;
+    let voxels = voxels_in(&volume);
+    let padded = volume.padded(alloc, 0)?;
+    check_volume(rt, &measured_at_5(alloc, &padded)?, voxels);
     Ok(())
 }
 

@@ -48,17 +48,18 @@ pub fn one_below(alloc: Global, sizes: Sizes) -> Result<VoxelList, Memory>
     Ok(volume)
 }
 
+/// The number of points, the lowest and the highest of the box of some corners.
+fn box_of(corners: [i64; 6]) -> Option<(u64, Point, Point)> {
+    let area = FillBox::new(&two_a_side()?, corners)?;
+    Some((area.count(), area.low(), area.high()))
+}
+
 #[test]
-fn boxes_of_corners(rt: HostRuntime) -> Result<(), Fail> {
-    let sizes = two_a_side().ok_or("2, 2 and 2 are sizes")?;
-    let area = FillBox::new(&sizes, [1, 0, 1, 0, 0, 1]).ok_or("both corners lie in the grid")?;
-    assert_eq!(rt; area.count(), 2);
-    assert_eq!(rt; area.low(), Point { x: 0, y: 0, z: 1 });
-    assert_eq!(rt; area.high(), FAR);
-    for outside in [[0, 0, 0, 0, 2, 0], [0, 0, -1, 0, 0, 0]] {
-        assert!(rt; FillBox::new(&sizes, outside).is_none());
-    }
-    Ok(())
+fn boxes_of_corners(rt: HostRuntime) {
+    let low = Point { x: 0, y: 0, z: 1 };
+    assert!(rt; box_of([1, 0, 1, 0, 0, 1]) == Some((2, low, FAR)));
+    assert!(rt; box_of([0, 0, 0, 0, 2, 0]).is_none());
+    assert!(rt; box_of([0, 0, -1, 0, 0, 0]).is_none());
 }
 
 #[test]
@@ -68,21 +69,34 @@ fn samples_of_points(rt: HostRuntime) -> Result<(), Fail> {
     let old = list.copy(rt.alloc())?;
     list.set(FAR, 7);
     let (new, listed) = (list.get(FAR), list.samples()[5]);
-    assert_eq!(rt; (new, listed, old.get(FAR)), (7, 7, 0));
+    assert!(rt; (new, listed, old.get(FAR)) == (7, 7, 0));
     Ok(())
+}
+
+fn padded_with_7(alloc: Global) -> Result<VoxelList, Fail>
+    ensures { IfOk result (λ v. v.grid ≡ record { nx = 4; ny = 4; nz = 4 }) }
+{
+    let sizes = two_a_side().ok_or("2, 2 and 2 are sizes")?;
+    Ok(volume(alloc, sizes)?.padded(alloc, 7)?)
+}
+
+/// Two samples of the volume, and two of the pad.
+fn some_samples(padded: &VoxelList) -> [i64; 4]
+    requires { padded.now.grid ≡ record { nx = 4; ny = 4; nz = 4 } }
+{
+    [
+        padded.get(Point { x: 1, y: 1, z: 1 }),
+        padded.get(Point { x: 2, y: 2, z: 2 }),
+        padded.get(FAR),
+        padded.get(Point { x: 3, y: 3, z: 3 }),
+    ]
 }
 
 #[test]
 fn pad_round_a_volume(rt: HostRuntime) -> Result<(), Fail> {
-    let sizes = two_a_side().ok_or("2, 2 and 2 are sizes")?;
-    let list = volume(rt.alloc(), sizes)?;
-    let padded = list.padded(rt.alloc(), 7)?;
-    assert_eq!(rt; padded.sizes().count(), 64);
-    assert_eq!(rt; padded.pad(), Some(7));
-    assert_eq!(rt; padded.get(Point { x: 1, y: 1, z: 1 }), 10);
-    assert_eq!(rt; padded.get(Point { x: 2, y: 2, z: 2 }), 255);
-    assert_eq!(rt; padded.get(Point { x: 1, y: 0, z: 1 }), 7);
-    assert_eq!(rt; padded.get(Point { x: 3, y: 3, z: 3 }), 7);
+    let padded = padded_with_7(rt.alloc())?;
+    assert!(rt; padded.sizes().count() == 64 && padded.pad() == Some(7));
+    assert!(rt; some_samples(&padded) == [10, 255, 7, 7]);
     Ok(())
 }
 
@@ -106,6 +120,6 @@ fn zeros(alloc: Global, sizes: Sizes) -> Result<VoxelList, Memory>
 fn no_room_for_a_pad(rt: HostRuntime) -> Result<(), Fail> {
     let list = zeros(rt.alloc(), long_sizes().ok_or("1025, 2 and 2 are sizes")?)?;
     let fault = PadFault::Size(SizeFault::AxisTooLong { axis: 0, n: 1027 });
-    assert_eq!(rt; list.padded(rt.alloc(), 0).err(), Some(fault));
+    assert!(rt; list.padded(rt.alloc(), 0).err() == Some(fault));
     Ok(())
 }

@@ -3,37 +3,55 @@
 ghost use Rattle.std.specs.Prelude.{◌≡◌};
 ghost use Rattle.iso_defs.specs.Grid.{Grid};
 
-use crate::extraction::corner_mesh;
+use crate::extraction::corner_at_5;
 use crate::grids::two_a_side;
 use byte_streams::MemSink;
 use crossing_edges::EdgeVertices;
-use iso_base::{Level, Sizes, Written};
+use iso_base::{Sizes, Written};
 use mesh_text::TwoWayFormat;
 use mesh_write::{STAGE, put_mesh_as, put_points};
 use std::alloc::Global;
+use std::process::Abort;
 use std::test::Fail;
 
-#[test]
-fn a_mesh_in_both_formats(rt: HostRuntime) -> Result<(), Fail> {
-    let sizes = two_a_side().ok_or("2, 2 and 2 are sizes")?;
-    let level = Level::new(5_000).ok_or("5 is a level")?;
-    let mesh = corner_mesh(rt.alloc(), sizes, level)?;
-    let ply =
-        "ply\nformat ascii 1.0\nelement vertex 3\nproperty float x\nproperty float y\nproperty float z\nelement face 1\nproperty list uchar int vertex_indices\nend_header\n0.500 0.000 0.000\n0.000 0.500 0.000\n0.000 0.000 0.500\n3 0 1 2\n";
-    let obj = "v 0.500 0.000 0.000\nv 0.000 0.500 0.000\nv 0.000 0.000 0.500\nf 1 2 3\n";
-    for (format, text, bytes) in [(TwoWayFormat::Ply, ply, 216), (TwoWayFormat::Obj, obj, 68)] {
-        let mut sink = MemSink::new(rt.alloc(), 300, Vec::new(rt.alloc()))?;
-        let mut waiting = Vec::with_capacity(rt.alloc(), STAGE)?;
-        let written = put_mesh_as(&mut sink, &mut waiting, &mesh, format, false);
-        let want = Written {
-            vertices: 3,
-            faces: 1,
-            bytes,
-        };
-        assert_eq!(rt; written, Ok(want));
-        assert_eq!(rt; sink.bytes(), text.as_bytes());
-    }
+const PLY: &str =
+    "ply\nformat ascii 1.0\nelement vertex 3\nproperty float x\nproperty float y\nproperty float z\nelement face 1\nproperty list uchar int vertex_indices\nend_header\n0.500 0.000 0.000\n0.000 0.500 0.000\n0.000 0.000 0.500\n3 0 1 2\n";
+
+const OBJ: &str = "v 0.500 0.000 0.000\nv 0.000 0.500 0.000\nv 0.000 0.000 0.500\nf 1 2 3\n";
+
+fn put_corner(alloc: Global, sink: &mut MemSink, format: TwoWayFormat) -> Result<Written, Fail> {
+    let mesh = corner_at_5(alloc)?;
+    let mut waiting = Vec::with_capacity(alloc, STAGE)?;
+    Ok(put_mesh_as(sink, &mut waiting, &mesh, format, false)?)
+}
+
+fn check_corner(
+    rt: &impl Abort,
+    alloc: Global,
+    sink: &mut MemSink,
+    format: TwoWayFormat,
+    (text, bytes): (&str, u64),
+) -> Result<(), Fail> {
+    let written = put_corner(alloc, sink, format)?;
+    let want = Written {
+        vertices: 3,
+        faces: 1,
+        bytes,
+    };
+    assert!(rt; written == want && sink.bytes() == text.as_bytes());
     Ok(())
+}
+
+#[test]
+fn a_mesh_of_polygons(rt: HostRuntime) -> Result<(), Fail> {
+    let mut sink = MemSink::new(rt.alloc(), 300, Vec::new(rt.alloc()))?;
+    check_corner(&rt, rt.alloc(), &mut sink, TwoWayFormat::Ply, (PLY, 216))
+}
+
+#[test]
+fn a_wavefront_mesh(rt: HostRuntime) -> Result<(), Fail> {
+    let mut sink = MemSink::new(rt.alloc(), 300, Vec::new(rt.alloc()))?;
+    check_corner(&rt, rt.alloc(), &mut sink, TwoWayFormat::Obj, (OBJ, 68))
 }
 
 /// Appends the points of three edges of a grid of two points a side.
@@ -49,13 +67,18 @@ fn put_three(alloc: Global, sink: &mut MemSink, sizes: &Sizes) -> Result<(), Fai
     Ok(())
 }
 
+const POINTS: &str =
+    "ply\nformat ascii 1.0\nelement vertex 3\nproperty float x\nproperty float y\nproperty float z\nend_header\n0.500 0.000 0.000\n0.000 0.500 0.000\n0.000 0.000 0.500\n";
+
+fn check_points(rt: &impl Abort, alloc: Global, sink: &mut MemSink) -> Result<(), Fail> {
+    let sizes = two_a_side().ok_or("2, 2 and 2 are sizes")?;
+    put_three(alloc, sink, &sizes)?;
+    assert!(rt; sink.bytes() == POINTS.as_bytes());
+    Ok(())
+}
+
 #[test]
 fn points_of_a_corner(rt: HostRuntime) -> Result<(), Fail> {
-    let sizes = two_a_side().ok_or("2, 2 and 2 are sizes")?;
     let mut sink = MemSink::new(rt.alloc(), 200, Vec::new(rt.alloc()))?;
-    put_three(rt.alloc(), &mut sink, &sizes)?;
-    let want =
-        "ply\nformat ascii 1.0\nelement vertex 3\nproperty float x\nproperty float y\nproperty float z\nend_header\n0.500 0.000 0.000\n0.000 0.500 0.000\n0.000 0.000 0.500\n";
-    assert_eq!(rt; sink.bytes(), want.as_bytes());
-    Ok(())
+    check_points(&rt, rt.alloc(), &mut sink)
 }
