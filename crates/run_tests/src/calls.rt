@@ -5,12 +5,13 @@ ghost use Rattle.std.specs.Prelude.{◌≡◌, ◌<◌};
 
 use commands::run;
 use endings::Status;
-use iso_base::{Memory, Steps};
+use iso_base::Steps;
 use iso_io::{MemShelf, MemSink, MemSource, Source};
 use std::alloc::{AllocError, Global};
 use std::marker::Brand;
 use std::process::Abort;
 use std::sync::ledger::{Blank, Ledger};
+use std::test::Fail;
 
 /// A call: its words, its input, and the bytes of the shelf's file `v`; the most bytes that a read gives, that a write takes
 /// and that a failing append takes; and which reads, writes and calls of the shelf fail, counted from 1.
@@ -86,16 +87,16 @@ fn source_of(alloc: Global, call: &Call<'_>) -> Result<MemSource, AllocError> {
     Ok(MemSource::new(input, call.read_piece.max(1), failing))
 }
 
-fn sink_of(alloc: Global, piece: u32, failing: &[u64]) -> Result<MemSink, Memory> {
+fn sink_of(alloc: Global, piece: u32, failing: &[u64]) -> Result<MemSink, Fail> {
     let failing = Vec::from_slice(alloc, failing)?;
-    MemSink::cutting(alloc, 4096, piece.max(1), failing)
+    Ok(MemSink::cutting(alloc, 4096, piece.max(1), failing)?)
 }
 
 /// The most bytes of a file on the shelf of a test.
 const ROOM: u32 = 2_200_000;
 
 /// A shelf with the volume as the file `v`.
-fn shelf_of(alloc: Global, call: &Call<'_>) -> Result<MemShelf, Memory> {
+fn shelf_of(alloc: Global, call: &Call<'_>) -> Result<MemShelf, Fail> {
     let failing = Vec::from_slice(alloc, call.shelf_failing)?;
     let mut shelf = MemShelf::cutting(alloc, 5, ROOM, call.cut, failing)?;
     if call.volume.len() <= ROOM as usize {
@@ -128,34 +129,25 @@ fn counted_run<S: Source, L: Ledger>(
     )
 }
 
-/// What a call finds before it begins.
-fn fresh(alloc: Global, call: &Call<'_>) -> Result<Outcome, Memory> {
-    let output = sink_of(alloc, call.write_piece, call.writes_failing)?;
-    let notes = sink_of(alloc, 4096, &[])?;
-    let shelf = shelf_of(alloc, call)?;
-    Ok(Outcome {
-        status: Status::Done,
-        output,
-        notes,
-        shelf,
-    })
-}
-
 /// What is left of a call whose input is another source.
 pub fn outcome_over<S: Source>(
     alloc: Global,
     call: &Call<'_>,
     input: &mut S,
-) -> Result<Outcome, Memory> {
+) -> Result<Outcome, Fail> {
     let words = words_of(alloc, call.words)?;
-    let mut outcome = fresh(alloc, call)?;
+    let mut outcome = Outcome {
+        status: Status::Done,
+        output: sink_of(alloc, call.write_piece, call.writes_failing)?,
+        notes: sink_of(alloc, 4096, &[])?,
+        shelf: shelf_of(alloc, call)?,
+    };
     outcome.status = counted_run::<S, Brand>(alloc, Blank::new(1), &words, input, &mut outcome);
     Ok(outcome)
 }
 
-pub fn outcome_of(rt: &impl Abort, alloc: Global, call: &Call<'_>) -> Outcome {
-    let mut input = source_of(alloc, call).expect(rt, "memory suffices");
-    outcome_over(alloc, call, &mut input).expect(rt, "memory suffices")
+pub fn outcome_of(alloc: Global, call: &Call<'_>) -> Result<Outcome, Fail> {
+    outcome_over(alloc, call, &mut source_of(alloc, call)?)
 }
 
 fn check_end(rt: &impl Abort, outcome: &Outcome, end: &End<'_>) {
@@ -171,8 +163,9 @@ fn check_end(rt: &impl Abort, outcome: &Outcome, end: &End<'_>) {
     }
 }
 
-pub fn check(rt: &impl Abort, alloc: Global, call: &Call<'_>, end: &End<'_>) {
-    check_end(rt, &outcome_of(rt, alloc, call), end);
+pub fn check(rt: &impl Abort, alloc: Global, call: &Call<'_>, end: &End<'_>) -> Result<(), Fail> {
+    check_end(rt, &outcome_of(alloc, call)?, end);
+    Ok(())
 }
 
 /// A call that reads its input in pieces of 9 bytes, writes to its output alone, and ends by this status.
@@ -184,14 +177,14 @@ pub fn check_output<'a>(
     status: Status,
     output: &'a [u8],
     notes: &'a [u8],
-) {
+) -> Result<(), Fail> {
     let end = End {
         status,
         output,
         notes,
         files: NO_FILES,
     };
-    check(rt, alloc, &call_of(words, input), &end);
+    check(rt, alloc, &call_of(words, input), &end)
 }
 
 pub fn check_done<'a>(
@@ -200,8 +193,8 @@ pub fn check_done<'a>(
     words: &'a [&'a str],
     input: &'a [u8],
     output: &'a [u8],
-) {
-    check_output(rt, alloc, words, input, Status::Done, output, b"");
+) -> Result<(), Fail> {
+    check_output(rt, alloc, words, input, Status::Done, output, b"")
 }
 
 /// A call that is done, with these replies and files.
@@ -211,14 +204,14 @@ pub fn check_replies<'a>(
     call: &Call<'a>,
     replies: &'a [u8],
     files: [Option<&'static [u8]>; 3],
-) {
+) -> Result<(), Fail> {
     let end = End {
         status: Status::Done,
         output: replies,
         notes: b"",
         files,
     };
-    check(rt, alloc, call, &end);
+    check(rt, alloc, call, &end)
 }
 
 /// A session at level 5 on a volume of the file `v`.
@@ -229,6 +222,6 @@ pub fn check_session<'a>(
     script: &'a [u8],
     replies: &'a [u8],
     files: [Option<&'static [u8]>; 3],
-) {
-    check_replies(rt, alloc, &session_of(volume, script), replies, files);
+) -> Result<(), Fail> {
+    check_replies(rt, alloc, &session_of(volume, script), replies, files)
 }

@@ -6,6 +6,7 @@ use crate::texts::{MESH_AT_FOUR, MOVED_MESH};
 use endings::Status;
 use std::alloc::{AllocError, Global};
 use std::process::Abort;
+use std::test::Fail;
 
 const SCRIPT: &[u8] = b"set 8 8 8 10\nply a\nwork 8\nply b\nlevel 4\nply c\nlevel 5\nply d\n";
 
@@ -86,65 +87,59 @@ fn check_replies(rt: &impl Abort, outcome: &Outcome, status: Status, replies: &[
     assert_eq!(rt; outcome.output.bytes(), replies);
 }
 
-/// What is left where one call of the shelf fails, and takes a front of so many bytes.
-fn with_shelf_fault(
+/// One call of the shelf fails, and takes so many bytes.
+fn check_shelf(
     rt: &impl Abort,
     alloc: Global,
     volume: &[u8],
     number: u64,
-    cut: usize,
-) -> Outcome {
+    front: &[u8],
+) -> Result<(), Fail> {
+    let replies = replies_but(alloc, number)?;
     let numbers = [number];
     let mut call = failing(volume, &[], &[], &numbers);
-    call.cut = if cut == 0 { 0 } else { 4 };
-    outcome_of(rt, alloc, &call)
-}
-
-fn check_replies_but(rt: &impl Abort, alloc: Global, outcome: &Outcome, number: u64) {
-    let replies = replies_but(alloc, number).expect(rt, "memory suffices");
+    call.cut = if front.is_empty() { 0 } else { 4 };
+    let outcome = outcome_of(alloc, &call)?;
     let status = if number == 1 {
         Status::ShelfFault
     } else {
         Status::Done
     };
-    check_replies(rt, outcome, status, &replies);
-}
-
-fn check_shelf(rt: &impl Abort, alloc: Global, volume: &[u8], number: u64, front: &[u8]) {
-    let outcome = with_shelf_fault(rt, alloc, volume, number, front.len());
-    check_replies_but(rt, alloc, &outcome, number);
+    check_replies(rt, &outcome, status, &replies);
     check_files(rt, &outcome, number, front);
+    Ok(())
 }
 
 /// Each of the nine calls of the shelf fails, and in the tenth run none.
 #[test]
-fn each_call_of_the_shelf_fails(rt: HostRuntime) {
-    let volume = zeros(&rt, rt.alloc(), SEVENTEEN, 4913);
+fn each_call_of_the_shelf_fails(rt: HostRuntime) -> Result<(), Fail> {
+    let volume = zeros(rt.alloc(), SEVENTEEN, 4913)?;
     for number in 1..11 {
         for front in [b"".as_slice(), b"ply\n".as_slice()] {
-            check_shelf(&rt, rt.alloc(), &volume, number, front);
+            check_shelf(&rt, rt.alloc(), &volume, number, front)?;
         }
     }
+    Ok(())
 }
 
 /// The worked script where one read or one write of pieces of a length fails.
 fn with_stream_fault(
-    rt: &impl Abort,
     alloc: Global,
     volume: &[u8],
-    (fault, piece): (Status, u32),
+    fault: Status,
+    piece: u32,
     number: u64,
-) -> Outcome {
+) -> Result<Outcome, Fail> {
     let numbers = [number];
-    let mut call = worked(volume, SCRIPT);
     if fault == Status::InputFault {
-        call.reads_failing = &numbers;
+        let mut call = failing(volume, &numbers, &[], &[]);
         call.read_piece = piece;
+        outcome_of(alloc, &call)
     } else {
-        call.writes_failing = &numbers;
+        let mut call = failing(volume, &[], &numbers, &[]);
         call.write_piece = piece;
+        outcome_of(alloc, &call)
     }
-    outcome_of(rt, alloc, &call)
 }
 
 /// Whether nothing failed in a run; it ended by this fault otherwise, and its replies are a front of all.
@@ -165,44 +160,56 @@ fn runs_to_the_end(
     volume: &[u8],
     fault: Status,
     piece: u32,
-) -> u64 {
+) -> Result<u64, Fail> {
     for number in 1..200 {
-        let outcome = with_stream_fault(rt, alloc, volume, (fault, piece), number);
-        if is_whole(rt, &outcome, fault) {
-            return number;
+        if is_whole(
+            rt,
+            &with_stream_fault(alloc, volume, fault, piece, number)?,
+            fault,
+        ) {
+            return Ok(number);
         }
     }
-    200
+    Ok(200)
 }
 
 #[test]
-fn each_read_and_each_write_fails(rt: HostRuntime) {
-    let volume = zeros(&rt, rt.alloc(), SEVENTEEN, 4913);
+fn each_read_and_each_write_fails(rt: HostRuntime) -> Result<(), Fail> {
+    let volume = zeros(rt.alloc(), SEVENTEEN, 4913)?;
     for fault in [Status::InputFault, Status::OutputFault] {
         for piece in [1, 7, 4096] {
-            let runs = runs_to_the_end(&rt, rt.alloc(), &volume, fault, piece);
+            let runs = runs_to_the_end(&rt, rt.alloc(), &volume, fault, piece)?;
             assert!(rt; 1 < runs && runs < 200);
         }
     }
+    Ok(())
 }
 
-fn check_pieces(rt: &impl Abort, alloc: Global, volume: &[u8], read_piece: u32, write_piece: u32) {
+fn check_pieces(
+    rt: &impl Abort,
+    alloc: Global,
+    volume: &[u8],
+    read_piece: u32,
+    write_piece: u32,
+) -> Result<(), Fail> {
     let mut call = worked(volume, SCRIPT);
     call.read_piece = read_piece;
     call.write_piece = write_piece;
-    let outcome = outcome_of(rt, alloc, &call);
+    let outcome = outcome_of(alloc, &call)?;
     check_replies(rt, &outcome, Status::Done, REPLIES);
     check_files(rt, &outcome, 0, b"");
+    Ok(())
 }
 
 #[test]
-fn pieces_change_nothing(rt: HostRuntime) {
-    let volume = zeros(&rt, rt.alloc(), SEVENTEEN, 4913);
+fn pieces_change_nothing(rt: HostRuntime) -> Result<(), Fail> {
+    let volume = zeros(rt.alloc(), SEVENTEEN, 4913)?;
     for read_piece in [1, 7, 4096] {
         for write_piece in [1, 7, 4096] {
-            check_pieces(&rt, rt.alloc(), &volume, read_piece, write_piece);
+            check_pieces(&rt, rt.alloc(), &volume, read_piece, write_piece)?;
         }
     }
+    Ok(())
 }
 
 const EACH_REFUSED: &[u8] =
@@ -217,8 +224,9 @@ fn check_second(rt: &impl Abort, outcome: &Outcome) {
 }
 
 #[test]
-fn every_second_call_of_the_shelf_fails(rt: HostRuntime) {
-    let volume = zeros(&rt, rt.alloc(), SEVENTEEN, 4913);
+fn every_second_call_of_the_shelf_fails(rt: HostRuntime) -> Result<(), Fail> {
+    let volume = zeros(rt.alloc(), SEVENTEEN, 4913)?;
     let call = failing(&volume, &[], &[], &[2, 4, 6, 8, 10, 12]);
-    check_second(&rt, &outcome_of(&rt, rt.alloc(), &call));
+    check_second(&rt, &outcome_of(rt.alloc(), &call)?);
+    Ok(())
 }

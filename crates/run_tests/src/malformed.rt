@@ -3,10 +3,10 @@
 ghost use Rattle.std.specs.Prelude.{◌≡◌, ◌<◌};
 
 use crate::calls::check_output;
-use crate::scripts::filled;
 use endings::Status;
 use std::alloc::{AllocError, Global};
 use std::process::Abort;
+use std::test::Fail;
 
 /// The head of a volume of three samples along each axis, as a usual tool writes it. The samples have 54 bytes.
 const HEAD: [&[u8]; 13] = [
@@ -44,7 +44,7 @@ const MESH: [&[u8]; 14] = [
 ];
 
 /// Lines of which one is replaced, with bytes behind them.
-fn changed_lines(
+fn changed(
     alloc: Global,
     lines: &[&[u8]],
     at: usize,
@@ -59,42 +59,34 @@ fn changed_lines(
             all.extend_from_slice(lines[i])?;
         }
     }
-    let length = all.len().saturating_add(behind);
-    all.resize(length, 0)?;
-    Ok(all)
-}
-
-/// The same, where memory suffices.
-fn changed(
-    rt: &impl Abort,
-    alloc: Global,
-    lines: &[&[u8]],
-    (at, text): (usize, &[u8]),
-    behind: usize,
-) -> Vec<u8> {
-    changed_lines(alloc, lines, at, text, behind).expect(rt, "memory suffices")
-}
-
-/// A note on the program's input.
-fn note_of(alloc: Global, front: &str, note: &[u8]) -> Result<Vec<u8>, AllocError> {
-    let mut all = Vec::from_slice(alloc, front.as_bytes())?;
-    all.extend_from_slice(note)?;
-    all.push(b'\n')?;
+    for _ in 0..behind {
+        all.push(0)?;
+    }
     Ok(all)
 }
 
 /// The volume is refused with this note.
-fn check_volume(rt: &impl Abort, alloc: Global, volume: &[u8], note: &[u8]) {
-    let notes = note_of(alloc, "isobench: volume ", note).expect(rt, "memory suffices");
+fn check_volume(rt: &impl Abort, alloc: Global, volume: &[u8], note: &[u8]) -> Result<(), Fail> {
+    let mut notes = Vec::from_slice(alloc, b"isobench: volume ")?;
+    notes.extend_from_slice(note)?;
+    notes.push(b'\n')?;
     let words = ["points", "--level=5"];
-    check_output(rt, alloc, &words, volume, Status::BadVolume, b"", &notes);
+    check_output(rt, alloc, &words, volume, Status::BadVolume, b"", &notes)
 }
 
 /// The mesh text is refused with this note.
-fn check_mesh(rt: &impl Abort, alloc: Global, format: &str, mesh: &[u8], note: &[u8]) {
-    let notes = note_of(alloc, "isobench: mesh ", note).expect(rt, "memory suffices");
+fn check_mesh(
+    rt: &impl Abort,
+    alloc: Global,
+    format: &str,
+    mesh: &[u8],
+    note: &[u8],
+) -> Result<(), Fail> {
+    let mut notes = Vec::from_slice(alloc, b"isobench: mesh ")?;
+    notes.extend_from_slice(note)?;
+    notes.push(b'\n')?;
     let words = ["check", format];
-    check_output(rt, alloc, &words, mesh, Status::BadMesh, b"", &notes);
+    check_output(rt, alloc, &words, mesh, Status::BadMesh, b"", &notes)
 }
 
 /// Which line of a text is replaced, by what, and the note on it.
@@ -124,23 +116,17 @@ const VOLUMES: [Change; 12] = [
 ];
 
 #[test]
-fn volumes_are_refused(rt: HostRuntime) {
-    for (at, text, note) in VOLUMES {
-        let volume = changed(&rt, rt.alloc(), &HEAD, (at, text), 54);
-        check_volume(&rt, rt.alloc(), &volume, note);
+fn volumes_are_refused(rt: HostRuntime) -> Result<(), Fail> {
+    let alloc = rt.alloc();
+    for change in &VOLUMES {
+        let volume = changed(alloc, &HEAD, change.0, change.1, 54)?;
+        check_volume(&rt, alloc, &volume, change.2)?;
     }
-}
-
-#[test]
-fn a_volume_without_samples_is_refused(rt: HostRuntime) {
-    let cut = changed(&rt, rt.alloc(), &HEAD[..12], (12, b""), 0);
-    check_volume(&rt, rt.alloc(), &cut, b"14 short samples 54 0");
-}
-
-#[test]
-fn a_header_that_is_too_long_is_refused(rt: HostRuntime) {
-    let long = filled(&rt, rt.alloc(), b"NRRD0004\n", 65_536, b'#');
-    check_volume(&rt, rt.alloc(), &long, b"2 header too long 65545");
+    let cut = changed(alloc, &HEAD[..12], 12, b"", 0)?;
+    check_volume(&rt, alloc, &cut, b"14 short samples 54 0")?;
+    let mut long = Vec::from_slice(alloc, b"NRRD0004\n")?;
+    long.resize(9 + 65_536, b'#')?;
+    check_volume(&rt, alloc, &long, b"2 header too long 65545")
 }
 
 const MESHES: [Change; 5] = [
@@ -152,43 +138,29 @@ const MESHES: [Change; 5] = [
 ];
 
 #[test]
-fn meshes_are_refused(rt: HostRuntime) {
-    for (at, text, note) in MESHES {
-        let mesh = changed(&rt, rt.alloc(), &MESH, (at, text), 0);
-        check_mesh(&rt, rt.alloc(), "ply", &mesh, note);
+fn meshes_are_refused(rt: HostRuntime) -> Result<(), Fail> {
+    let alloc = rt.alloc();
+    for change in &MESHES {
+        let mesh = changed(alloc, &MESH, change.0, change.1, 0)?;
+        check_mesh(&rt, alloc, "ply", &mesh, change.2)?;
     }
-}
-
-/// The first lines of the mesh are refused with this note.
-fn check_cut(rt: &impl Abort, alloc: Global, lines: &[&[u8]], note: &[u8]) {
-    let mesh = changed(rt, alloc, lines, (14, b""), 0);
-    check_mesh(rt, alloc, "ply", &mesh, note);
-}
-
-#[test]
-fn meshes_that_are_cut_are_refused(rt: HostRuntime) {
-    check_cut(&rt, rt.alloc(), &MESH[..8], b"3 bad header 9");
-    check_cut(&rt, rt.alloc(), &MESH[..9], b"7 short mesh 5 0");
-}
-
-/// Formats, whole meshes in them, and the notes on them.
-const OTHER_MESHES: [(&str, &[u8], &[u8]); 3] = [
-    ("ply", b"", b"1 not mesh"),
-    (
+    check_mesh(&rt, alloc, "ply", b"", b"1 not mesh")?;
+    let headless = changed(alloc, &MESH[..8], 14, b"", 0)?;
+    check_mesh(&rt, alloc, "ply", &headless, b"3 bad header 9")?;
+    let short = changed(alloc, &MESH[..9], 14, b"", 0)?;
+    check_mesh(&rt, alloc, "ply", &short, b"7 short mesh 5 0")?;
+    check_mesh(
+        &rt,
+        alloc,
         "obj",
         b"v 0 0 0\nv 1 0 0\nv 0 1 0\nf 1 2 -4\n",
         b"6 index outside 4",
-    ),
-    (
+    )?;
+    check_mesh(
+        &rt,
+        alloc,
         "obj",
         b"v 0 0 0\nv 1 0 0\nv 0 1 0\nf 1 2 3 1\n",
         b"5 not triangle 4",
-    ),
-];
-
-#[test]
-fn other_meshes_are_refused(rt: HostRuntime) {
-    for (format, mesh, note) in OTHER_MESHES {
-        check_mesh(&rt, rt.alloc(), format, mesh, note);
-    }
+    )
 }

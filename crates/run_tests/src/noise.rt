@@ -9,9 +9,10 @@ use endings::Status;
 use iso_io::{Failed, Source};
 use std::alloc::{AllocError, Global};
 use std::process::Abort;
+use std::test::Fail;
 
 /// So many bytes.
-fn noise_bytes(alloc: Global, seed: u64, count: usize) -> Result<Vec<u8>, AllocError> {
+fn noise(alloc: Global, seed: u64, count: usize) -> Result<Vec<u8>, AllocError> {
     let mut state = seed;
     let mut all = Vec::new(alloc);
     for _ in 0..count {
@@ -21,11 +22,6 @@ fn noise_bytes(alloc: Global, seed: u64, count: usize) -> Result<Vec<u8>, AllocE
         all.push((state >> 56) as u8)?;
     }
     Ok(all)
-}
-
-/// The same, where memory suffices.
-fn noise(rt: &impl Abort, alloc: Global, seed: u64, count: usize) -> Vec<u8> {
-    noise_bytes(alloc, seed, count).expect(rt, "memory suffices")
 }
 
 /// No line of such a script is a command.
@@ -38,26 +34,22 @@ fn check_script(rt: &impl Abort, outcome: &Outcome) {
 }
 
 /// No such bytes are a volume.
-fn check_volume(rt: &impl Abort, alloc: Global, volume: &[u8]) {
+fn check_volume(rt: &impl Abort, alloc: Global, volume: &[u8]) -> Result<(), Fail> {
     let note = b"isobench: volume 1 not nrrd\n";
     let words = ["points", "--level=5"];
-    check_output(rt, alloc, &words, volume, Status::BadVolume, b"", note);
+    check_output(rt, alloc, &words, volume, Status::BadVolume, b"", note)
 }
 
 #[test]
-fn scripts_of_noise_are_refused(rt: HostRuntime) {
-    let zeros = zeros(&rt, rt.alloc(), SEVENTEEN, 4913);
+fn noise_is_refused(rt: HostRuntime) -> Result<(), Fail> {
+    let alloc = rt.alloc();
+    let zeros = zeros(alloc, SEVENTEEN, 4913)?;
     for seed in 0..32 {
-        let script = noise(&rt, rt.alloc(), seed, 1024);
-        check_script(&rt, &outcome_of(&rt, rt.alloc(), &worked(&zeros, &script)));
+        let script = noise(alloc, seed, 1024)?;
+        check_script(&rt, &outcome_of(alloc, &worked(&zeros, &script))?);
+        check_volume(&rt, alloc, &noise(alloc, seed, 256)?)?;
     }
-}
-
-#[test]
-fn volumes_of_noise_are_refused(rt: HostRuntime) {
-    for seed in 0..32 {
-        check_volume(&rt, rt.alloc(), &noise(&rt, rt.alloc(), seed, 256));
-    }
+    Ok(())
 }
 
 /// Gives the byte 0 without end.
@@ -74,8 +66,9 @@ impl Source for Zeros {
 }
 
 #[test]
-fn an_input_without_end_is_too_long(rt: HostRuntime) {
+fn an_input_without_end_is_too_long(rt: HostRuntime) -> Result<(), Fail> {
     let call = call_of(&["points", "--level=5"], b"");
-    let outcome = outcome_over(rt.alloc(), &call, &mut Zeros).expect(&rt, "memory suffices");
+    let outcome = outcome_over(rt.alloc(), &call, &mut Zeros)?;
     assert_eq!(rt; outcome.status, Status::InputTooLong);
+    Ok(())
 }

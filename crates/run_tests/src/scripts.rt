@@ -7,31 +7,20 @@ use crate::texts::*;
 use endings::Status;
 use std::alloc::{AllocError, Global};
 use std::process::Abort;
-
-/// A head and so many bytes behind it.
-fn headed(alloc: Global, head: &[u8], count: usize, byte: u8) -> Result<Vec<u8>, AllocError> {
-    let mut all = Vec::from_slice(alloc, head)?;
-    all.resize(head.len().saturating_add(count), byte)?;
-    Ok(all)
-}
-
-/// The same, where memory suffices.
-pub fn filled(rt: &impl Abort, alloc: Global, head: &[u8], count: usize, byte: u8) -> Vec<u8> {
-    headed(alloc, head, count, byte).expect(rt, "memory suffices")
-}
+use std::test::Fail;
 
 /// A volume of so many samples, all 0.
-pub fn zeros(rt: &impl Abort, alloc: Global, head: &[u8], count: usize) -> Vec<u8> {
-    filled(rt, alloc, head, count, 0)
+pub fn zeros(alloc: Global, head: &[u8], count: usize) -> Result<Vec<u8>, AllocError> {
+    let mut volume = Vec::from_slice(alloc, head)?;
+    volume.resize(head.len().saturating_add(count), 0)?;
+    Ok(volume)
 }
 
-/// Texts, each so many times.
-fn repeated(alloc: Global, texts: &[(&[u8], usize)]) -> Result<Vec<u8>, AllocError> {
+/// A text so many times.
+fn repeated(alloc: Global, text: &[u8], times: usize) -> Result<Vec<u8>, AllocError> {
     let mut all = Vec::new(alloc);
-    for (text, times) in texts {
-        for _ in 0..*times {
-            all.extend_from_slice(text)?;
-        }
+    for _ in 0..times {
+        all.extend_from_slice(text)?;
     }
     Ok(all)
 }
@@ -40,9 +29,9 @@ pub const SEVENTEEN: &[u8] =
     b"NRRD0004\ntype: uint8\ndimension: 3\nsizes: 17 17 17\nencoding: raw\n\n";
 
 #[test]
-fn an_edit_and_its_undo(rt: HostRuntime) {
+fn an_edit_and_its_undo(rt: HostRuntime) -> Result<(), Fail> {
     let alloc = rt.alloc();
-    let volume = zeros(&rt, alloc, SEVENTEEN, 4913);
+    let volume = zeros(alloc, SEVENTEEN, 4913)?;
     check_session(
         &rt,
         alloc,
@@ -50,18 +39,13 @@ fn an_edit_and_its_undo(rt: HostRuntime) {
         b"ply a\nset 8 8 8 10\nply b\nundo\nply c\n",
         b"ok vertices 0 faces 0 bytes 154\nok\nok vertices 6 faces 8 bytes 326\nok\nok vertices 0 faces 0 bytes 154\n",
         [Some(NO_MESH), Some(MOVED_MESH), Some(NO_MESH)],
-    );
+    )
 }
 
 /// The file `a` that a script leaves.
-fn file_in(alloc: Global, outcome: &Outcome) -> Result<Vec<u8>, AllocError> {
-    Vec::from_slice(alloc, outcome.shelf.file("a").unwrap_or(b""))
-}
-
-/// The file `a` of a session.
-fn file_of<'a>(rt: &impl Abort, alloc: Global, volume: &'a [u8], script: &'a [u8]) -> Vec<u8> {
-    let outcome = outcome_of(rt, alloc, &session_of(volume, script));
-    file_in(alloc, &outcome).expect(rt, "memory suffices")
+fn file_of<'a>(alloc: Global, volume: &'a [u8], script: &'a [u8]) -> Result<Vec<u8>, Fail> {
+    let outcome = outcome_of(alloc, &session_of(volume, script))?;
+    Ok(Vec::from_slice(alloc, outcome.shelf.file("a").unwrap_or(b""))?)
 }
 
 /// Two scripts write the same mesh as the file `a`, and one that has vertices.
@@ -71,31 +55,32 @@ fn same_meshes<'a>(
     volume: &'a [u8],
     script: &'a [u8],
     other: &'a [u8],
-) {
-    let mesh = file_of(rt, alloc, volume, script);
+) -> Result<(), Fail> {
+    let mesh = file_of(alloc, volume, script)?;
     assert!(rt; mesh.len() > 154);
-    assert_eq!(rt; mesh, file_of(rt, alloc, volume, other));
+    assert_eq!(rt; mesh, file_of(alloc, volume, other)?);
+    Ok(())
 }
 
 #[test]
-fn refresh_turns_change_nothing(rt: HostRuntime) {
+fn refresh_turns_change_nothing(rt: HostRuntime) -> Result<(), Fail> {
     let alloc = rt.alloc();
-    let volume = zeros(&rt, alloc, SEVENTEEN, 4913);
+    let volume = zeros(alloc, SEVENTEEN, 4913)?;
     same_meshes(
         &rt,
         alloc,
         &volume,
         b"set 8 8 8 10\nfill 0 0 0 3 3 3 20\nlevel 7\nwork 1\nundo\nply a\n",
         b"set 8 8 8 10\nfill 0 0 0 3 3 3 20\nlevel 7\nundo\nply a\n",
-    );
+    )
 }
 
 const LARGE: &[u8] = b"NRRD0004\ntype: uint8\ndimension: 3\nsizes: 128 128 128\nencoding: raw\n\n";
 
 #[test]
-fn a_box_may_be_too_large(rt: HostRuntime) {
+fn a_box_may_be_too_large(rt: HostRuntime) -> Result<(), Fail> {
     let alloc = rt.alloc();
-    let volume = zeros(&rt, alloc, LARGE, 2_097_152);
+    let volume = zeros(alloc, LARGE, 2_097_152)?;
     check_session(
         &rt,
         alloc,
@@ -103,13 +88,13 @@ fn a_box_may_be_too_large(rt: HostRuntime) {
         b"fill 0 0 0 127 127 127 1\nfill 127 127 63 0 0 0 1\nundo\n",
         b"error 8 fill 2097152\nok\nok\n",
         NO_FILES,
-    );
+    )
 }
 
 #[test]
-fn a_change_is_made_again(rt: HostRuntime) {
+fn a_change_is_made_again(rt: HostRuntime) -> Result<(), Fail> {
     let alloc = rt.alloc();
-    let volume = zeros(&rt, alloc, SEVENTEEN, 4913);
+    let volume = zeros(alloc, SEVENTEEN, 4913)?;
     check_session(
         &rt,
         alloc,
@@ -117,29 +102,20 @@ fn a_change_is_made_again(rt: HostRuntime) {
         b"set 8 8 8 10\nundo\nredo\nply a\nundo\nlevel 7\nredo\nset 99 0 0 1\n",
         b"ok\nok\nok\nok vertices 6 faces 8 bytes 326\nok\nok\nerror 12 nothing to redo\nerror 3 outside\n",
         [Some(MOVED_MESH), None, None],
-    );
+    )
 }
 
-/// More changes than are kept, each undone and made again.
-const MANY_CHANGES: [(&[u8], usize); 3] = [
-    (b"set 0 0 0 1\n", 129),
-    (b"undo\n", 129),
-    (b"redo\n", 129),
-];
-
-const OF_MANY_CHANGES: [(&[u8], usize); 4] = [
-    (b"ok\n", 257),
-    (b"error 7 nothing to undo\n", 1),
-    (b"ok\n", 128),
-    (b"error 12 nothing to redo\n", 1),
-];
-
 #[test]
-fn at_most_128_changes_are_undone_and_made_again(rt: HostRuntime) {
+fn at_most_128_changes_are_undone_and_made_again(rt: HostRuntime) -> Result<(), Fail> {
     let alloc = rt.alloc();
-    let script = repeated(alloc, &MANY_CHANGES).expect(&rt, "memory suffices");
-    let replies = repeated(alloc, &OF_MANY_CHANGES).expect(&rt, "memory suffices");
-    check_session(&rt, alloc, CORNER, &script, &replies, NO_FILES);
+    let mut script = repeated(alloc, b"set 0 0 0 1\n", 129)?;
+    script.extend_from_slice(&repeated(alloc, b"undo\n", 129)?)?;
+    script.extend_from_slice(&repeated(alloc, b"redo\n", 129)?)?;
+    let mut replies = repeated(alloc, b"ok\n", 257)?;
+    replies.extend_from_slice(b"error 7 nothing to undo\n")?;
+    replies.extend_from_slice(&repeated(alloc, b"ok\n", 128)?)?;
+    replies.extend_from_slice(b"error 12 nothing to redo\n")?;
+    check_session(&rt, alloc, CORNER, &script, &replies, NO_FILES)
 }
 
 /// A session on MIDDLE in which this call of the shelf fails; the first opens the volume, the second makes the file and the
@@ -150,43 +126,32 @@ fn check_failing<'a>(
     script: &'a [u8],
     failing: &'a [u64],
     end: &End<'a>,
-) {
+) -> Result<(), Fail> {
     let mut call = session_of(MIDDLE, script);
     call.shelf_failing = failing;
-    check(rt, alloc, &call, end);
+    check(rt, alloc, &call, end)
 }
 
 #[test]
-fn the_shelf_fails(rt: HostRuntime) {
-    let end = End {
+fn the_shelf_fails(rt: HostRuntime) -> Result<(), Fail> {
+    let alloc = rt.alloc();
+    let mut end = End {
         status: Status::Done,
         output: b"error 9 shelf\n",
         notes: b"",
         files: [Some(b""), None, None],
     };
-    check_failing(&rt, rt.alloc(), b"ply a\n", &[3], &end);
-}
-
-#[test]
-fn the_shelf_fails_once(rt: HostRuntime) {
-    let end = End {
-        status: Status::Done,
-        output: b"error 9 shelf\nok vertices 6 faces 8 bytes 326\n",
-        notes: b"",
-        files: [Some(MIDDLE_MESH), None, None],
-    };
-    check_failing(&rt, rt.alloc(), b"ply a\nply a\n", &[3], &end);
-}
-
-#[test]
-fn the_shelf_has_no_volume(rt: HostRuntime) {
-    let end = End {
+    check_failing(&rt, alloc, b"ply a\n", &[3], &end)?;
+    end.output = b"error 9 shelf\nok vertices 6 faces 8 bytes 326\n";
+    end.files = [Some(MIDDLE_MESH), None, None];
+    check_failing(&rt, alloc, b"ply a\nply a\n", &[3], &end)?;
+    let shut = End {
         status: Status::ShelfFault,
         output: b"",
         notes: b"isobench: shelf fault\n",
         files: NO_FILES,
     };
-    check_failing(&rt, rt.alloc(), b"ply a\n", &[1], &end);
+    check_failing(&rt, alloc, b"ply a\n", &[1], &shut)
 }
 
 /// The front of the mesh of MIDDLE at level 9.
@@ -206,13 +171,14 @@ fn check_mesh_at_nine(rt: &impl Abort, outcome: &Outcome) {
 }
 
 #[test]
-fn another_level(rt: HostRuntime) {
+fn another_level(rt: HostRuntime) -> Result<(), Fail> {
     let call = session_of(MIDDLE, b"level 9\nply a");
-    check_mesh_at_nine(&rt, &outcome_of(&rt, rt.alloc(), &call));
+    check_mesh_at_nine(&rt, &outcome_of(rt.alloc(), &call)?);
+    Ok(())
 }
 
 #[test]
-fn lines_and_their_ends(rt: HostRuntime) {
+fn lines_and_their_ends(rt: HostRuntime) -> Result<(), Fail> {
     check_session(
         &rt,
         rt.alloc(),
@@ -220,11 +186,11 @@ fn lines_and_their_ends(rt: HostRuntime) {
         b"# c\r\n\n  undo \nquit\nply a\n",
         b"error 7 nothing to undo\nok\n",
         NO_FILES,
-    );
+    )
 }
 
 #[test]
-fn reports_and_contours(rt: HostRuntime) {
+fn reports_and_contours(rt: HostRuntime) -> Result<(), Fail> {
     let alloc = rt.alloc();
     check_session(
         &rt,
@@ -239,47 +205,38 @@ fn reports_and_contours(rt: HostRuntime) {
             ),
             Some(MIDDLE),
         ],
-    );
-}
-
-#[test]
-fn a_contour_that_ends_at_the_border(rt: HostRuntime) {
+    )?;
     check_session(
         &rt,
-        rt.alloc(),
+        alloc,
         CORNER,
         b"contour 0\n",
         b"path 2\n0.000 0.500\n0.500 0.000\nok\n",
         NO_FILES,
-    );
+    )
 }
 
 #[test]
-fn a_report_in_a_pad(rt: HostRuntime) {
+fn a_report_in_a_pad(rt: HostRuntime) -> Result<(), Fail> {
     let mut call = call_of(&["session", "v", "--level=5", "--pad=0"], b"report\n");
     call.volume = SOLID;
     let replies =
         b"mesh vertices 42 edges 120 faces 80 border 0 euler 2 parts 1\npart 0 vertices 42 edges 120 faces 80 border 0 euler 2\nok\n";
-    check_replies(&rt, rt.alloc(), &call, replies, NO_FILES);
+    check_replies(&rt, rt.alloc(), &call, replies, NO_FILES)
 }
 
-/// Lines that are refused on CORNER in a pad of 0, one of them too long.
-const REFUSED_IN_A_PAD: [(&[u8], usize); 3] = [
-    (
-        b"set 2 0 0 1\nset 0 0 0 256\nlevel 8589934592\nlevel 0\nundo\ncontour 2\nsett 0 0 0 1\n",
-        1,
-    ),
-    (b"x", 4097),
-    (b"\ncontour 0\nlevel 0.5\nlevel -0.5\n", 1),
-];
-
 #[test]
-fn refusals_in_a_pad(rt: HostRuntime) {
+fn refusals_in_a_pad(rt: HostRuntime) -> Result<(), Fail> {
     let alloc = rt.alloc();
-    let script = repeated(alloc, &REFUSED_IN_A_PAD).expect(&rt, "memory suffices");
+    let mut script = Vec::from_slice(
+        alloc,
+        b"set 2 0 0 1\nset 0 0 0 256\nlevel 8589934592\nlevel 0\nundo\ncontour 2\nsett 0 0 0 1\n",
+    )?;
+    script.extend_from_slice(&repeated(alloc, b"x", 4097)?)?;
+    script.extend_from_slice(b"\ncontour 0\nlevel 0.5\nlevel -0.5\n")?;
     let mut call = call_of(&["session", "v", "--pad=0", "--level=5"], &script);
     call.volume = CORNER;
     let replies =
         b"error 3 outside\nerror 4 value 0 255\nerror 5 level\nerror 6 pad 0 0\nerror 7 nothing to undo\nerror 11 plane 2\nerror 2 syntax\nerror 10 line 4097\ncycle 4\n0.000 -0.500\n-0.500 0.000\n0.000 0.500\n0.500 0.000\nok\nok\nerror 6 pad -0.500 0\n";
-    check_replies(&rt, alloc, &call, replies, NO_FILES);
+    check_replies(&rt, alloc, &call, replies, NO_FILES)
 }

@@ -12,6 +12,7 @@ use std::alloc::{AllocError, Global};
 use std::marker::Brand;
 use std::process::Abort;
 use std::sync::ledger::{Blank, Ledger};
+use std::test::Fail;
 use voxel_list::VoxelList;
 
 /// A bench on the volume CORNER at level 5.
@@ -62,12 +63,6 @@ fn ending_of(
     counted_ending::<Brand>(alloc, Blank::new(1), bench, shelf, input, output)
 }
 
-/// The replies and the size of the file `a` that a script leaves.
-fn check_left(rt: &impl Abort, shelf: &MemShelf, output: &MemSink, want: (&[u8], usize)) {
-    assert_eq!(rt; output.bytes(), want.0);
-    assert_eq!(rt; shelf.file("a").unwrap_or(b"").len(), want.1);
-}
-
 /// Runs a script, and compares the ending, the replies and the size of the file `a`.
 fn check_ending(
     rt: &impl Abort,
@@ -75,42 +70,52 @@ fn check_ending(
     bench: &mut Bench,
     input: &mut MemSource,
     want: (Ending, &[u8], usize),
-) {
-    let mut shelf = MemShelf::new(alloc, 2, 256, Vec::new(alloc)).expect(rt, "memory suffices");
-    let mut output = MemSink::new(alloc, 4096, Vec::new(alloc)).expect(rt, "memory suffices");
+) -> Result<(), Fail> {
+    let mut shelf = MemShelf::new(alloc, 2, 256, Vec::new(alloc))?;
+    let mut output = MemSink::new(alloc, 4096, Vec::new(alloc))?;
     let ending = ending_of(alloc, bench, &mut shelf, input, &mut output);
     assert_eq!(rt; ending, Ok(want.0));
-    check_left(rt, &shelf, &output, (want.1, want.2));
+    assert_eq!(rt; output.bytes(), want.1);
+    assert_eq!(rt; shelf.file("a").unwrap_or(b"").len(), want.2);
+    Ok(())
 }
 
 /// The same on the bench of the corner.
-fn check(rt: &impl Abort, alloc: Global, input: &mut MemSource, want: (Ending, &[u8], usize)) {
-    let mut bench = corner_bench(alloc).expect(rt, "there is a bench");
-    check_ending(rt, alloc, &mut bench, input, want);
+fn check(
+    rt: &impl Abort,
+    alloc: Global,
+    mut input: MemSource,
+    want: (Ending, &[u8], usize),
+) -> Result<(), Fail> {
+    let mut bench = corner_bench(alloc).ok_or("no bench")?;
+    check_ending(rt, alloc, &mut bench, &mut input, want)
 }
 
-const SCRIPT: &[u8] =
-    b"# a comment\r\n\nset 0 0 0 1\nply a\nundo\nply a\nlevel 11\nundo\n undo \nredo\nredo\nsett\nquit\nply a\n";
-
-const REPLIES: &[u8] =
-    b"ok\nok vertices 0 faces 0 bytes 154\nok\nok vertices 3 faces 1 bytes 216\nok\nok\nerror 7 nothing to undo\nok\nerror 12 nothing to redo\nerror 2 syntax\nok\n";
-
 #[test]
-fn edits_are_run_and_undone(rt: HostRuntime) {
+fn edits_are_run_and_undone(rt: HostRuntime) -> Result<(), Fail> {
+    let script =
+        b"# a comment\r\n\nset 0 0 0 1\nply a\nundo\nply a\nlevel 11\nundo\n undo \nredo\nredo\nsett\nquit\nply a\n";
     for piece in [1, 7, 1000] {
-        let mut input = source(rt.alloc(), SCRIPT, piece, &[]).expect(&rt, "memory suffices");
-        check(&rt, rt.alloc(), &mut input, (Ending::Done, REPLIES, 216));
+        check(
+            &rt,
+            rt.alloc(),
+            source(rt.alloc(), script, piece, &[])?,
+            (
+                Ending::Done,
+                b"ok\nok vertices 0 faces 0 bytes 154\nok\nok vertices 3 faces 1 bytes 216\nok\nok\nerror 7 nothing to undo\nok\nerror 12 nothing to redo\nerror 2 syntax\nok\n",
+                216,
+            ),
+        )?;
     }
+    Ok(())
 }
 
 #[test]
-fn a_read_fails(rt: HostRuntime) {
-    let script = b"level 11\nply a\nundo\n";
-    let mut input = source(rt.alloc(), script, 9, &[2]).expect(&rt, "memory suffices");
+fn a_read_fails(rt: HostRuntime) -> Result<(), Fail> {
     check(
         &rt,
         rt.alloc(),
-        &mut input,
+        source(rt.alloc(), b"level 11\nply a\nundo\n", 9, &[2])?,
         (Ending::InputFault, b"ok\n", 0),
-    );
+    )
 }

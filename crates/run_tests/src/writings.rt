@@ -2,41 +2,35 @@
 
 use crate::calls::{NO_FILES, call_of, check_done, check_replies, check_session};
 use crate::texts::*;
+use std::test::Fail;
 
 #[test]
-fn measures_of_a_border(rt: HostRuntime) {
+fn measures_of_parts(rt: HostRuntime) -> Result<(), Fail> {
+    let alloc = rt.alloc();
     check_session(
         &rt,
-        rt.alloc(),
+        alloc,
         CORNER,
         b"measure\nset 0 0 0 0\nmeasure\n",
         b"measure parts 1\npart 0 six 125000000 area 250000 250000 250000 border 3\nok\nok\nmeasure parts 0\nok\n",
         NO_FILES,
-    );
-}
-
-#[test]
-fn measures_of_a_closed_part(rt: HostRuntime) {
+    )?;
     check_session(
         &rt,
-        rt.alloc(),
+        alloc,
         MIDDLE,
         b"measure\n",
         b"measure parts 1\npart 0 six 1000000000 area 0 0 0 border 0\nok\n",
         NO_FILES,
-    );
-}
-
-#[test]
-fn measures_in_a_pad(rt: HostRuntime) {
+    )?;
     let mut padded = call_of(&["session", "v", "--level=5", "--pad=0"], b"measure\n");
     padded.volume = SOLID;
     let replies = b"measure parts 1\npart 0 six 34000000000 area 0 0 0 border 0\nok\n";
-    check_replies(&rt, rt.alloc(), &padded, replies, NO_FILES);
+    check_replies(&rt, alloc, &padded, replies, NO_FILES)
 }
 
 #[test]
-fn volumes_as_text(rt: HostRuntime) {
+fn volumes_as_text(rt: HostRuntime) -> Result<(), Fail> {
     check_session(
         &rt,
         rt.alloc(),
@@ -52,7 +46,7 @@ fn volumes_as_text(rt: HostRuntime) {
             ),
             Some(MIDDLE),
         ],
-    );
+    )
 }
 
 /// The window of MIDDLE from its middle to its last point, at level 5.
@@ -60,33 +54,20 @@ const WINDOW_MESH: &[u8] =
     b"ply\nformat ascii 1.0\nelement vertex 3\nproperty float x\nproperty float y\nproperty float z\nelement face 1\nproperty list uchar int vertex_indices\nend_header\n1.500 1.000 1.000\n1.000 1.500 1.000\n1.000 1.000 1.500\n3 0 1 2\n";
 
 #[test]
-fn windows(rt: HostRuntime) {
+fn windows(rt: HostRuntime) -> Result<(), Fail> {
+    let alloc = rt.alloc();
     check_session(
         &rt,
-        rt.alloc(),
+        alloc,
         MIDDLE,
         b"window 1 1 1 2 2 2 ply a\nwindow 1 1 1 1 2 2 ply b\nwindow 0 0 0 3 1 1 ply c\n",
         b"ok vertices 3 faces 1 bytes 216\nerror 13 window 0 1\nerror 3 outside\n",
         [Some(WINDOW_MESH), None, None],
-    );
-}
-
-#[test]
-fn the_border_of_a_window(rt: HostRuntime) {
-    check_done(
-        &rt,
-        rt.alloc(),
-        &["check", "ply"],
-        WINDOW_MESH,
-        b"border 3\n",
-    );
-}
-
-#[test]
-fn windows_in_each_format(rt: HostRuntime) {
+    )?;
+    check_done(&rt, alloc, &["check", "ply"], WINDOW_MESH, b"border 3\n")?;
     check_session(
         &rt,
-        rt.alloc(),
+        alloc,
         CORNER,
         b"window 1 1 1 0 0 0 off a\nwindow 0 0 0 1 1 1 vtk b\nwindow 1 0 1 0 1 0 obj c\n",
         b"ok vertices 3 faces 1 bytes 72\nok vertices 3 faces 1 bytes 149\nok vertices 3 faces 1 bytes 68\n",
@@ -97,5 +78,5 @@ fn windows_in_each_format(rt: HostRuntime) {
             ),
             Some(CORNER_OBJ),
         ],
-    );
+    )
 }
