@@ -4,7 +4,6 @@ pub mod Generated
 pub mod Few
 pub mod Openings
 pub mod Completing
-pub mod Headline
 pub mod Reasons
 pub mod SessionMeshes
 pub mod Economy

@@ -1,26 +1,18 @@
 -- Volumes that were read, in their pad.
-use Rattle.std.proofs.Common.{◌≡◌, ℕ, ◌≤◌, List, length, Some, None, Ok, Err, IfOk, IfSome, IfErr, refl, ap, ℤ}
+use Rattle.std.proofs.Common.{◌≡◌, ℕ, List, Some, None, Ok, Err, IfOk, IfErr, refl, ap, ℤ}
 use Rattle.std.specs.Prelude.{Option, Result}
-use Rattle.std.specs.FinMap.{get}
 use Rattle.iso_base.specs.Volume.{Volume}
 use Rattle.iso_base.specs.Sizing.{sized}
 use Rattle.iso_base.specs.declared.sizes.SizeFault.{SizeFault}
 use Rattle.voxel_list.specs.Padding.{grown}
 use Rattle.voxel_list.specs.declared.pad.PadFault.{PadFault}
 use Rattle.voxel_list.specs.declared.pad.PadFault.TheVariants as pads
-use Rattle.byte_streams.specs.Files.{Files}
 use Rattle.nrrd_read.specs.Files.{IsRead}
-use Rattle.point_command.specs.Volumes.{IsNoVolume, pad_refusal, raised, volume_limit, volume_of, with_pad}
+use Rattle.point_command.specs.Volumes.{IsNoVolume, pad_refusal, raised, volume_of, with_pad}
 use Rattle.point_command.specs.declared.reasons.NoVolume.{NoVolume}
 use Rattle.point_command.specs.declared.reasons.NoVolume.TheVariants as reasons
 use Rattle.point_command.proofs.ReadVolumes.{read_volume}
 use Rattle.commands.specs.Volumes.{IsNotRaised}
-
--- what is true of the bytes that were read is true of the file's
-pub of_file : (P : List ℕ → Type 0) (o : Option Files) (name bytes : List ℕ) → IfSome o (λ files. get files name ≡ Some bytes) → length bytes ≤ volume_limit → P bytes
-    → IfSome o (λ files. (given : List ℕ) × (get files name ≡ Some given) × (length given ≤ volume_limit) × P given)
-of_file P None name bytes h l p = tt
-of_file P (Some files) name bytes h l p = (bytes, h, l, p)
 
 pub ok_in_pad : (o : Option ℤ) (pad level : ℤ) (bytes : List ℕ) (v : Volume) (r : Result Volume NoVolume) → o ≡ Some pad → IsRead bytes v → IfOk r (λ w. with_pad (Some pad) level v ≡ Ok w) → IfOk r (λ w. volume_of o level bytes ≡ Ok w)
 ok_in_pad o pad level bytes v (Ok w) e h k = rw e (read_volume (Some pad) level bytes v (Ok w) h k)

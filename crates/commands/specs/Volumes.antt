@@ -1,10 +1,8 @@
 -- The volume that a command works on: in its pad, in the input, and in a file of the shelf.
-use Rattle.std.specs.Prelude.{◌≡◌, ◌⊎◌, ℕ, ◌<◌, ◌≤◌, List, length, Option, Some, Ok, Err, IfSome, ℤ}
+use Rattle.std.specs.Prelude.{◌≡◌, ◌⊎◌, ℕ, ◌<◌, ◌≤◌, List, length, Option, Some, Err, IfSome, ℤ}
 use Rattle.std.specs.FinMap.{get}
-use Rattle.std.specs.Io.KnownBytes.{IsAtEnd}
 use Rattle.iso_base.specs.Volume.{Volume}
 use Rattle.byte_streams.specs.Causes.{Rose}
-use Rattle.byte_streams.specs.Seen.{Feed}
 use Rattle.iso_io.specs.Shelves.{Store, Lacks, content}
 use Rattle.point_command.specs.Volumes.{volume_limit, volume_of, with_pad}
 use Rattle.point_command.specs.declared.reasons.NoVolume.{NoVolume}
@@ -16,12 +14,6 @@ use Rattle.endings.specs.declared.answer.Answer.TheVariants as answers
 abbrev pub IsNotRaised : ℤ → ℤ → Volume → NoVolume → Type 0
 IsNotRaised pad level v (reasons.Refused fault) = with_pad (Some pad) level v ≡ Err fault
 IsNotRaised pad level v reasons.Memory = Unit {0}
-
--- the whole input was read, and it is this volume
-pub record HoldsVolume (pad : Option ℤ) (level : ℤ) (old new : Feed) (v : Volume) : Type 0 where
-  pub ended : IsAtEnd new.left
-  pub within : IfSome old.left (λ bytes. length bytes ≤ volume_limit)
-  pub whole : IfSome old.left (λ bytes. volume_of pad level bytes ≡ Ok v)
 
 -- told files have one of this name, of at most so many bytes, of which this is true
 abbrev pub FileIs : Store → List ℕ → (List ℕ → Type 0) → Type 0

@@ -3,16 +3,16 @@ ghost use Rattle.std.specs.Prelude.{◌≡◌, ◌≤◌, ℤ, Option, None, Som
 ghost use Rattle.iso_base.specs.Samples.{IsSample};
 ghost use Rattle.nrrd_read.specs.Files.{IsRead};
 ghost use Rattle.bench_core.specs.Machine.{begin_fault, IsAbovePad};
-ghost use Rattle.point_command.specs.Volumes.{HoldsNone, IsNoVolume, volume_of, with_pad};
-ghost use Rattle.commands.specs.Volumes.{FileIs, HoldsVolume, IsNotRaised, LacksVolume};
+ghost use Rattle.point_command.specs.Volumes.{IsNoVolume, volume_of, with_pad};
+ghost use Rattle.commands.specs.Volumes.{FileIs, IsNotRaised, LacksVolume};
 
 use brick_store::BrickStore;
 use endings::{Answer, VolumeFault};
 use file_bricks::bricks_of_file;
 use iso_base::Level;
-use iso_io::{Shelf, Source};
+use iso_io::Shelf;
 use nrrd_read::read_volume;
-use point_command::{NoVolume, VOLUME_LIMIT, bytes_of_input};
+use point_command::{NoVolume, VOLUME_LIMIT};
 use std::alloc::Global;
 use voxel_list::VoxelList;
 
@@ -63,23 +63,7 @@ pub fn volume_in(
     }
 }
 
-/// The volume of the whole input.
-pub fn volume_of_input<S: Source>(
-    alloc: Global,
-    input: &mut S,
-    pad: Option<i64>,
-    level: Level,
-) -> Result<VoxelList, Answer>
-    requires { IfSome pad IsSample }
-    ensures volume { IfOk result (λ v. HoldsVolume pad level (S.seen input.old) (S.seen input.new) v) }
-    ensures raised { IfOk result (λ v. IsAbovePad v.pad level) }
-    ensures fault { IfErr result (λ answer. HoldsNone pad level (S.seen input.old) (S.seen input.new) answer) }
-{
-    let bytes = bytes_of_input(alloc, input)?;
-    Ok(volume_in(alloc, bytes, pad, level)?)
-}
-
-/// The same volume in bricks. Where it has no pad, raw samples are read into the bricks out of the file's bytes; a volume
+/// The volume of a file in bricks. Where it has no pad, raw samples are read into the bricks out of the file's bytes; a volume
 /// with a pad is made as a list first.
 pub fn bricks_in(
     alloc: Global,

@@ -6,7 +6,6 @@ use Rattle.iso_defs.specs.Cell.{Triangle}
 use Rattle.iso_defs.specs.FanWalk.{walked, IsFanStart}
 use Rattle.iso_defs.specs.Manifold.{arcs, HasThreeCorners}
 use Rattle.iso_defs.specs.Verdict as laws
-use Rattle.iso_defs.specs.Verdict.{triangle_at}
 use Rattle.mesh_check.specs.declared.fan.Fan.{Fan}
 use Rattle.mesh_check.specs.declared.fan.Fan.TheVariants.{Twice, Whole, Split}
 use Rattle.iso_base.specs.declared.verdict.Verdict.{Verdict}

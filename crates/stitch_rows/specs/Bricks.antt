@@ -1,5 +1,7 @@
 -- The bricks that hold a row of points.
-use Rattle.std.specs.Prelude.{◌≡◌, ℕ, ◌+◌, ◌-◌, ◌*◌, ◌/◌, ◌<◌, ◌≤◌, ℤ, true, false, min, List, slice_index}
+use Rattle.std.specs.Prelude.{◌≡◌, ℕ, ◌+◌, ◌-◌, ◌*◌, ◌/◌, ◌<◌, ◌≤◌, ℤ, Bool, true, false, min, List, slice_index}
+use Rattle.std.specs.List.{list_any}
+use Rattle.iso_defs.specs.Lists.{below}
 use Rattle.iso_defs.specs.Grid.{Grid}
 use Rattle.iso_defs.specs.Bricks.{brick_count, bricks_along, is_active}
 use Rattle.flat_mesh.specs.Lattice.{Leveled, heights}
@@ -35,6 +37,10 @@ pub record HoldRows (g : Grid) (y z : ℕ) (rows : Rows) : Type 0 where
 -- a brick is active at a level
 pub record IsActive (v : Leveled) (brick : ℕ) : Type 0 where
   pub is : is_active v.grid (heights v) brick ≡ true
+
+-- some brick of those that hold a row of points is active
+unfoldable pub is_active_row : Leveled → ℕ → ℕ → Bool
+is_active_row v y z = list_any (λ x. is_active v.grid (heights v) (first_brick v.grid y z + x)) (below (bricks_along v.grid 0))
 
 -- the least active brick from a number on, or a number behind all bricks
 pub record IsNextFrom (g : Grid) (s : ℕ → ℤ) (from next : ℕ) : Type 0 where

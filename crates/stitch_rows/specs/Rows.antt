@@ -1,6 +1,7 @@
 -- What is known of the points and the cells of a row of a volume.
 use Rattle.std.specs.Prelude.{◌≡◌, ℕ, ◌+◌, ◌-◌, ◌*◌, ◌<◌, ◌≤◌, ℤ, List, [], cond, min, length, map, nat_lt, slice_index}
 use Rattle.iso_defs.specs.Grid.{index}
+use Rattle.iso_defs.specs.Bricks.{bricks_along}
 use Rattle.iso_base.specs.Volume.{Volume, sample}
 use Rattle.corner_signs.specs.Rows.{bit_from}
 use Rattle.cell_loops.specs.Loops.{row_loops}
@@ -10,7 +11,7 @@ use Rattle.flat_mesh.specs.Lattice.{Leveled, heights}
 use Rattle.flat_mesh.specs.Faces.{loops_at}
 use Rattle.flat_mesh.specs.Rows.{row_start}
 use Rattle.stitch_rows.specs.declared.points.PointRuns.{PointRuns}
-use Rattle.stitch_rows.specs.Bricks.{next_at}
+use Rattle.stitch_rows.specs.Bricks.{IsNextFrom, first_brick, next_at}
 use Rattle.stitch_rows.specs.Runs.{IsRun}
 
 -- a volume at a level
@@ -56,10 +57,12 @@ AreFlags v y z flags = (x : ℕ) → x < v.grid.nx → slice_index flags x ≡ f
 pub record IsStill (v : Leveled) (y z : ℕ) : Type 0 where
   pub none : (x : ℕ) → x < v.grid.nx → flags_at v.grid (heights v) (row_start v.grid y z + x) ≡ 0
 
--- from one place of a row of bricks on the next active brick stands at another: at points between them no crossing edge begins, and cells
--- between them have no loops
+-- from one place of a row of bricks on the next active brick stands at another, and from behind them all at no other: at points between
+-- them no crossing edge begins, and cells between them have no loops
 pub record AreStill (v : Leveled) (y z from next : ℕ) : Type 0 where
   pub least : from ≤ next
+  pub active : from < bricks_along v.grid 0 → IsNextFrom v.grid (heights v) (first_brick v.grid y z + from) (first_brick v.grid y z + next)
+  pub end : bricks_along v.grid 0 ≤ from → next ≡ from
   pub points :
       (x : ℕ) → x < v.grid.nx → 8 * from ≤ min x (v.grid.nx - 2) → min x (v.grid.nx - 2) < 8 * next
       → flags_at v.grid (heights v) (row_start v.grid y z + x) ≡ 0

@@ -1,9 +1,9 @@
 //! Which bricks of a row of bricks are active.
-ghost use Rattle.std.specs.Prelude.{◌≡◌, ℕ, ◌+◌, ◌-◌, ◌*◌, ◌<◌, ◌≤◌, ◌^◌, IsTrue, length, slice_index};
+ghost use Rattle.std.specs.Prelude.{◌≡◌, ℕ, ◌+◌, ◌-◌, ◌*◌, ◌<◌, ◌≤◌, ◌^◌, IsTrue, length, not, slice_index};
 ghost use Rattle.iso_defs.specs.Bricks.{bricks_along};
 ghost use Rattle.iso_base.specs.Sizing.{IsGrid};
 ghost use Rattle.flat_mesh.specs.Lattice.{Leveled, heights};
-ghost use Rattle.stitch_rows.specs.Bricks.{AreMarked, AreNextTo, IsMarkedLayer, IsNextFrom, first_brick};
+ghost use Rattle.stitch_rows.specs.Bricks.{AreMarked, AreNextTo, IsMarkedLayer, IsNextFrom, first_brick, is_active_row};
 ghost use Rattle.stitch_rows.specs.Rows.{AreStill, IsStill};
 
 use crate::bricks::{BrickRow, count_along};
@@ -134,7 +134,8 @@ impl ActiveRow {
         requires first { self.now.first ≡ first_brick field.now.grid y z }
         requires y { y < field.now.grid.ny }
         requires z { z < field.now.grid.nz }
-        ensures { IsTrue result → IsStill field.now y z }
+        ensures still { IsTrue result → IsStill field.now y z }
+        ensures active { result ≡ not (is_active_row field.now y z) }
     {
         let _ = (y, z);
         let sizes = field.sizes();

@@ -3,7 +3,7 @@ use Rattle.std.specs.Prelude.{Option, MatchOption, not}
 use Rattle.iso_defs.specs.Outside.{is_outer}
 use Rattle.iso_base.specs.Samples.{IsOfKind}
 use Rattle.iso_base.specs.Volume.{Volume}
-use Rattle.edit_log.specs.Boxes.{IsBox, IsInnerArea, area_samples}
+use Rattle.edit_log.specs.Boxes.{IsBox, IsInnerArea}
 use Rattle.edit_log.proofs.Inverses.{length-area_samples, area_samples_are}
 use Rattle.brick_tests.proofs.changes.is_put_back.Goals as goal
 

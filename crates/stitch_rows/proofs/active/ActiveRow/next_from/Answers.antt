@@ -1,4 +1,4 @@
-use Rattle.std.proofs.Common.{◌≡◌, ◌<◌, ◌≤◌, ap, arith}
+use Rattle.std.proofs.Common.{◌≡◌, ◌<◌, ap, arith}
 use Rattle.iso_defs.specs.Bricks.{bricks_along}
 use Rattle.iso_defs.specs.Grid.{Grid}
 use Rattle.stitch_rows.proofs.StillRows.{noted_from, still_none, still_to}
@@ -18,3 +18,9 @@ returns-then-x-count_along c =
     let count : c.count_along.result ≡ bricks_along v.grid 0 = omega (arith, c.count_along.ensures.value, c.nx.ensures.value, ap (λ (g : Grid). g.nx) c.sizes-sizes.ensures.value) in
     let low : c.args.x < bricks_along v.grid 0 = omega (arith, count, c.if-x-count_along.true) in
     still_to v c.args.self.now c.args.y c.args.z c.requires.y c.requires.z c.requires.active c.requires.first c.args.x c.next.result c.sizes-sizes.ensures.leveled low c.next.ensures
+
+pub returns-else-x-count_along : goal.returns-else-x-count_along
+returns-else-x-count_along c =
+    let v = c.args.field.now in
+    let count : c.count_along.result ≡ bricks_along v.grid 0 = omega (arith, c.count_along.ensures.value, c.nx.ensures.value, ap (λ (g : Grid). g.nx) c.sizes-sizes.ensures.value) in
+    still_none v c.args.y c.args.z c.args.x (omega (arith, count, c.if-x-count_along.false))
