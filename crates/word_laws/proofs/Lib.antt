@@ -1,0 +1,3 @@
+pub mod OneOption
+pub mod OtherRequests
+pub mod PointsWords
