@@ -6,6 +6,7 @@ use Rattle.iso_defs.specs.Bricks.{entries}
 use Rattle.brick_mesh.specs.Block.{BrickAt, heights}
 use Rattle.brick_mesh.specs.Entries.{entries_from, entry_of}
 use Rattle.brick_mesh.proofs.Runs.{entries_all, is_active_in}
+use Rattle.kept_mesh.specs.Kept.{AreAscending}
 use Rattle.kept_mesh.proofs.EntryRuns.{none, small, step}
 
 -- a number before greater ones
@@ -46,3 +47,18 @@ module _ (b : BrickAt) where
   -- those that are less than a number come first
   pub parted : (least : ℕ) (all : List ℕ) → all ≡ entries b.grid (heights b) b.brick → IsPartitionedBy (λ e. ltb e least) all
   parted least all is = subst (IsPartitionedBy (λ e. ltb e least)) (sym (is ∙ sym (entries_all b))) (parted_from least 0 512)
+
+  -- and their cells ascend
+  cells_from : (first n : ℕ) → AreAscending (entries_from b first n)
+  cells_from first zero = λ i j order low. absurd (let e : length (entries_from b first 0) ≡ 0 = ap length (none b first) in omega arith)
+  cells_from first (suc n) = subst AreAscending (sym (step b first n)) (by_test (cells_from (first + 1) n) (is_active_in b first))
+    where
+      by_test : AreAscending (entries_from b (first + 1) n) → (t : Bool) → AreAscending (cond t (entry_of b first ∷ entries_from b (first + 1) n) (entries_from b (first + 1) n))
+      by_test up true zero zero order low = absurd (omega arith)
+      by_test up true zero (suc j) order low = (let later = not_less (first + 1) n j 0 (omega arith) in let s = small b first in omega (arith, later, s))
+      by_test up true (suc i) zero order low = absurd (omega arith)
+      by_test up true (suc i) (suc j) order low = up i j (omega arith) (omega arith)
+      by_test up false i j order low = up i j order low
+
+  pub cells_ascend : (all : List ℕ) → all ≡ entries b.grid (heights b) b.brick → AreAscending all
+  cells_ascend all is = subst AreAscending (sym (is ∙ sym (entries_all b))) (cells_from 0 512)

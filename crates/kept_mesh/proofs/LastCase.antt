@@ -11,7 +11,7 @@ case_more other [] e cell = refl
 case_more other (x ∷ es) e cell = case_more (cond (eqb (x / 1024) cell) (x % 1024) other) es e cell
 
 -- entries that are not of the cell
-no_case : (other : ℕ) (es : List ℕ) (cell : ℕ) → ((k : ℕ) → k < length es → eqb (get_or es k 0 / 1024) cell ≡ false) → last_case other es cell ≡ other
+pub no_case : (other : ℕ) (es : List ℕ) (cell : ℕ) → ((k : ℕ) → k < length es → eqb (get_or es k 0 / 1024) cell ≡ false) → last_case other es cell ≡ other
 no_case other [] cell none = refl
 no_case other (x ∷ es) cell none =
     ap (λ t. last_case (cond t (x % 1024) other) es cell) (none 0 (omega arith)) ∙ no_case other es cell (λ k low. none (suc k) (omega arith))
@@ -36,15 +36,7 @@ module _ (p : ℕ → Bool) (es : List ℕ) (parted : IsPartitionedBy p es) (n :
       (parted (n + i) (n + j) d (omega arith) (omega arith) (subst (λ e. p e ≡ true) (get_or-drop n es j d) is))
 
 module _ (z : ℕ) (es : List ℕ) where
-  -- entries of planes before this one are of none of its cells
-  pub none_before : 0 < length es → IsPartitionedBy (λ e. ltb e (65536 * z)) es → get_or es (length es - 1) 0 / 65536 < z
-      → (other k : ℕ) → k < 64 → last_case other es (64 * z + k) ≡ other
-  none_before some parted last other k low = no_case other es (64 * z + k) (λ j there.
-      let less : get_or es j 0 < 65536 * z
-      = ltb-true _ _ (parted j (length es - 1) 0 (omega arith) (omega arith) (lt-ltb _ _ (omega (arith, last)))) in
-      ne_eqb (get_or es j 0 / 1024) (64 * z + k) (omega (arith, less, low)))
-
-  -- nor are those of planes behind it
+  -- entries of planes behind this one are of none of its cells
   pub none_behind : IsPartitionedBy (λ e. ltb e (65536 * z + 65536)) es → (0 < length es → 65536 * z + 65536 ≤ get_or es 0 0)
       → (other k : ℕ) → k < 64 → last_case other es (64 * z + k) ≡ other
   none_behind parted first other k low = no_case other es (64 * z + k) (λ j there.

@@ -1,16 +1,24 @@
 use Rattle.std.proofs.Common.{◌≡◌, ◌∙◌, ℕ, ◌+◌, ◌*◌, ◌<◌, ◌≤◌, List, ap, drop, get_or, length, ltb, subst, sym, take, arith}
 use Rattle.std.specs.List.Sorted.{IsPartitionedBy}
 use Rattle.std.proofs.lemmas.List.{get_or-replicate, get_or-take, length-drop, length-take}
-use Rattle.kept_mesh.specs.Kept.{last_case}
+use Rattle.kept_mesh.specs.Kept.{AreAscending, last_case}
+use Rattle.kept_mesh.proofs.CellRuns.{ascending_drop, ascending_take}
 use Rattle.kept_mesh.proofs.LastCase.{case_rest, none_behind, parted_drop, parted_take}
 use Rattle.kept_mesh.proofs.entries.plane_cases.Goals as goal
 
 pub loop-left-init : goal.loop-left-init
 loop-left-init c = record {
+  ascending = c.requires.ascending;
   begins = c.requires.begins;
   ends = c.requires.ends;
   written = λ k low. ap (λ other. last_case other c.args.entries (64 * c.args.z + k)) (get_or-replicate 64 k 0 0 low);
 }
+
+pub put_page-requires-clause-few : goal.put_page-requires-clause-few
+put_page-requires-clause-few c = omega (arith, ap length c.front-in-loop-left.ensures, length-take 32 c.loop-left.left)
+
+pub put_page-requires-clause-ascending : goal.put_page-requires-clause-ascending
+put_page-requires-clause-ascending c = subst AreAscending (sym c.front-in-loop-left.ensures) (ascending_take c.loop-left.left 32 c.loop-left.invariant.ascending)
 
 pub put_page-requires-clause-begins : goal.put_page-requires-clause-begins
 put_page-requires-clause-begins c =
@@ -33,6 +41,7 @@ loop-left-smaller c =
 
 pub loop-left-preserved : goal.loop-left-preserved
 loop-left-preserved c = record {
+  ascending = subst AreAscending (sym c.rest-left.ensures) (ascending_drop c.loop-left.left 32 c.loop-left.invariant.ascending);
   begins = subst (IsPartitionedBy (λ e. ltb e (65536 * c.args.z))) (sym c.rest-left.ensures)
       (parted_drop (λ e. ltb e (65536 * c.args.z)) c.loop-left.left c.loop-left.invariant.begins 32);
   ends = subst (IsPartitionedBy (λ e. ltb e (65536 * c.args.z + 65536))) (sym c.rest-left.ensures)

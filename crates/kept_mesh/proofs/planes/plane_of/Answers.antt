@@ -2,7 +2,7 @@ use Rattle.std.proofs.Common.{◌≡◌, ◌+◌, ◌-◌, ◌*◌, get_or, ap, 
 use Rattle.brick_store.specs.Holding.{points_along}
 use Rattle.brick_mesh.specs.Block.{BrickAt}
 use Rattle.brick_mesh.proofs.Spans.{offsets}
-use Rattle.kept_mesh.proofs.Ascending.{parted}
+use Rattle.kept_mesh.proofs.Ascending.{cells_ascend, parted}
 use Rattle.kept_mesh.proofs.Filled.{plane_row}
 use Rattle.kept_mesh.proofs.planes.plane_of.Goals as goal
 
@@ -12,6 +12,10 @@ overflow_sub-result c =
     let o = offsets g c.args.brick.0 1 1 (c.args.z + 1) (omega arith) (omega arith) (omega (arith, c.requires.z)) c.requires.there in
     let x : get_or c.points_along.result 0 0 ≡ points_along g c.args.brick.0 0 = ap (λ l. get_or l 0 0) c.points_along.ensures in
     omega (arith, x, o.x-in)
+
+pub plane_cases-requires-clause-ascending : goal.plane_cases-requires-clause-ascending
+plane_cases-requires-clause-ascending c =
+    cells_ascend (record { grid = c.args.store.now.grid; samples = c.args.store.now.samples; brick = c.args.brick.0; level = c.args.level }) c.args.entries c.requires.entries
 
 pub plane_cases-requires-clause-begins : goal.plane_cases-requires-clause-begins
 plane_cases-requires-clause-begins c =
