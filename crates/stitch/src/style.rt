@@ -19,9 +19,9 @@ pub struct Style {
     pub padded: bool,
 }
 
-/// A stored coordinate as it is printed.
+/// A stored coordinate as it is printed: less the pad's layer where there is a pad.
 #[inline(always)]
-fn without_pad(stored: u32, padded: bool) -> Thousandth
+fn printed_at(stored: u32, padded: bool) -> Thousandth
     ensures value { result.0 ≡ printed padded stored }
     ensures bound { unsigned_abs result.0 < 2 ^ 44 }
 {
@@ -30,22 +30,37 @@ fn without_pad(stored: u32, padded: bool) -> Thousandth
 }
 
 impl Style {
-    /// Puts the line of a vertex at a place behind others, under the name 0, since a line has no name in it.
+    /// Puts the line of a vertex at a place in a volume with a pad, or without one, behind others.
     #[inline(always)]
     #[tactic(auto, unfolding(mesh_write::specs::Mesh::vertex_line))]
+    fn gather_printed(self, padded: bool, at: &[u32; 3], lines: &mut Lines)
+        requires { length lines.old + 64 ≤ 4096 }
+        ensures line { lines.new ≡ lines.old ++ vertex_line self.format padded (0, triangle_of at.now) }
+        ensures few { length lines.new ≤ length lines.old + 64 }
+    {
+        let at = [
+            printed_at(at[0], padded),
+            printed_at(at[1], padded),
+            printed_at(at[2], padded),
+        ];
+        match self.format {
+            TwoWayFormat::Ply => lines.push_ply_vertex(&at),
+            TwoWayFormat::Obj => lines.push_obj_vertex(&at),
+        }
+    }
+
+    /// Puts the line of a vertex at a place behind others, under the name 0, since a line has no name in it.
+    #[inline(always)]
     pub fn gather_vertex(self, at: &[u32; 3], lines: &mut Lines)
         requires { length lines.old + 64 ≤ 4096 }
         ensures line { lines.new ≡ lines.old ++ vertex_line self.format self.padded (0, triangle_of at.now) }
         ensures few { length lines.new ≤ length lines.old + 64 }
     {
-        let at = [
-            without_pad(at[0], self.padded),
-            without_pad(at[1], self.padded),
-            without_pad(at[2], self.padded),
-        ];
-        match self.format {
-            TwoWayFormat::Ply => lines.push_ply_vertex(&at),
-            TwoWayFormat::Obj => lines.push_obj_vertex(&at),
+        // Two calls of what is inlined, since without a pad no number has a sign, and no sign is looked for.
+        if self.padded {
+            self.gather_printed(true, at, lines);
+        } else {
+            self.gather_printed(false, at, lines);
         }
     }
 
