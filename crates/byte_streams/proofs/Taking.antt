@@ -25,21 +25,21 @@ more_than (Some x) None bytes limit p lt = absurd p
 more_than (Some x) (Some y) bytes limit p lt = omega (arith, ap length p, length-append bytes y)
 
 -- bytes behind those taken, by one more read
-both : (idle : ℕ) (old mid new : Feed) (bytes piece : List ℕ) → Takes 0 old mid bytes → Consumes mid.left new.left piece → new.reads ≤ mid.reads + 1 → 1 ≤ length piece + idle → Takes idle old new (bytes ++ piece)
-both idle old mid new bytes piece t c one some = record {
+pub takes_more : (idle : ℕ) (old mid new : Feed) (bytes piece : List ℕ) → Takes 0 old mid bytes → Consumes mid.left new.left piece → new.reads ≤ mid.reads + 1 → 1 ≤ length piece + idle → Takes idle old new (bytes ++ piece)
+takes_more idle old mid new bytes piece t c one some = record {
   consumed = Consumes-trans old.left mid.left new.left bytes piece t.consumed c;
   reads = omega (arith, t.reads, one, some, length-append bytes piece);
 }
 
 pub taken_more : (old mid new : Feed) (bytes after : List ℕ) (n : ℕ) → HasTaken old mid bytes → TakesPiece mid new bytes after n → (n ≡ 0 → ⊥) → mid.faults ≤ new.faults → HasTaken old new after
 taken_more old mid new bytes after n h p some later = record {
-  takes = subst (λ (l : List ℕ). Takes 0 old new l) (sym p.parts) (both 0 old mid new bytes p.piece h.takes p.taken p.once (omega (arith, p.count, some)));
+  takes = subst (λ (l : List ℕ). Takes 0 old new l) (sym p.parts) (takes_more 0 old mid new bytes p.piece h.takes p.taken p.once (omega (arith, p.count, some)));
   later = omega (arith, h.later, later);
 }
 
 pub reads_all : (old mid new : Feed) (bytes after : List ℕ) (n : ℕ) → HasTaken old mid bytes → TakesPiece mid new bytes after n → n ≡ 0 → ReadsAll old new after
 reads_all old mid new bytes after n h p none =
-    let takes = subst (λ (l : List ℕ). Takes 1 old new l) (sym p.parts) (both 1 old mid new bytes p.piece h.takes p.taken p.once (omega arith)) in
+    let takes = subst (λ (l : List ℕ). Takes 1 old new l) (sym p.parts) (takes_more 1 old mid new bytes p.piece h.takes p.taken p.once (omega arith)) in
     record { whole = all_taken old.left new.left after takes.consumed (p.end none); end = p.end none; takes = takes }
 
 pub reads_past : (limit : ℕ) (old new : Feed) (bytes : List ℕ) → HasTaken old new bytes → limit < length bytes → length bytes ≤ limit + 65536 → ReadsPast limit old new
@@ -59,6 +59,6 @@ past_within limit old new r = record { bytes = r.bytes; takes = record { consume
 pub stopped_within : (limit most : ℕ) (old mid new : Feed) (bytes : List ℕ) → HasTaken old mid bytes → length bytes ≤ limit → most ≤ 65536 → ReadsOnce most mid new → ReadsWithin limit old new
 stopped_within limit most old mid new bytes h few small r = record {
   bytes = bytes ++ r.piece;
-  takes = both 1 old mid new bytes r.piece h.takes r.taken r.once (omega arith);
+  takes = takes_more 1 old mid new bytes r.piece h.takes r.taken r.once (omega arith);
   within = omega (arith, few, small, r.few, length-append bytes r.piece);
 }

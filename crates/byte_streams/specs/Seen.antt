@@ -58,6 +58,12 @@ pub record Puts {T E : Type 0} (old new : Tape) (result : Result T E) (text : Li
   pub beside : new.beside ≡ old.beside
   pub cause : HasCause old.faults new.faults result
 
+-- the whole text was appended
+pub record PutAll (old new : Tape) (text : List ℕ) : Type 0 where
+  pub gained : Appends old.taken new.taken text
+  pub beside : new.beside ≡ old.beside
+  pub later : old.faults ≤ new.faults
+
 -- These bytes were taken from a source. Each read took at least one of them, but for so many reads that took none.
 pub record Takes (idle : ℕ) (old new : Feed) (bytes : List ℕ) : Type 0 where
   pub consumed : Consumes old.left new.left bytes
