@@ -10,3 +10,4 @@ pub mod Serving
 pub mod SessionMeshes
 pub mod Economy
 pub mod Soaking
+pub mod Reading

@@ -4,7 +4,7 @@ use Rattle.std.specs.Io.KnownBytes.{Appends}
 use Rattle.iso_defs.specs.Grid.{Grid}
 use Rattle.iso_base.specs.Volume.{Volume, unpadded}
 use Rattle.byte_streams.specs.Causes.{Rose}
-use Rattle.byte_streams.specs.Seen.{Tape}
+use Rattle.byte_streams.specs.Seen.{PutAll, Tape}
 use Rattle.iso_base.specs.declared.fault.BenchFault.TheVariants.{Memory}
 use Rattle.mesh_cache.specs.Cache.{Limits}
 use Rattle.bench_core.specs.Keeping.{Workbench, first_bench}
@@ -15,7 +15,6 @@ use Rattle.script.specs.declared.command.Command.TheVariants.{Fill, Ply}
 use Rattle.script.specs.declared.reply.Reply.TheVariants.{Refused}
 use Rattle.session.specs.Kept.{Kept}
 use Rattle.session.specs.Lines.{Saying}
-use Rattle.session.specs.Loop.{PutAll}
 use Rattle.session.specs.Table.{may_want_memory}
 use Rattle.session.specs.declared.response.Response.{Response}
 use Rattle.session.specs.declared.response.Response.TheVariants.{Line}

@@ -11,6 +11,7 @@ ghost use Rattle.commands.specs.Economy.{LeavesBench};
 ghost use Rattle.commands.specs.Headline.{HoldsWatertight};
 ghost use Rattle.commands.specs.SessionMeshes.{HoldsWatertightMeshes};
 ghost use Rattle.commands.specs.Outcome.{call_between};
+ghost use Rattle.commands.specs.Reading.{ReadsFor, ReadsInput};
 ghost use Rattle.commands.specs.Soaking.{SoakLeaves};
 ghost use Rattle.commands.specs.Serving.{CanServe, Ends, IsCarriedOut, Serves, asked_for};
 ghost use Rattle.endings.specs.declared.answer.Answer.{Answer};
@@ -51,8 +52,9 @@ fn carry_out<S: Source, K: Sink, H: Shelf, L: Ledger>(
     requires left { left.old ≡ None }
     requires pad { HasSamplePad request }
     requires capacity { HasCapacity request }
-    ensures { Serves request
+    ensures serves { Serves request
         (call_between S.seen K.seen H.seen input.old input.new output.old output.new shelf.old shelf.new left.new steps.old steps.new) result }
+    ensures reading { ReadsFor request (S.seen input.old) (S.seen input.new) }
 {
     match request {
         Request::Points { level } => points(alloc, level, input, output),
@@ -94,8 +96,9 @@ fn serve<S: Source, K: Sink, H: Shelf, L: Ledger>(
     steps: &mut Steps<L>,
 ) -> Answer
     requires { left.old ≡ None }
-    ensures { Ends (map string_bytes words.now)
+    ensures ends { Ends (map string_bytes words.now)
         (call_between S.seen K.seen H.seen input.old input.new output.old output.new shelf.old shelf.new left.new steps.old steps.new) result }
+    ensures reading { ReadsInput (map string_bytes words.now) (S.seen input.old) (S.seen input.new) }
 {
     match read_words(words) {
         None => Answer::BadWords,
@@ -128,6 +131,9 @@ pub fn run<S: Source, K: Sink, N: Sink, H: Shelf, L: Ledger>(
         × Ends (map string_bytes words.now)
         (call_between S.seen K.seen H.seen input.old input.new output.old output.new shelf.old shelf.new left.new steps.old steps.new) answer
         × Tries (N.seen notes.old) (N.seen notes.new) (note_of answer) }
+
+    // The input was read no further than the command's limit and one piece, and each read but the last took at least one byte.
+    ensures reading { ReadsInput (map string_bytes words.now) (S.seen input.old) (S.seen input.new) }
 
     // The cause of each status but done and want of memory.
     ensures bad_words { (result ≡ Status.BadWords) ↔ (request_of (map string_bytes words.now) ≡ None) }

@@ -2,12 +2,14 @@
 
 ghost use Rattle.std.specs.Prelude.{◌≡◌, ◌↔◌, None, map, string_bytes};
 ghost use Rattle.byte_streams.specs.Causes.{Rose};
+ghost use Rattle.byte_streams.specs.Seen.{ReadsWithin};
 ghost use Rattle.endings.specs.Notes.{note_of};
 ghost use Rattle.endings.specs.Status.{status_of};
 ghost use Rattle.endings.specs.Tries.{Tries};
 ghost use Rattle.endings.specs.declared.answer.Answer.{Answer};
 ghost use Rattle.point_command.specs.Outcome.{streams_between};
 ghost use Rattle.point_command.specs.Running.{CanGive, GivesPoints, HasNoVolume, HasTooMany, IsDoneOrWanting};
+ghost use Rattle.point_command.specs.Volumes.{volume_limit};
 ghost use Rattle.point_command.specs.Words.{points_level};
 
 use crate::crossings::points;
@@ -23,7 +25,8 @@ fn give_points<S: Source, K: Sink>(
     input: &mut S,
     output: &mut K,
 ) -> Answer
-    ensures { GivesPoints (map string_bytes words.now) (streams_between S.seen K.seen input.old input.new output.old output.new) result }
+    ensures gives { GivesPoints (map string_bytes words.now) (streams_between S.seen K.seen input.old input.new output.old output.new) result }
+    ensures reading { ReadsWithin volume_limit (S.seen input.old) (S.seen input.new) }
 {
     match level_of_words(words) {
         None => Answer::BadWords,
@@ -46,6 +49,9 @@ pub fn run_points<S: Source, K: Sink, N: Sink>(
     ensures outcome { (answer : Answer) × (result ≡ status_of answer)
         × GivesPoints (map string_bytes words.now) (streams_between S.seen K.seen input.old input.new output.old output.new) answer
         × Tries (N.seen notes.old) (N.seen notes.new) (note_of answer) }
+
+    // The input was read no further than the limit and one piece, and each read but the last took at least one byte.
+    ensures reading { ReadsWithin volume_limit (S.seen input.old) (S.seen input.new) }
 
     // The cause of each status but done and want of memory.
     ensures bad_words { (result ≡ Status.BadWords) ↔ (points_level (map string_bytes words.now) ≡ None) }

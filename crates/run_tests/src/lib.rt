@@ -12,6 +12,8 @@ mod malformed;
 #[cfg(test)]
 mod noise;
 #[cfg(test)]
+mod reads;
+#[cfg(test)]
 mod scripts;
 #[cfg(test)]
 mod sessions;

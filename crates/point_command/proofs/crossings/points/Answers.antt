@@ -4,8 +4,8 @@ use Rattle.point_command.proofs.crossings.points.Goals as goal
 pub put_text-requires-clause-known : goal.put_text-requires-clause-known
 put_text-requires-clause-known g c = (c.args.level, c.in-Ok.ensures.known.0, c.in-Ok.ensures.known.1)
 
-pub returns : goal.returns
-returns g c =
+pub returns-clause-converts : goal.returns-clause-converts
+returns-clause-converts g c =
     let e = c.in-Ok.edges in (
       edges_text e.sizes e.edges.names.items e.edges.places.items,
       record { ended = c.in-Ok.ensures.edges.ended; within = c.in-Ok.ensures.edges.within },
@@ -13,8 +13,8 @@ returns g c =
       record { cause = c.in-Err-put_text.ensures.cause.failed; gained = c.in-Err-put_text.ensures.gained; beside = c.in-Err-put_text.ensures.beside },
     )
 
-pub returns-in-Ok-put_text : goal.returns-in-Ok-put_text
-returns-in-Ok-put_text g c =
+pub returns-in-Ok-put_text-clause-converts : goal.returns-in-Ok-put_text-clause-converts
+returns-in-Ok-put_text-clause-converts g c =
     let e = c.in-Ok.edges in (
       edges_text e.sizes e.edges.names.items e.edges.places.items,
       record { ended = c.in-Ok.ensures.edges.ended; within = c.in-Ok.ensures.edges.within },
