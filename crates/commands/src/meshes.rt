@@ -190,7 +190,7 @@ pub fn extract<S: Source, K: Sink>(
 ) -> Answer
     requires { IfSome pad IsSample }
     ensures converts { Converts (mesh_given level pad format) (streams_between S.seen K.seen input.old input.new output.old output.new) result }
-    ensures shows { ShowsMesh level pad (S.seen input.old) result }
+    ensures shows { ShowsMesh level pad format (streams_between S.seen K.seen input.old input.new output.old output.new) result }
     ensures reading { ReadsWithin volume_limit (S.seen input.old) (S.seen input.new) }
 {
     match bytes_of_input(alloc, input) {

@@ -8,6 +8,8 @@ mod conversions;
 #[cfg(test)]
 mod faults;
 #[cfg(test)]
+mod help;
+#[cfg(test)]
 mod malformed;
 #[cfg(test)]
 mod noise;

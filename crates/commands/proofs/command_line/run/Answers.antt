@@ -1,6 +1,6 @@
 use Rattle.std.proofs.Common.{sym, ◌∙◌}
 use Rattle.commands.proofs.Completing.{completes}
-use Rattle.commands.proofs.Economy.{economy, soak_economy}
+use Rattle.commands.proofs.Economy.{economy, soak_economy, soak_headline}
 use Rattle.commands.specs.Causes.{HasBadMesh, HasBadVolume, HasBrokenMesh, HasNoFile, HasTooMany}
 use Rattle.commands.proofs.Reasons.{asked_and_served, headline, not_rejected, why_bad_mesh, why_bad_volume, why_mesh_refused, why_shelf_fault, why_too_long}
 use Rattle.commands.proofs.SessionMeshes.{session_headline}
@@ -41,3 +41,6 @@ returns-clause-economy g c = λ level pad name bricks pages asked. economy _ _ c
 
 pub returns-clause-soak_economy : goal.returns-clause-soak_economy
 returns-clause-soak_economy g c = λ seed asked. soak_economy _ _ c.serve-answer.result seed c.serve-answer.ensures.ends asked
+
+pub returns-clause-soak_headline : goal.returns-clause-soak_headline
+returns-clause-soak_headline g c = λ seed asked. soak_headline _ _ c.serve-answer.result seed c.serve-answer.ensures.ends asked

@@ -9,5 +9,5 @@ pub returns-clause-bad_volume : goal.returns-clause-bad_volume
 returns-clause-bad_volume g c = λ e. why_no_volume _ _ c.give_points-answer.result c.give_points-answer.ensures.gives (sym c.status.ensures ∙ e)
 
 pub returns-clause-complete : goal.returns-clause-complete
-returns-clause-complete g c = λ can reads writes.
-    rw c.status.ensures (completes _ _ c.give_points-answer.result c.give_points-answer.ensures.gives can reads writes)
+returns-clause-complete g c = λ asked e can reads writes.
+    rw c.status.ensures (completes _ asked _ c.give_points-answer.result c.give_points-answer.ensures.gives e can reads writes)
