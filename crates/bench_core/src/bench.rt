@@ -288,7 +288,7 @@ impl Bench {
     /// Makes the name's file the PLY text of the mesh, which is written as it is made. What waits is refreshed first, in every
     /// case; the state stays. `ShelfFailed` comes only where the shelf's count of faults rose; the file is then as before or a
     /// front of the text, and all other files are as before. The counter rises by at most 2,048 for each brick that waited. No
-    /// memory is taken but what the cache keeps, which is not missed where it cannot be had.
+    /// memory is taken but for the cache, and where none can be had the write goes on.
     pub fn write_ply<H: Shelf, L: Ledger>(
         &mut self,
         shelf: &mut H,

@@ -1,4 +1,4 @@
-//! Tests of sessions and of the program's run, over memory: worked examples, and each call once with ample memory.
+//! Tests of sessions and of the program's run, over memory: worked examples, and each command once with ample memory.
 #![tactic(auto)]
 
 #[cfg(test)]
@@ -6,7 +6,11 @@ mod calls;
 #[cfg(test)]
 mod conversions;
 #[cfg(test)]
+mod encodings;
+#[cfg(test)]
 mod faults;
+#[cfg(test)]
+mod generate;
 #[cfg(test)]
 mod help;
 #[cfg(test)]
