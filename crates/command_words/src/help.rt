@@ -46,17 +46,17 @@ are whole numbers. Options stand anywhere behind the command, each at most once.
 
 Exit status; each but 0 and 1 puts a line into standard error:
   0  done, and the whole output was written
-  1  check: the mesh is no surface
-  2  the words are no command line
+  1  check: the mesh is not a surface
+  2  the arguments are not a command line
   3  the volume, its pad or the level is refused
   4  reading standard input failed
   5  the input, or the volume file of a session, has too many bytes
   6  writing standard output failed
-  7  memory could not be had
+  7  out of memory
   8  the volume file of a session could not be read
   9  the mesh text is refused
 
-Manual: README.md and docs/formats.md of the repository isobench.
+Manual: README.md and docs/ of the repository isobench.
 ";
 
 /// The help: what the program is, each command with its options, what it reads and writes and an example, what each exit

@@ -23,14 +23,14 @@ help_lines =
     codes "" ∷
     codes "Exit status; each but 0 puts a line into standard error:" ∷
     codes "  0  done, and the whole output was written" ∷
-    codes "  2  the words are no command line" ∷
+    codes "  2  the arguments are not a command line" ∷
     codes "  3  the volume is refused" ∷
     codes "  4  reading standard input failed" ∷
     codes "  5  the input has too many bytes" ∷
     codes "  6  writing standard output failed" ∷
-    codes "  7  memory could not be had" ∷
+    codes "  7  out of memory" ∷
     codes "" ∷
-    codes "Manual: README.md and docs/formats.md of the repository isobench." ∷
+    codes "Manual: README.md and docs/ of the repository isobench." ∷
     []
 
 unfoldable pub help_text : List ℕ

@@ -24,14 +24,14 @@ commands of the workbench are those of the program isobench.
 
 Exit status; each but 0 puts a line into standard error:
   0  done, and the whole output was written
-  2  the words are no command line
+  2  the arguments are not a command line
   3  the volume is refused
   4  reading standard input failed
   5  the input has too many bytes
   6  writing standard output failed
-  7  memory could not be had
+  7  out of memory
 
-Manual: README.md and docs/formats.md of the repository isobench.
+Manual: README.md and docs/ of the repository isobench.
 ";
 
 /// The help: what the program is, its command with its option, what it reads and writes and an example, what each exit status

@@ -9,7 +9,7 @@ use std::test::Fail;
 const HELP_HEAD: &[u8] =
     b"isobench: a workbench for isosurfaces of integer volumes\n\nUsage:\n  isobench points --level=V\n";
 
-const HELP_END: &[u8] = b"\nManual: README.md and docs/formats.md of the repository isobench.\n";
+const HELP_END: &[u8] = b"\nManual: README.md and docs/ of the repository isobench.\n";
 
 const OUTPUT_FAULT: &[u8] = b"isobench: output fault\n";
 
