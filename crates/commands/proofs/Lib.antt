@@ -11,6 +11,6 @@ pub mod Completing
 pub mod Wanting
 pub mod Soaked
 pub mod SoakKinds
-pub mod Meshes
+pub mod MeshTurns
 pub mod Soaks
 pub mod Written

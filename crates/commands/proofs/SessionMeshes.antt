@@ -15,7 +15,7 @@ use Rattle.commands.specs.Serving.{Serves, asked_for}
 use Rattle.commands.specs.Sessions.{Asked, RunsSession, session_between, world_after, world_before}
 use Rattle.commands.specs.SessionMeshes.{HoldsMeshes, HoldsWatertightMeshes, ShowsMeshes}
 use Rattle.commands.proofs.Economy.{Led, led}
-use Rattle.commands.proofs.Meshes.{mesh_turns}
+use Rattle.commands.proofs.MeshTurns.{mesh_turns}
 use Rattle.commands.proofs.Reasons.{same_request}
 
 -- all meshes of lines that were run, and their replies were written

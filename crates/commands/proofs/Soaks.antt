@@ -14,7 +14,7 @@ use Rattle.endings.specs.Status.{status_of}
 use Rattle.endings.specs.declared.answer.Answer.{Answer}
 use Rattle.endings.specs.declared.answer.Answer.TheVariants as answers
 use Rattle.endings.specs.declared.answer.Status.TheVariants as statuses
-use Rattle.commands.proofs.Meshes.{mesh_turns}
+use Rattle.commands.proofs.MeshTurns.{mesh_turns}
 
 -- an answer that a soak does not give
 abbrev pub IsForeign : Answer → Type 0
