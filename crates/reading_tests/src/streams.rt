@@ -102,9 +102,9 @@ fn check_start<H: Shelf>(rt: &impl Abort, shelf: &mut H, name: &str, want: Resul
     assert!(rt; shelf.start(name) == want, "{name}");
 }
 
-fn check_append(
+fn check_append<H: Shelf>(
     rt: &impl Abort,
-    shelf: &mut MemShelf,
+    shelf: &mut H,
     (name, bytes): (&str, &[u8]),
     want: Result<(), Failed>,
 ) {
@@ -165,11 +165,16 @@ fn write_pieces(rt: &impl Abort, shelf: &mut FileShelf) {
     check_put(rt, &mut file, b"def", Ok(()));
 }
 
-/// The file `a` has six bytes.
-fn check_read<H: Shelf>(rt: &impl Abort, alloc: Global, shelf: &mut H) {
-    match shelf.read(alloc, "a", 6) {
-        Ok(bytes) => assert!(rt; bytes.as_slice() == b"abcdef".as_slice()),
-        Err(fault) => panic!(rt; "{fault:?}"),
+/// A file has these bytes.
+fn check_read<H: Shelf>(
+    rt: &impl Abort,
+    alloc: Global,
+    shelf: &mut H,
+    (name, bytes): (&str, &[u8]),
+) {
+    match shelf.read(alloc, name, 6) {
+        Ok(read) => assert!(rt; read.as_slice() == bytes, "{name}"),
+        Err(fault) => panic!(rt; "{name}: {fault:?}"),
     }
 }
 
@@ -177,7 +182,7 @@ fn check_pieces(rt: &impl Abort, alloc: Global, shelf: &mut FileShelf) {
     check_unread(rt, alloc, shelf, ("a", 9), ShelfError::Failed);
     write_pieces(rt, shelf);
     check_unread(rt, alloc, shelf, ("a", 5), ShelfError::TooLong { limit: 5 });
-    check_read(rt, alloc, shelf);
+    check_read(rt, alloc, shelf, ("a", b"abcdef"));
     check_start(rt, shelf, "no/such/folder", Err(Failed));
 }
 
@@ -185,6 +190,42 @@ fn check_pieces(rt: &impl Abort, alloc: Global, shelf: &mut FileShelf) {
 #[test]
 fn files_are_written_and_read(rt: HostRuntime) {
     check_pieces(&rt, rt.alloc(), &mut FileShelf::new(&rt));
+}
+
+/// Appends in turns to two files that are not there at first, and one that fails.
+const TURNS: &[(&str, &[u8], Result<(), Failed>)] = &[
+    ("a", b"abc", Ok(())),
+    ("b", b"uvw", Ok(())),
+    ("a", b"de", Ok(())),
+    ("no/such/folder", b"z", Err(Failed)),
+    ("a", b"f", Ok(())),
+    ("b", b"xyz", Ok(())),
+];
+
+fn check_turns(rt: &impl Abort, alloc: Global, shelf: &mut FileShelf) {
+    for (name, bytes, want) in TURNS {
+        check_append(rt, shelf, (*name, *bytes), *want);
+    }
+    check_read(rt, alloc, shelf, ("a", b"abcdef"));
+    check_read(rt, alloc, shelf, ("b", b"uvwxyz"));
+}
+
+/// A file that has bytes is made anew.
+fn check_anew(rt: &impl Abort, alloc: Global, shelf: &mut FileShelf) {
+    check_start(rt, shelf, "a", Ok(()));
+    check_read(rt, alloc, shelf, ("a", b""));
+    check_append(rt, shelf, ("a", b"gh"), Ok(()));
+    check_read(rt, alloc, shelf, ("a", b"gh"));
+}
+
+fn check_changes(rt: &impl Abort, alloc: Global, shelf: &mut FileShelf) {
+    check_turns(rt, alloc, shelf);
+    check_anew(rt, alloc, shelf);
+}
+
+#[test]
+fn files_are_appended_to_in_turns_and_made_anew(rt: HostRuntime) {
+    check_changes(&rt, rt.alloc(), &mut FileShelf::new(&rt));
 }
 
 #[test]

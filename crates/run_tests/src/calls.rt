@@ -129,21 +129,31 @@ fn counted_run<S: Source, L: Ledger>(
     )
 }
 
-/// What is left of a call whose input is another source.
-pub fn outcome_over<S: Source>(
+/// What is left of a call whose input is another source, over this shelf.
+pub fn outcome_on<S: Source>(
     alloc: Global,
     call: &Call<'_>,
     input: &mut S,
+    shelf: MemShelf,
 ) -> Result<Outcome, Fail> {
     let words = words_of(alloc, call.words)?;
     let mut outcome = Outcome {
         status: Status::Done,
         output: sink_of(alloc, call.write_piece, call.writes_failing)?,
         notes: sink_of(alloc, 4096, &[])?,
-        shelf: shelf_of(alloc, call)?,
+        shelf,
     };
     outcome.status = counted_run::<S, Brand>(alloc, Blank::new(1), &words, input, &mut outcome);
     Ok(outcome)
+}
+
+/// What is left of a call whose input is another source.
+pub fn outcome_over<S: Source>(
+    alloc: Global,
+    call: &Call<'_>,
+    input: &mut S,
+) -> Result<Outcome, Fail> {
+    outcome_on(alloc, call, input, shelf_of(alloc, call)?)
 }
 
 pub fn outcome_of(alloc: Global, call: &Call<'_>) -> Result<Outcome, Fail> {

@@ -1,6 +1,6 @@
 //! The worked script with each call of the outside failing in turn.
 
-use crate::calls::{Call, Outcome, call_of, outcome_of};
+use crate::calls::{Call, Outcome, call_of, outcome_of, session_of};
 use crate::scripts::{SEVENTEEN, zeros};
 use crate::texts::{MESH_AT_FOUR, MOVED_MESH};
 use endings::Status;
@@ -185,6 +185,12 @@ fn each_read_and_each_write_fails(rt: HostRuntime) -> Result<(), Fail> {
     Ok(())
 }
 
+/// Nothing failed in the worked script.
+fn check_worked(rt: &impl Abort, outcome: &Outcome) {
+    check_replies(rt, outcome, Status::Done, REPLIES);
+    check_files(rt, outcome, 0, b"");
+}
+
 fn check_pieces(
     rt: &impl Abort,
     alloc: Global,
@@ -195,9 +201,7 @@ fn check_pieces(
     let mut call = worked(volume, SCRIPT);
     call.read_piece = read_piece;
     call.write_piece = write_piece;
-    let outcome = outcome_of(alloc, &call)?;
-    check_replies(rt, &outcome, Status::Done, REPLIES);
-    check_files(rt, &outcome, 0, b"");
+    check_worked(rt, &outcome_of(alloc, &call)?);
     Ok(())
 }
 
@@ -209,6 +213,14 @@ fn pieces_change_nothing(rt: HostRuntime) -> Result<(), Fail> {
             check_pieces(&rt, rt.alloc(), &volume, read_piece, write_piece)?;
         }
     }
+    Ok(())
+}
+
+/// With the capacity that a session has where no other is asked for, kept bricks are read again.
+#[test]
+fn the_capacity_changes_nothing(rt: HostRuntime) -> Result<(), Fail> {
+    let volume = zeros(rt.alloc(), SEVENTEEN, 4913)?;
+    check_worked(&rt, &outcome_of(rt.alloc(), &session_of(&volume, SCRIPT))?);
     Ok(())
 }
 

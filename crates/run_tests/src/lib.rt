@@ -1,4 +1,4 @@
-//! Tests of sessions and of the program's run, over memory: worked examples, and each call once with ample memory.
+//! Tests of sessions and of the program's run, over memory: worked examples, and each command once with ample memory.
 #![tactic(auto)]
 
 #[cfg(test)]
@@ -8,9 +8,13 @@ mod conversions;
 #[cfg(test)]
 mod faults;
 #[cfg(test)]
+mod generate;
+#[cfg(test)]
 mod malformed;
 #[cfg(test)]
 mod noise;
+#[cfg(test)]
+mod printed;
 #[cfg(test)]
 mod scripts;
 #[cfg(test)]

@@ -1,8 +1,10 @@
 //! Sessions of the program.
 
 use crate::calls::{
-    End, NO_FILES, Outcome, call_of, check, check_replies, check_session, outcome_of, session_of,
+    Call, End, NO_FILES, Outcome, call_of, check, check_replies, check_session, outcome_of,
+    session_of,
 };
+use crate::faults::worked;
 use crate::texts::*;
 use endings::Status;
 use std::alloc::{AllocError, Global};
@@ -42,37 +44,37 @@ fn an_edit_and_its_undo(rt: HostRuntime) -> Result<(), Fail> {
     )
 }
 
-/// The file `a` that a script leaves.
-fn file_of<'a>(alloc: Global, volume: &'a [u8], script: &'a [u8]) -> Result<Vec<u8>, Fail> {
-    let outcome = outcome_of(alloc, &session_of(volume, script))?;
+/// The file `a` that a session leaves.
+fn file_of(alloc: Global, call: &Call<'_>) -> Result<Vec<u8>, Fail> {
+    let outcome = outcome_of(alloc, call)?;
     Ok(Vec::from_slice(alloc, outcome.shelf.file("a").unwrap_or(b""))?)
 }
 
-/// Two scripts write the same mesh as the file `a`, and one that has vertices.
-fn same_meshes<'a>(
+/// Two sessions write the same mesh as the file `a`, and one that has vertices.
+fn same_meshes(
     rt: &impl Abort,
     alloc: Global,
-    volume: &'a [u8],
-    script: &'a [u8],
-    other: &'a [u8],
+    call: &Call<'_>,
+    other: &Call<'_>,
 ) -> Result<(), Fail> {
-    let mesh = file_of(alloc, volume, script)?;
+    let mesh = file_of(alloc, call)?;
     assert!(rt; mesh.len() > 154);
-    assert_eq!(rt; mesh, file_of(alloc, volume, other)?);
+    assert_eq!(rt; mesh, file_of(alloc, other)?);
     Ok(())
 }
 
+const REFRESHED: &[u8] = b"set 8 8 8 10\nfill 0 0 0 3 3 3 20\nlevel 7\nwork 1\nundo\nply a\n";
+
+const NOT_REFRESHED: &[u8] = b"set 8 8 8 10\nfill 0 0 0 3 3 3 20\nlevel 7\nundo\nply a\n";
+
+/// Neither does the capacity: the second session keeps the least of its mesh that may be kept.
 #[test]
 fn refresh_turns_change_nothing(rt: HostRuntime) -> Result<(), Fail> {
     let alloc = rt.alloc();
     let volume = zeros(alloc, SEVENTEEN, 4913)?;
-    same_meshes(
-        &rt,
-        alloc,
-        &volume,
-        b"set 8 8 8 10\nfill 0 0 0 3 3 3 20\nlevel 7\nwork 1\nundo\nply a\n",
-        b"set 8 8 8 10\nfill 0 0 0 3 3 3 20\nlevel 7\nundo\nply a\n",
-    )
+    let call = session_of(&volume, REFRESHED);
+    same_meshes(&rt, alloc, &call, &session_of(&volume, NOT_REFRESHED))?;
+    same_meshes(&rt, alloc, &call, &worked(&volume, REFRESHED))
 }
 
 const LARGE: &[u8] = b"NRRD0004\ntype: uint8\ndimension: 3\nsizes: 128 128 128\nencoding: raw\n\n";

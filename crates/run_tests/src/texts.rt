@@ -8,6 +8,10 @@ pub const CORNER: &[u8] =
 pub const CORNER_AT_LEVEL: &[u8] =
     b"NRRD0004\ntype: uint8\ndimension: 3\nsizes: 2 2 2\nencoding: raw\n\n\x05\0\0\0\0\0\0\0";
 
+/// 2x2x2, all 0.
+pub const NOTHING: &[u8] =
+    b"NRRD0004\ntype: uint8\ndimension: 3\nsizes: 2 2 2\nencoding: raw\n\n\0\0\0\0\0\0\0\0";
+
 /// 10 on the lower plane, 0 on the upper one.
 pub const LOWER_HALF: &[u8] =
     b"NRRD0004\ntype: uint8\ndimension: 3\nsizes: 2 2 2\nencoding: raw\n\n\x0a\x0a\x0a\x0a\0\0\0\0";

@@ -4,25 +4,25 @@ use crate::calls::{NO_FILES, call_of, check_done, check_replies, check_session};
 use crate::texts::*;
 use std::test::Fail;
 
+/// Volumes, and the measures of their meshes at level 5.
+const MEASURED: &[(&[u8], &[u8])] = &[
+    (
+        CORNER,
+        b"measure parts 1\npart 0 six 125000000 area 250000 250000 250000 border 3\nok\n",
+    ),
+    (NOTHING, b"measure parts 0\nok\n"),
+    (
+        MIDDLE,
+        b"measure parts 1\npart 0 six 1000000000 area 0 0 0 border 0\nok\n",
+    ),
+];
+
 #[test]
 fn measures_of_parts(rt: HostRuntime) -> Result<(), Fail> {
     let alloc = rt.alloc();
-    check_session(
-        &rt,
-        alloc,
-        CORNER,
-        b"measure\nset 0 0 0 0\nmeasure\n",
-        b"measure parts 1\npart 0 six 125000000 area 250000 250000 250000 border 3\nok\nok\nmeasure parts 0\nok\n",
-        NO_FILES,
-    )?;
-    check_session(
-        &rt,
-        alloc,
-        MIDDLE,
-        b"measure\n",
-        b"measure parts 1\npart 0 six 1000000000 area 0 0 0 border 0\nok\n",
-        NO_FILES,
-    )?;
+    for (volume, replies) in MEASURED {
+        check_session(&rt, alloc, *volume, b"measure\n", *replies, NO_FILES)?;
+    }
     let mut padded = call_of(&["session", "v", "--level=5", "--pad=0"], b"measure\n");
     padded.volume = SOLID;
     let replies = b"measure parts 1\npart 0 six 34000000000 area 0 0 0 border 0\nok\n";

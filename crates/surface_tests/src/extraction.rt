@@ -6,7 +6,9 @@ ghost use Rattle.iso_defs.specs.Grid.{Grid};
 use crate::grids::{three_a_side, two_a_side};
 use crate::volumes::one_above;
 use flat_mesh::{Mesh, VertexName, extract_flat};
-use iso_base::{EdgeName, Level, Memory, SampleKind, Sizes, Thousandth, TriangleList, VoxelData};
+use iso_base::{
+    CellName, EdgeName, Level, Memory, SampleKind, Sizes, Thousandth, TriangleList, VoxelData,
+};
 use std::alloc::Global;
 use std::process::Abort;
 use std::test::Fail;
@@ -35,6 +37,39 @@ fn check_corner(rt: &impl Abort, mesh: &Mesh) {
         assert!(rt; mesh.vertex(1) == (VertexName::Edge(EdgeName(1)), at));
         assert!(rt; mesh.triangle(0) == [0, 1, 2]);
     }
+}
+
+/// The mesh at a level of two by two by two samples, of which the lower four are 10.
+fn lower_mesh(alloc: Global, sizes: Sizes, level: Level) -> Result<Mesh, Memory>
+    requires { sizes ≡ record { nx = 2; ny = 2; nz = 2 } }
+{
+    let samples = vec![in alloc; 10, 10, 10, 10, 0, 0, 0, 0]?;
+    let volume = VoxelList::of(VoxelData::new(sizes, SampleKind::U8, samples));
+    extract_flat(alloc, &volume, level)
+}
+
+/// That mesh at level 5: one loop of four edges round a centre.
+fn lower_at_5(alloc: Global) -> Result<Mesh, Fail> {
+    let sizes = two_a_side().ok_or("2, 2 and 2 are sizes")?;
+    let level = Level::new(5_000).ok_or("5 is a level")?;
+    Ok(lower_mesh(alloc, sizes, level)?)
+}
+
+fn check_centre(rt: &impl Abort, mesh: &Mesh) {
+    assert!(rt; mesh.vertex_count() == 5);
+    if mesh.vertex_count() == 5 {
+        let centre = VertexName::Centre {
+            cell: CellName(0),
+            turn: 0,
+        };
+        assert!(rt; mesh.vertex(4) == (centre, [Thousandth(500); 3]));
+    }
+}
+
+#[test]
+fn a_centre_stands_behind_the_edges(rt: HostRuntime) -> Result<(), Fail> {
+    check_centre(&rt, &lower_at_5(rt.alloc())?);
+    Ok(())
 }
 
 fn check_list(rt: &impl Abort, list: &TriangleList) {

@@ -28,6 +28,7 @@ fn check_loop(rt: &impl Abort, row: CaseRow, i: u8, edges: &[u8]) {
 #[test]
 fn loops_of_some_cases(rt: HostRuntime) {
     check_loop(&rt, row_of(1, 0), 0, &[0, 4, 8]);
+    check_loop(&rt, row_of(9, 0), 0, &[0, 4, 8]);
     check_loop(&rt, row_of(9, 0), 1, &[1, 5, 11]);
     check_loop(&rt, row_of(9, 16), 0, &[0, 5, 11, 1, 4, 8]);
     check_loop(&rt, row_of(15, 0), 0, &[8, 9, 11, 10]);
