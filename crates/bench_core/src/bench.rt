@@ -1,5 +1,6 @@
 ghost use Rattle.std.specs.Prelude.{◌≡◌, ◌⊎◌, ◌+◌, ◌*◌, ◌<◌, ◌≤◌, take, length, is_some, IfSome, IfNone, IsSomeAnd, None, Some, Ok, IfOk, IfErr, OnOk, IsErrOf, All};
 ghost use Rattle.iso_base.specs.Samples.{IsSample, least_of, greatest_of};
+ghost use Rattle.mesh_cache.specs.Cache.{IsCache};
 ghost use Rattle.inner_volume.specs.Places.{IsInside, place_of, plane_of};
 ghost use Rattle.measure.specs.Measures.{HasNoArea};
 ghost use Rattle.mesh_measures.specs.Printed.{HasNoBorder, HasOneVolumeIn};
@@ -80,7 +81,7 @@ impl Bench {
         ensures opened { IfOk result (λ b. b ≡ first_bench volume level capacity) }
         ensures sound { IfOk result (λ b. IsState b.state) }
         ensures above { IfOk result (λ _. begin_fault volume.pad level ≡ None) }
-        ensures fault { IfErr result (λ fault. (fault ≡ BeginFault.Memory) ⊎ (begin_fault volume.pad level ≡ Some fault)) }
+        ensures fault { IfErr result (λ fault. (begin_fault volume.pad level ≡ Some fault) ⊎ ((fault ≡ BeginFault.Memory) × (begin_fault volume.pad level ≡ None))) }
     {
         // A level is refused before memory is asked for.
         if let Some(fault) = refused(volume.pad(), level) {
@@ -100,7 +101,7 @@ impl Bench {
         ensures opened { IfOk result (λ b. b ≡ first_bench store level capacity) }
         ensures sound { IfOk result (λ b. IsState b.state) }
         ensures above { IfOk result (λ _. begin_fault store.pad level ≡ None) }
-        ensures fault { IfErr result (λ fault. (fault ≡ BeginFault.Memory) ⊎ (begin_fault store.pad level ≡ Some fault)) }
+        ensures fault { IfErr result (λ fault. (begin_fault store.pad level ≡ Some fault) ⊎ ((fault ≡ BeginFault.Memory) × (begin_fault store.pad level ≡ None))) }
     {
         if let Some(fault) = refused(store.pad(), level) {
             return Err(fault);
@@ -120,9 +121,10 @@ impl Bench {
         })
     }
 
-    /// How much of the mesh may be kept. All that is kept is right for the volume.
+    /// How much of the mesh may be kept. All that is kept is right for the volume, is of different bricks, and is within that.
     pub fn capacity(&self) -> Capacity
         ensures value { result ≡ self.now.cache.limits }
+        ensures cache { IsCache self.now.cache }
         ensures sound { IsState self.now.state }
         ensures right { IsRightBench self.now }
     {
@@ -137,11 +139,11 @@ impl Bench {
     }
 
     /// Replaces one sample. Coordinates do not count the pad's layer. Refused, in this order: `Outside` exactly where
-    /// the point is not in the unpadded volume; `ValueOutside` exactly where the value is not of the kind. No memory.
+    /// the point is not in the unpadded volume; `ValueOutside` exactly where the value is not of the kind. Never `Memory`.
     pub fn set(&mut self, x: i64, y: i64, z: i64, value: i64) -> Result<(), BenchFault>
         ensures step { IsSureStep self.old.state self.new.state result (set_step self.old.state (x, y, z) value) }
         ensures kept { Keeps self.old self.new result (set_area self.old.state (x, y, z)) }
-        ensures no_memory { IsErrOf result BenchFault.Memory → ⊥ }
+        ensures never_memory { IsErrOf result BenchFault.Memory → ⊥ }
         ensures not_shelf { IsErrOf result BenchFault.ShelfFailed → ⊥ }
     {
         let Some(point) = self.place(x, y, z) else {
@@ -154,7 +156,7 @@ impl Bench {
         requires { IsInside self.old.state.volume point }
         ensures step { IsSureStep self.old.state self.new.state result (set_at self.old.state value (Some point)) }
         ensures kept { Keeps self.old self.new result (Some (between point point)) }
-        ensures no_memory { IsErrOf result BenchFault.Memory → ⊥ }
+        ensures never_memory { IsErrOf result BenchFault.Memory → ⊥ }
         ensures not_shelf { IsErrOf result BenchFault.ShelfFailed → ⊥ }
     {
         let kind = self.store.kind();
@@ -202,11 +204,11 @@ impl Bench {
     }
 
     /// Replaces the level, given in thousandths. Refused, in this order: `LevelOutside` exactly where its absolute value is
-    /// 2^33 times 1,000 or more; `LevelNotAbovePad` exactly where there is a pad and the level is not above it. No memory.
+    /// 2^33 times 1,000 or more; `LevelNotAbovePad` exactly where there is a pad and the level is not above it. Never `Memory`.
     pub fn level(&mut self, value: i128) -> Result<(), BenchFault>
         ensures step { IsSureStep self.old.state self.new.state result (level_step self.old.state value) }
         ensures kept { self.new.cache ≡ self.old.cache }
-        ensures no_memory { IsErrOf result BenchFault.Memory → ⊥ }
+        ensures never_memory { IsErrOf result BenchFault.Memory → ⊥ }
         ensures not_shelf { IsErrOf result BenchFault.ShelfFailed → ⊥ }
     {
         let _ = self.store.sizes();
@@ -233,11 +235,11 @@ impl Bench {
         self.log.push(change);
     }
 
-    /// Goes back to the newest earlier volume and level. `NothingToUndo` comes exactly where there is none. No memory.
+    /// Goes back to the newest earlier volume and level. `NothingToUndo` comes exactly where there is none. Never `Memory`.
     pub fn undo(&mut self) -> Result<(), BenchFault>
         ensures step { IsSureStep self.old.state self.new.state result (undo_step self.old.state) }
         ensures kept { Keeps self.old self.new result (first_area self.old.state.past) }
-        ensures no_memory { IsErrOf result BenchFault.Memory → ⊥ }
+        ensures never_memory { IsErrOf result BenchFault.Memory → ⊥ }
         ensures not_shelf { IsErrOf result BenchFault.ShelfFailed → ⊥ }
     {
         let Some(change) = self.log.undo() else {
@@ -250,21 +252,21 @@ impl Bench {
         Ok(())
     }
 
-    /// Goes on to the next later volume and level. `NothingToRedo` comes exactly where there is none. No memory.
+    /// Goes on to the next later volume and level. `NothingToRedo` comes exactly where there is none. Never `Memory`.
     pub fn redo(&mut self) -> Result<(), BenchFault>
         ensures step { IsSureStep self.old.state self.new.state result (redo_step self.old.state) }
         ensures kept { Keeps self.old self.new result (first_area self.old.state.future) }
-        ensures no_memory { IsErrOf result BenchFault.Memory → ⊥ }
+        ensures never_memory { IsErrOf result BenchFault.Memory → ⊥ }
         ensures not_shelf { IsErrOf result BenchFault.ShelfFailed → ⊥ }
     {
         let Some(change) = self.log.redo() else {
             return Err(BenchFault::NothingToRedo);
         };
         let area = change.area(&self.store);
-        let value = change.value();
+        let filled = change.value();
         let _ = self.store.sizes();
         change.make(&mut self.store, &mut self.level);
-        follow(&mut self.tree, &mut self.cache, &self.store, area, value);
+        follow(&mut self.tree, &mut self.cache, &self.store, area, filled);
         Ok(())
     }
 
@@ -288,7 +290,7 @@ impl Bench {
     /// Makes the name's file the PLY text of the mesh, which is written as it is made. What waits is refreshed first, in every
     /// case; the state stays. `ShelfFailed` comes only where the shelf's count of faults rose; the file is then as before or a
     /// front of the text, and all other files are as before. The counter rises by at most 2,048 for each brick that waited. No
-    /// memory is taken but what the cache keeps, which is not missed where it cannot be had.
+    /// memory is taken but what the cache keeps, and where that cannot be had the write goes on.
     pub fn write_ply<H: Shelf, L: Ledger>(
         &mut self,
         shelf: &mut H,
@@ -298,7 +300,7 @@ impl Bench {
         ensures refreshed { Refreshes self.old self.new (waiting_bricks self.old) write_steps steps.old steps.new }
         ensures file { WritesFile (H.seen shelf.old) (H.seen shelf.new) result name.now (ply_text self.old.state) (ply_written self.old.state) }
         ensures surface { OnOk result (IsWatertight self.old.state.volume self.old.state.level) }
-        ensures no_memory { IsErrOf result BenchFault.Memory → ⊥ }
+        ensures never_memory { IsErrOf result BenchFault.Memory → ⊥ }
     {
         self.write_as(shelf, name, TwoWayFormat::Ply, steps)
     }
@@ -313,7 +315,7 @@ impl Bench {
         ensures refreshed { Refreshes self.old self.new (waiting_bricks self.old) write_steps steps.old steps.new }
         ensures file { WritesFile (H.seen shelf.old) (H.seen shelf.new) result name.now (obj_text self.old.state) (obj_written self.old.state) }
         ensures surface { OnOk result (IsWatertight self.old.state.volume self.old.state.level) }
-        ensures no_memory { IsErrOf result BenchFault.Memory → ⊥ }
+        ensures never_memory { IsErrOf result BenchFault.Memory → ⊥ }
     {
         self.write_as(shelf, name, TwoWayFormat::Obj, steps)
     }
@@ -328,7 +330,7 @@ impl Bench {
         ensures refreshed { Refreshes self.old self.new (waiting_bricks self.old) write_steps steps.old steps.new }
         ensures file { WritesFile (H.seen shelf.old) (H.seen shelf.new) result name.now (text_of_state format self.old.state) (mesh_written format self.old.state) }
         ensures surface { OnOk result (IsWatertight self.old.state.volume self.old.state.level) }
-        ensures no_memory { IsErrOf result BenchFault.Memory → ⊥ }
+        ensures never_memory { IsErrOf result BenchFault.Memory → ⊥ }
     {
         self.refresh_all(steps);
         self.write_kept(shelf, name, format, steps)
@@ -345,7 +347,7 @@ impl Bench {
         ensures same { self.new ≡ self.old }
         ensures file { WritesFile (H.seen shelf.old) (H.seen shelf.new) result name.now (text_of_state format self.old.state) (mesh_written format self.old.state) }
         ensures surface { IsWatertight self.old.state.volume self.old.state.level }
-        ensures no_memory { IsErrOf result BenchFault.Memory → ⊥ }
+        ensures never_memory { IsErrOf result BenchFault.Memory → ⊥ }
         ensures least { steps.old ≤ steps.new }
         ensures most { steps.new ≤ steps.old + 1536 * length (waiting_bricks self.old) }
     {
@@ -363,7 +365,7 @@ impl Bench {
     pub fn save<H: Shelf>(&self, shelf: &mut H, name: &str) -> Result<u64, BenchFault>
         ensures file { WritesFile (H.seen shelf.old) (H.seen shelf.new) result name.now (raw_save self.now.state) (length (raw_save self.now.state)) }
         ensures read_again { nrrd_of (raw_save self.now.state) ≡ Ok (inner_voxels self.now.state.volume, 0) }
-        ensures no_memory { IsErrOf result BenchFault.Memory → ⊥ }
+        ensures never_memory { IsErrOf result BenchFault.Memory → ⊥ }
     {
         Ok(write_volume(shelf, name, &self.store)?)
     }
@@ -373,7 +375,7 @@ impl Bench {
     pub fn save_text<H: Shelf>(&self, shelf: &mut H, name: &str) -> Result<u64, BenchFault>
         ensures file { WritesFile (H.seen shelf.old) (H.seen shelf.new) result name.now (text_save self.now.state) (length (text_save self.now.state)) }
         ensures read_again { nrrd_of (text_save self.now.state) ≡ Ok (inner_voxels self.now.state.volume, 1) }
-        ensures no_memory { IsErrOf result BenchFault.Memory → ⊥ }
+        ensures never_memory { IsErrOf result BenchFault.Memory → ⊥ }
     {
         Ok(write_text(shelf, name, &self.store)?)
     }
@@ -383,7 +385,7 @@ impl Bench {
     pub fn save_hex<H: Shelf>(&self, shelf: &mut H, name: &str) -> Result<u64, BenchFault>
         ensures file { WritesFile (H.seen shelf.old) (H.seen shelf.new) result name.now (hex_save self.now.state) (length (hex_save self.now.state)) }
         ensures read_again { nrrd_of (hex_save self.now.state) ≡ Ok (inner_voxels self.now.state.volume, 1) }
-        ensures no_memory { IsErrOf result BenchFault.Memory → ⊥ }
+        ensures never_memory { IsErrOf result BenchFault.Memory → ⊥ }
     {
         Ok(write_hex(shelf, name, &self.store)?)
     }

@@ -15,7 +15,7 @@ use crate::lanes::sign_bytes;
 use crate::signs::{PairRows, has_only, is_mixed, pair_rows};
 use arrayvec::ArrayVec;
 use brick_store::{BrickId, BrickStore};
-use case_table::{ambiguous_set, classify, joined_faces_of, row_of};
+use case_table::{ambiguous_set, classify, classify_with, joined_faces_of};
 use iso_base::{Level, Steps};
 use packed_samples::{Packed, PackedRun};
 use std::sync::ledger::Ledger;
@@ -67,8 +67,8 @@ fn case_with<T: Packed, L: Ledger>(
     ensures bound { result < 656 }
     ensures counted { steps.new ≡ steps.old + 1 }
 {
-    steps.tick();
-    row_of(signs, joined_with(block, copies, cell, signs)).number()
+    let joined = joined_with(block, copies, cell, signs);
+    classify_with(signs, joined, steps).number()
 }
 
 /// Puts the entry of a cell with this sign byte behind the others, if the cell has a crossing edge.

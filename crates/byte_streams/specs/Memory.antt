@@ -1,5 +1,6 @@
 -- Sources and sinks in memory.
-use Rattle.std.specs.Prelude.{◌⊎◌, ℕ, ◌+◌, ◌-◌, ◌^◌, ◌<◌, min, List, [], length, take, Option, None, Some, Contains}
+use Rattle.std.specs.Prelude.{◌⊎◌, ℕ, ◌+◌, ◌<◌, List, [], length, take, Option, None, Some, Contains}
+use Rattle.byte_streams.specs.Causes.{one_more}
 use Rattle.byte_streams.specs.Files.{no_files}
 use Rattle.byte_streams.specs.Seen.{Feed, Tape}
 
@@ -21,17 +22,13 @@ pub record KeptBytes : Type 0 where
   pub calls : ℕ
   pub faults : ℕ
 
--- one more, which stops at the end of its type
-abbrev pub one_more : ℕ → ℕ
-one_more n = min (n + 1) (2 ^ 64 - 1)
-
 -- what a write takes of the bytes where there is room for it
 abbrev pub taken_of : Option ℕ → List ℕ → List ℕ
 taken_of None bytes = bytes
 taken_of (Some piece) bytes = take piece bytes
 
 abbrev pub feed_of : FedBytes → Feed
-feed_of m = record { left = Some m.left; faults = m.faults }
+feed_of m = record { left = Some m.left; reads = m.calls; faults = m.faults }
 
 abbrev pub tape_of : KeptBytes → Tape
 tape_of m = record { taken = Some m.taken; faults = m.faults; beside = record { held = []; others = Some ([], no_files) } }

@@ -1,13 +1,14 @@
 -- What is known of a source and of a sink, and what a call does to it.
-use Rattle.std.specs.Prelude.{◌≡◌, ℕ, ◌<◌, List, [], ◌++◌, length, take, Option, None, Result, MatchResult, IfOk, IfSome}
+use Rattle.std.specs.Prelude.{◌≡◌, ℕ, ◌+◌, ◌<◌, ◌≤◌, List, [], ◌++◌, length, take, Option, Some, None, Result, MatchResult, IfOk, IfSome}
 use Rattle.std.specs.Io.KnownBytes.{Appends, Consumes, ReadConsumes, IsAtEnd}
 use Rattle.std.specs.Borrow.{GName}
-use Rattle.byte_streams.specs.Causes.{HasCause}
-use Rattle.byte_streams.specs.Files.{Files}
+use Rattle.byte_streams.specs.Causes.{HasCause, one_more}
+use Rattle.byte_streams.specs.Files.{Files, no_files}
 
--- a source: the bytes still to come, where they are told, and how often it failed
+-- a source: the bytes still to come, where they are told, how often it was read, and how often it failed
 pub record Feed : Type 0 where
   pub left : Option (List ℕ)
+  pub reads : ℕ
   pub faults : ℕ
 
 -- What lies beside the bytes of a sink, and no call changes: the shelf that it writes to, by the name of the loan,
@@ -22,12 +23,17 @@ pub record Tape : Type 0 where
   pub faults : ℕ
   pub beside : Side
 
+-- how often a source that tells nothing of its bytes was read, and how often it failed
+pub record Counts : Type 0 where
+  pub reads : ℕ
+  pub faults : ℕ
+
 -- a source and a sink that tell nothing of their bytes
-abbrev pub untold_feed : ℕ → Feed
-untold_feed faults = record { left = None; faults = faults }
+abbrev pub untold_feed : Counts → Feed
+untold_feed counts = record { left = None; reads = counts.reads; faults = counts.faults }
 
 abbrev pub untold_tape : ℕ → Tape
-untold_tape faults = record { taken = None; faults = faults; beside = record { held = []; others = None } }
+untold_tape faults = record { taken = None; faults = faults; beside = record { held = []; others = Some ([], no_files) } }
 
 -- a front of the text was appended
 abbrev pub AppendsFront : Option (List ℕ) → Option (List ℕ) → List ℕ → Type 0
@@ -36,6 +42,7 @@ AppendsFront old new text = (front : List ℕ) × (back : List ℕ) × (text ≡
 -- one read
 pub record Reads {E : Type 0} (old new : Feed) (result : Result ℕ E) (buffer : List ℕ) : Type 0 where
   pub bytes : ReadConsumes old.left new.left result buffer
+  pub counted : new.reads ≡ one_more old.reads
   pub cause : HasCause old.faults new.faults result
 
 -- one write takes a front of the bytes, and at least one of them where there is one
@@ -51,10 +58,42 @@ pub record Puts {T E : Type 0} (old new : Tape) (result : Result T E) (text : Li
   pub beside : new.beside ≡ old.beside
   pub cause : HasCause old.faults new.faults result
 
--- everything that was left was read, and it is these bytes
+-- the whole text was appended
+pub record PutAll (old new : Tape) (text : List ℕ) : Type 0 where
+  pub gained : Appends old.taken new.taken text
+  pub beside : new.beside ≡ old.beside
+  pub later : old.faults ≤ new.faults
+
+-- These bytes were taken from a source. Each read took at least one of them, but for so many reads that took none.
+pub record Takes (idle : ℕ) (old new : Feed) (bytes : List ℕ) : Type 0 where
+  pub consumed : Consumes old.left new.left bytes
+  pub reads : new.reads ≤ old.reads + length bytes + idle
+
+-- A source was read no further than the limit and one piece of 65,536 bytes, and each read but the last took at least one byte.
+pub record ReadsWithin (limit : ℕ) (old new : Feed) : Type 0 where
+  pub bytes : List ℕ
+  pub takes : Takes 1 old new bytes
+  pub within : length bytes ≤ limit + 65536
+
+-- reading stopped at the first piece that passed the limit, and each read took at least one byte
+pub record ReadsPast (limit : ℕ) (old new : Feed) : Type 0 where
+  pub bytes : List ℕ
+  pub takes : Takes 0 old new bytes
+  pub past : limit < length bytes
+  pub within : length bytes ≤ limit + 65536
+
+-- everything that was left was read, and it is these bytes; each read but the last took at least one of them
 pub record ReadsAll (old new : Feed) (bytes : List ℕ) : Type 0 where
   pub whole : IfSome old.left (λ all. bytes ≡ all)
   pub end : IsAtEnd new.left
+  pub takes : Takes 1 old new bytes
+
+-- one read took no more than so many bytes
+pub record ReadsOnce (most : ℕ) (old new : Feed) : Type 0 where
+  pub piece : List ℕ
+  pub taken : Consumes old.left new.left piece
+  pub few : length piece ≤ most
+  pub once : new.reads ≤ old.reads + 1
 
 -- a piece of n bytes was read and appended to the bytes; there was none only at the end
 pub record TakesPiece (old new : Feed) (before after : List ℕ) (n : ℕ) : Type 0 where
@@ -62,6 +101,7 @@ pub record TakesPiece (old new : Feed) (before after : List ℕ) (n : ℕ) : Typ
   pub parts : after ≡ before ++ piece
   pub count : length piece ≡ n
   pub taken : Consumes old.left new.left piece
+  pub once : new.reads ≤ old.reads + 1
   pub end : n ≡ 0 → IsAtEnd new.left
 
 -- A text was put behind what waits in a buffer. What was written is a front of both, and the rest waits.

@@ -94,7 +94,8 @@ impl Sink for MemSink {
     ghost use Rattle.std.specs.Prelude.{◌≡◌, ◌+◌, ◌<◌, ◌≤◌, ◌↔◌, ◌⊎◌, length, IsErr, IfOk, OnErr, Contains, if◌then◌else◌, is_err};
     ghost use Rattle.std.specs.Io.{WritesAtMost};
     ghost use Rattle.byte_streams.specs.Seen.{Writes};
-    ghost use Rattle.byte_streams.specs.Memory.{tape_of, taken_of, one_more, RefusesWrite};
+    ghost use Rattle.byte_streams.specs.Causes.{one_more};
+    ghost use Rattle.byte_streams.specs.Memory.{tape_of, taken_of, RefusesWrite};
 
     ghost seen = { tape_of };
 

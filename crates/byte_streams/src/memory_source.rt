@@ -63,7 +63,8 @@ impl Source for MemSource {
     ghost use Rattle.std.specs.Prelude.{◌≡◌, ◌<◌, ◌≤◌, ◌↔◌, length, IsErr, IfOk, Contains, if◌then◌else◌, is_err};
     ghost use Rattle.std.specs.Io.{ReadsAtMost};
     ghost use Rattle.byte_streams.specs.Seen.{Reads};
-    ghost use Rattle.byte_streams.specs.Memory.{feed_of, one_more};
+    ghost use Rattle.byte_streams.specs.Causes.{one_more};
+    ghost use Rattle.byte_streams.specs.Memory.{feed_of};
 
     ghost seen = { feed_of };
 

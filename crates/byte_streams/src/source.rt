@@ -1,13 +1,14 @@
-ghost use Rattle.std.specs.Prelude.{◌≡◌, ◌<◌, ◌≤◌, length, IfOk, IfSome, IsErrOf, vec_len};
+ghost use Rattle.std.specs.Prelude.{◌≡◌, ◌<◌, ◌≤◌, length, IfOk, IfSome, IsErrOf, OnErr, vec_len};
 ghost use Rattle.std.specs.Io.{ReadsAtMost};
 ghost use Rattle.byte_streams.specs.Causes.{Rose};
-ghost use Rattle.byte_streams.specs.Seen.{Feed, Reads, ReadsAll, TakesPiece};
+ghost use Rattle.byte_streams.specs.Seen.{Feed, Reads, ReadsAll, ReadsOnce, ReadsPast, ReadsWithin, TakesPiece};
 
 use crate::Failed;
 use std::alloc::{AllocError, Global};
 use thiserror::Error;
 
-/// Where bytes come from. It is seen as the bytes still to come, where they are told, and a count of faults.
+/// Where bytes come from. It is seen as the bytes still to come, where they are told, and two counts: of its reads, which
+/// each read raises by one, and of faults. A count stops at the end of its type.
 pub trait Source {
     ghost seen: { Self → Feed };
 
@@ -62,6 +63,8 @@ fn read_piece<S: Source>(
 ) -> Result<usize, ReadFault>
     requires { 0 < length chunk.old }
     ensures piece { IfOk result (TakesPiece (S.seen source.old) (S.seen source.new) bytes.old.items bytes.new.items) }
+    ensures few { IfOk result (λ count. count ≤ length chunk.old) }
+    ensures stopped { OnErr result (ReadsOnce (length chunk.old) (S.seen source.old) (S.seen source.new)) }
     ensures not_long { IsErrOf result ReadFault.TooLong → ⊥ }
     ensures failed { IsErrOf result ReadFault.Failed → Rose (S.seen source.old).faults (S.seen source.new).faults }
     ensures later { (S.seen source.old).faults ≤ (S.seen source.new).faults }
@@ -82,9 +85,12 @@ fn read_by<S: Source>(
     limit: u64,
     chunk: &mut [u8],
 ) -> Result<Vec<u8>, ReadFault>
-    requires { 0 < length chunk.old }
+    requires some { 0 < length chunk.old }
+    requires few { length chunk.old ≤ 65536 }
     ensures all { IfOk result (λ v. ReadsAll (S.seen source.old) (S.seen source.new) v.items) }
     ensures within { IfOk result (λ v. length v.items ≤ limit) }
+    ensures reading { ReadsWithin limit (S.seen source.old) (S.seen source.new) }
+    ensures past { IsErrOf result ReadFault.TooLong → ReadsPast limit (S.seen source.old) (S.seen source.new) }
     ensures too_long { IsErrOf result ReadFault.TooLong → IfSome (S.seen source.old).left (λ all. limit < length all) }
     ensures failed { IsErrOf result ReadFault.Failed → Rose (S.seen source.old).faults (S.seen source.new).faults }
     ensures later { (S.seen source.old).faults ≤ (S.seen source.new).faults }
@@ -99,8 +105,9 @@ fn read_by<S: Source>(
 }
 
 /// Reads all that is left of a source, in pieces of at most 64 KiB, if that is no more than `limit` bytes. `TooLong`
-/// comes only where there are more, and at most one piece past the limit was then read. `Failed` comes only where the
-/// source's count of faults rose.
+/// comes only where there are more, and reading stops at the first piece that passes the limit. `Failed` comes only where
+/// the source's count of faults rose. Each read but the last takes at least one byte: none follows one that failed, or the
+/// end.
 pub fn read_all_of<S: Source>(
     alloc: Global,
     source: &mut S,
@@ -108,6 +115,8 @@ pub fn read_all_of<S: Source>(
 ) -> Result<Vec<u8>, ReadFault>
     ensures all { IfOk result (λ v. ReadsAll (S.seen source.old) (S.seen source.new) v.items) }
     ensures within { IfOk result (λ v. length v.items ≤ limit) }
+    ensures reading { ReadsWithin limit (S.seen source.old) (S.seen source.new) }
+    ensures past { IsErrOf result ReadFault.TooLong → ReadsPast limit (S.seen source.old) (S.seen source.new) }
     ensures too_long { IsErrOf result ReadFault.TooLong → IfSome (S.seen source.old).left (λ all. limit < length all) }
     ensures failed { IsErrOf result ReadFault.Failed → Rose (S.seen source.old).faults (S.seen source.new).faults }
     ensures later { (S.seen source.old).faults ≤ (S.seen source.new).faults }

@@ -32,8 +32,9 @@ fn write_waiting<K: Sink>(sink: &mut K, waiting: &mut Vec<u8>, bytes: &[u8]) -> 
 }
 
 /// Puts bytes behind those that wait in a buffer, and first writes those where they are a block or more. The caller
-/// writes what waits at the end. Give the buffer the room of a block and a line, and no call takes memory; where
-/// memory is wanted, bytes are written at once. After `Failed` the sink has taken a front of what waited and the bytes.
+/// writes what waits at the end. Give the buffer the room of a block and of the most bytes that are put at a time, and no call
+/// takes memory; where memory is wanted, bytes are written at once. After `Failed` the sink has taken a front of what waited
+/// and the bytes.
 #[inline]
 pub fn stage<K: Sink>(sink: &mut K, waiting: &mut Vec<u8>, bytes: &[u8]) -> Result<(), Failed>
     ensures { Stages (K.seen sink.old) (K.seen sink.new) waiting.old.items waiting.new.items result bytes.now }

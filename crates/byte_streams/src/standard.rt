@@ -1,6 +1,6 @@
 ghost use Rattle.std.specs.Prelude.{◌≡◌, ◌<◌, None, [], length, is_err, if◌then◌else◌};
 ghost use Rattle.std.specs.Io.{ReadsAtMost, WritesAtMost};
-ghost use Rattle.byte_streams.specs.Memory.{one_more};
+ghost use Rattle.byte_streams.specs.Causes.{one_more};
 ghost use Rattle.byte_streams.specs.Seen.{Reads, Writes, untold_feed, untold_tape};
 
 use crate::Failed;
@@ -9,28 +9,33 @@ use crate::source::Source;
 use std::io::{Read, Write};
 use std::marker::Model;
 
-/// A reader of std, as standard input or a file. It tells nothing of its bytes, and is seen as a count, which rises at
-/// each read that fails and at no other.
+/// A reader of std, as standard input or a file. It tells nothing of its bytes, and is seen as two counts: of its reads,
+/// and of faults, which rises at each read that fails and at no other.
 #[derive(Drop)]
 pub struct StdSource<R: Read> {
     reader: R,
+    reads: u64,
     faults: u64,
 }
 
 impl<R: Read> Model for StdSource<R> {
-    ghost use Rattle.std.specs.Prelude.{ℕ};
+    ghost use Rattle.byte_streams.specs.Seen.{Counts};
 
-    ghost Value = { ℕ };
+    ghost Value = { Counts };
 
-    ghost view = { λ s. s.faults };
+    ghost view = { λ s. record { reads = s.reads; faults = s.faults } };
 }
 
 impl<R: Read> StdSource<R> {
     /// The source of what this reader gives.
     pub fn new(reader: R) -> StdSource<R>
-        ensures { result ≡ 0 }
+        ensures { result ≡ record { reads = 0; faults = 0 } }
     {
-        StdSource { reader, faults: 0 }
+        StdSource {
+            reader,
+            reads: 0,
+            faults: 0,
+        }
     }
 }
 
@@ -41,8 +46,9 @@ impl<R: Read> Source for StdSource<R> {
         requires { 0 < length into.old }
         ensures bound { ReadsAtMost result into.new }
         ensures reads { Reads (untold_feed self.old) (untold_feed self.new) result into.new }
-        ensures faults { self.new ≡ (if is_err result then one_more self.old else self.old) }
+        ensures faults { self.new.faults ≡ (if is_err result then one_more self.old.faults else self.old.faults) }
     {
+        self.reads = self.reads.saturating_add(1);
         match self.reader.read(into) {
             Ok(count) => Ok(count),
             Err(_) => {

@@ -129,6 +129,18 @@ pub fn row_of(signs: u8, joined: u8) -> CaseRow
     CaseRow(first_of(signs) + u16::from(pack(ambiguous_set(signs), joined)))
 }
 
+/// The case of a cell whose sign byte and joined faces are known, which is counted as classified: it raises the counter by one.
+/// This is the one place where that happens.
+pub fn classify_with<L: Ledger>(signs: u8, joined: u8, steps: &mut Steps<L>) -> CaseRow
+    requires { IsTrue (are_ambiguous (bits_of 8 signs) (bits_of 8 joined)) }
+    ensures case { case_at result ≡ (bits_of 8 signs, bits_of 6 joined) }
+    ensures number { result ≡ case_number (bits_of 8 signs) (bits_of 6 joined) }
+    ensures counted { steps.new ≡ steps.old + 1 }
+{
+    steps.tick();
+    row_of(signs, joined)
+}
+
 /// The case of a cell, from the shifted values of its corners. It raises the counter by one.
 pub fn classify<L: Ledger>(values: &[i64; 8], steps: &mut Steps<L>) -> CaseRow
     requires { All (λ v. unsigned_abs v < 2 ^ 44) values.now }
@@ -136,9 +148,8 @@ pub fn classify<L: Ledger>(values: &[i64; 8], steps: &mut Steps<L>) -> CaseRow
     ensures number { result ≡ case_number (signs_of values.now) (joined_of values.now) }
     ensures counted { steps.new ≡ steps.old + 1 }
 {
-    steps.tick();
     let signs = sign_byte(values);
-    row_of(signs, joined_among(values, ambiguous_set(signs)))
+    classify_with(signs, joined_among(values, ambiguous_set(signs)), steps)
 }
 
 /// Where the segment ends that begins at each cell edge, or 15 where none begins.

@@ -8,5 +8,5 @@ mod case;
 mod faces;
 mod rows;
 
-pub use case::{CaseRow, classify, row_of, successors};
+pub use case::{CaseRow, classify, classify_with, row_of, successors};
 pub use faces::{ambiguous_set, joined_faces, joined_faces_of};

@@ -11,11 +11,12 @@ use Rattle.iso_base.specs.Samples.{IsSample}
 use Rattle.iso_base.specs.Shifted.{level_limit}
 use Rattle.iso_base.specs.Sizing.{sized}
 use Rattle.iso_base.specs.declared.sizes.SizeFault.{SizeFault}
+use Rattle.program_words.specs.Questions.{asks_help, asks_version}
 use Rattle.command_words.specs.Options.{only_options, plain_words, values}
 use Rattle.mesh_text.specs.declared.format.TwoWayFormat.{TwoWayFormat}
 use Rattle.mesh_text.specs.declared.format.TwoWayFormat.TheVariants.{Ply, Obj}
 use Rattle.command_words.specs.declared.request.Request.{Request}
-use Rattle.command_words.specs.declared.request.Request.TheVariants.{Points, Extract, Session, Check, Gen, Soak}
+use Rattle.command_words.specs.declared.request.Request.TheVariants.{Points, Extract, Session, Check, Gen, Soak, Help, Version}
 
 -- ---- values
 
@@ -177,10 +178,14 @@ gen_of words = if only_options [] words then gen_by words else None
 unfoldable pub soak_of : List (List ℕ) → Option Request
 soak_of words = if only_options [] words then option_map Soak (the_only whole_of (plain_words words)) else None
 
--- the request of a whole command line, by its first word
-unfoldable pub request_of : List (List ℕ) → Option Request
-request_of [] = None
-request_of (command ∷ words) =
+-- the commands
+abbrev pub commands : List (List ℕ)
+commands = codes "points" ∷ codes "extract" ∷ codes "session" ∷ codes "check" ∷ codes "gen" ∷ codes "soak" ∷ []
+
+-- what a command asks for, by the words that follow
+unfoldable pub command_of : List (List ℕ) → Option Request
+command_of [] = None
+command_of (command ∷ words) =
     if bytes_eq command (codes "points") then points_of words else
     if bytes_eq command (codes "extract") then extract_of words else
     if bytes_eq command (codes "session") then session_of words else
@@ -188,6 +193,10 @@ request_of (command ∷ words) =
     if bytes_eq command (codes "gen") then gen_of words else
     if bytes_eq command (codes "soak") then soak_of words else
     None
+
+-- The request of a whole command line: `--help` alone or behind a command, `--version` alone, or a command with what it wants.
+unfoldable pub request_of : List (List ℕ) → Option Request
+request_of words = if asks_help commands words then Some Help else if asks_version words then Some Version else command_of words
 
 -- a pad that is asked for lies in the range of a sample
 abbrev pub HasSamplePad : Request → Type 0

@@ -1,9 +1,12 @@
-//! The words of a command line: a command, its options in any order, and its plain words. No call takes memory.
+//! The words of a command line: a command, its options in any order, and its plain words; and what the program tells who
+//! asks for help or for its version. No call takes memory.
 #![tactic(auto)]
 
+mod help;
 mod options;
 mod read;
 mod request;
 
+pub use help::{help_text, version_text};
 pub use read::read_words;
 pub use request::Request;

@@ -4,14 +4,17 @@ ghost use Rattle.std.specs.Prelude.{◌≡◌, ◌≤◌, map, string_bytes, IfS
 ghost use Rattle.iso_base.specs.Samples.{IsSample};
 ghost use Rattle.command_words.specs.Words.{level_value, pad_value, format_value, count_value, sizes_value};
 ghost use Rattle.command_words.specs.Words.{level_in, pad_in, format_in, bricks_in, pages_in, sizes_in};
-ghost use Rattle.command_words.specs.Words.{points_of, extract_of, session_of, check_of, gen_of, soak_of, request_of, HasSamplePad, HasCapacity};
+ghost use Rattle.command_words.specs.Words.{points_of, extract_of, session_of, check_of, gen_of, soak_of, command_of, request_of, HasSamplePad, HasCapacity};
 
 use crate::options::{Found, only_options, plain_word, value_of};
 use crate::request::Request;
 use iso_base::{Level, Sizes};
 use mesh_text::TwoWayFormat;
+use program_words::{asks_help, asks_version};
 use script::{FileName, count};
 use text_lines::{level_number, number, whole};
+
+const COMMANDS: [&[u8]; 6] = [b"points", b"extract", b"session", b"check", b"gen", b"soak"];
 
 const LEVEL: &[u8] = b"--level=";
 
@@ -256,12 +259,10 @@ fn soak(words: &[String]) -> Option<Request>
     Some(Request::Soak { seed })
 }
 
-/// What the words ask for; none exactly where they are no command line. The first word is the command. A later word that
-/// begins with `-` is an option `--name=value`, in any order, each at most once; all others are plain words.
-/// The words do not hold the program's name.
-#[tactic(auto, unfolding(crate::specs::Words::request_of))]
-pub fn read_words(words: &[String]) -> Option<Request>
-    ensures value { result ≡ request_of (map string_bytes words.now) }
+/// What a command and the words behind it ask for, where they are no question about the program.
+#[tactic(auto, unfolding(crate::specs::Words::command_of))]
+fn read_command(words: &[String]) -> Option<Request>
+    ensures value { result ≡ command_of (map string_bytes words.now) }
     ensures pads { IfSome result HasSamplePad }
     ensures capacity { IfSome result HasCapacity }
 {
@@ -281,5 +282,23 @@ pub fn read_words(words: &[String]) -> Option<Request>
         soak(words)
     } else {
         None
+    }
+}
+
+/// What the words ask for; none exactly where they are no command line. `--help`, alone or behind a command, asks for help,
+/// and `--version` alone for the version. Else the first word is the command. A later word that begins with `-` is an option
+/// `--name=value`, in any order, each at most once; all others are plain words. The words do not hold the program's name.
+#[tactic(auto, unfolding(crate::specs::Words::request_of))]
+pub fn read_words(words: &[String]) -> Option<Request>
+    ensures value { result ≡ request_of (map string_bytes words.now) }
+    ensures pads { IfSome result HasSamplePad }
+    ensures capacity { IfSome result HasCapacity }
+{
+    if asks_help(words, &COMMANDS) {
+        Some(Request::Help)
+    } else if asks_version(words) {
+        Some(Request::Version)
+    } else {
+        read_command(words)
     }
 }

@@ -37,4 +37,8 @@ pub enum Request {
     Soak {
         seed: u64,
     },
+    /// What the program can do.
+    Help,
+    /// Its version.
+    Version,
 }

@@ -22,15 +22,17 @@ use Rattle.commands.specs.Outcome.{Call, Rejects}
 use Rattle.commands.specs.Serving.{CanServe, IsCarriedOut, Serves, asked_for}
 use Rattle.commands.specs.Sessions.{Asked, RunsSession, StaysShut, answer_of}
 use Rattle.point_command.specs.Volumes.{volume_limit, volume_of}
+use Rattle.command_words.specs.Help.{help_text, version_text}
 use Rattle.command_words.specs.declared.request.Request.{Request}
 use Rattle.command_words.specs.declared.request.Request.TheVariants as requests
 use Rattle.mesh_text.specs.declared.format.TwoWayFormat.{TwoWayFormat}
 use Rattle.endings.specs.declared.answer.Answer.{Answer}
 use Rattle.endings.specs.declared.answer.Answer.TheVariants as answers
 use Rattle.endings.specs.declared.answer.Status.TheVariants as statuses
-use Rattle.point_command.proofs.Converted.{converted, not_both, not_long}
+use Rattle.point_command.proofs.Converted.{converted, not_both, not_long, told}
 use Rattle.point_command.proofs.Told.{at_told, if_told}
 use Rattle.commands.proofs.Soaks.{soaked_whole}
+use Rattle.commands.proofs.Sure.{sure_replies, sure_soak}
 
 abbrev IsCheckedOrMemory : Answer → Type 0
 IsCheckedOrMemory a = (status_of a ≡ statuses.Done) ⊎ (status_of a ≡ statuses.MeshRefused) ⊎ (status_of a ≡ statuses.Memory)
@@ -43,7 +45,7 @@ checked format s answers.BadWords bytes m h told within gives reads writes = abs
 checked format s (answers.BadVolume fault) bytes m h told within gives reads writes = absurd h
 checked format s answers.InputFault bytes m h told within gives reads writes = absurd (reads h.0)
 checked format s answers.InputTooLong bytes m h told within gives reads writes = absurd (not_long mesh_limit bytes within (at_told (λ all. mesh_limit < length all) s.input.left bytes told h.0))
-checked format s answers.OutputFault bytes m h told within gives reads writes = absurd (writes h.3.cause)
+checked format s answers.OutputFault bytes m h told within gives reads writes = absurd (writes h.2.cause)
 checked format s answers.Memory bytes m h told within gives reads writes = inr (inr refl)
 checked format s answers.ShelfFault bytes m h told within gives reads writes = absurd h
 checked format s (answers.BadMesh fault) bytes m h told within gives reads writes = absurd (not_both (mesh_in format bytes) m fault gives (at_told (λ all. mesh_in format all ≡ Err fault) s.input.left bytes told h.1))
@@ -118,9 +120,14 @@ served : (request : Request) (call : Call) (a : Answer) → Serves request call 
     → (Rose call.streams.input.faults call.streams.input_after.faults → ⊥) → (Rose call.streams.output.faults call.streams.output_after.faults → ⊥) → IsCarriedOut request call (status_of a)
 served (requests.Points level) call a h can reads writes = converted (points_given level) call.streams a can.0 can.1 h.0 can.2.told can.2.within can.3 reads writes
 served (requests.Extract level pad format) call a h can reads writes = converted (mesh_given level pad format) call.streams a can.0 can.1 h.0 can.2.told can.2.within can.3 reads writes
-served (requests.Session level pad name bricks pages) call a h can reads writes = sessions (asked_for level pad name bricks pages) call a can.0 can.1 can.2 can.3 h can.4.told can.4.within can.5 can.6 can.7 can.8 reads writes
+served (requests.Session level pad name bricks pages) call a h can reads writes = (
+  sessions (asked_for level pad name bricks pages) call a can.0 can.1 can.2 can.3 h can.4.told can.4.within can.5 can.6 can.7 can.8 reads writes,
+  sure_replies (asked_for level pad name bricks pages) call a h,
+)
 served (requests.Gen seed sizes) call a h can reads writes = generates seed sizes call.streams a h.0.0 writes
-served (requests.Soak seed) call a h can reads writes = soaked_whole seed call a h writes
+served (requests.Soak seed) call a h can reads writes = (soaked_whole seed call a h writes, sure_soak seed call a h)
+served requests.Help call a h can reads writes = told help_text call.streams a h.0 writes
+served requests.Version call a h can reads writes = told version_text call.streams a h.0 writes
 served (requests.Check format) call a h can reads writes = checked format call.streams a can.0 can.1 h.0 can.2.told can.2.within can.3 reads writes
 
 same_request : (a b : Request) → Some a ≡ Some b → a ≡ b

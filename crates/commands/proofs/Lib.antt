@@ -3,12 +3,14 @@ pub mod Texts
 pub mod Generated
 pub mod Few
 pub mod Openings
-pub mod Completing
 pub mod Reasons
 pub mod SessionMeshes
 pub mod Economy
+pub mod Sure
+pub mod Completing
 pub mod Wanting
 pub mod Soaked
 pub mod SoakKinds
+pub mod Meshes
 pub mod Soaks
 pub mod Written

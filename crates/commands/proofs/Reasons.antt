@@ -1,5 +1,5 @@
 -- The cause of each status, from the outcome.
-use Rattle.std.proofs.Common.{◌≡◌, ℕ, ◌<◌, ◌≤◌, List, length, Some, None, MatchOption, IfSome, refl, sym, ap, ◌∙◌, subst, inl, inr, ℤ}
+use Rattle.std.proofs.Common.{◌≡◌, ℕ, ◌<◌, ◌≤◌, List, length, true, Some, None, MatchOption, IfSome, refl, sym, ap, ◌∙◌, subst, inl, inr, ℤ}
 use Rattle.std.specs.Prelude.{Option}
 use Rattle.byte_streams.specs.Files.{Files}
 use Rattle.iso_io.specs.Shelves.{content}
@@ -8,6 +8,7 @@ use Rattle.std.specs.FinMap.{get}
 use Rattle.session.specs.declared.ending.Ending.TheVariants as endings
 use Rattle.session.specs.declared.ending.Ending.{Ending}
 use Rattle.session.specs.Sessions.{Course, EndsAfter, script_limit}
+use Rattle.iso_base.specs.declared.verdict.Verdict.{Verdict}
 use Rattle.mesh_text.specs.declared.format.TwoWayFormat.{TwoWayFormat}
 use Rattle.command_words.specs.declared.request.Request.{Request}
 use Rattle.command_words.specs.declared.request.Request.TheVariants as requests
@@ -19,7 +20,8 @@ use Rattle.endings.specs.declared.answer.Answer.TheVariants as answers
 use Rattle.endings.specs.declared.answer.Status.{Status}
 use Rattle.endings.specs.declared.answer.Status.TheVariants as statuses
 use Rattle.commands.specs.Causes.{Asks, HasBadMesh, HasBadVolume, HasBrokenMesh, HasNoFile, HasTooMany}
-use Rattle.commands.specs.Headline.{HoldsWatertight}
+use Rattle.commands.specs.Checks.{HasVerdict, is_broken}
+use Rattle.commands.specs.Headline.{WritesWatertight}
 use Rattle.commands.specs.Outcome.{Call, Rejects}
 use Rattle.commands.specs.Serving.{Serves}
 use Rattle.commands.specs.Sessions.{answer_of}
@@ -27,7 +29,7 @@ use Rattle.point_command.specs.Volumes.{volume_limit}
 use Rattle.commands.proofs.Soaks.{not_soaked}
 use Rattle.point_command.proofs.Converted.{if_refused}
 use Rattle.point_command.proofs.Statuses.{is_bad_mesh, is_bad_volume, is_done, is_mesh_refused, is_shelf_fault, is_too_long}
-use Rattle.point_command.proofs.Told.{if_told}
+use Rattle.point_command.proofs.Told.{if_told, of_whole}
 
 -- what is asked for, and how it was served
 pub asked_and_served : (o : Option Request) (call : Call) (a : Answer) (P : Request → Call → Type 0) → MatchOption o (Rejects call a) (λ r. Serves r call a)
@@ -59,6 +61,8 @@ served_bad_volume (requests.Session level pad name bricks pages) call f (inr h) 
 served_bad_volume (requests.Check format) call f h = absurd h.0
 served_bad_volume (requests.Gen seed sizes) call f h = absurd h.0.0
 served_bad_volume (requests.Soak seed) call f h = not_soaked seed call (answers.BadVolume f) tt h
+served_bad_volume requests.Help call f h = absurd h.0.0
+served_bad_volume requests.Version call f h = absurd h.0.0
 
 pub why_bad_volume : (r : Request) (call : Call) (a : Answer) → status_of a ≡ statuses.BadVolume → Serves r call a → HasBadVolume r call
 why_bad_volume r call a e h = let w = is_bad_volume a e in served_bad_volume r call w.0 (as_answer r call a (answers.BadVolume w.0) h w.1)
@@ -71,6 +75,8 @@ served_bad_mesh (requests.Session level pad name bricks pages) call f (inr h) = 
 served_bad_mesh (requests.Check format) call f h = if_told _ _ call.streams.input.left (λ bytes e. (f, e)) h.0.1
 served_bad_mesh (requests.Gen seed sizes) call f h = absurd h.0.0
 served_bad_mesh (requests.Soak seed) call f h = not_soaked seed call (answers.BadMesh f) tt h
+served_bad_mesh requests.Help call f h = absurd h.0.0
+served_bad_mesh requests.Version call f h = absurd h.0.0
 
 pub why_bad_mesh : (r : Request) (call : Call) (a : Answer) → status_of a ≡ statuses.BadMesh → Serves r call a → HasBadMesh r call
 why_bad_mesh r call a e h = let w = is_bad_mesh a e in served_bad_mesh r call w.0 (as_answer r call a (answers.BadMesh w.0) h w.1)
@@ -80,9 +86,12 @@ served_mesh_refused (requests.Points level) call h = absurd h.0
 served_mesh_refused (requests.Extract level pad format) call h = absurd h.0
 served_mesh_refused (requests.Session level pad name bricks pages) call (inl h) = absurd h.cause
 served_mesh_refused (requests.Session level pad name bricks pages) call (inr h) = absurd (ends_not answers.MeshRefused h.ending h.answer_is (λ e. absurd cc) (λ e. absurd cc) (λ e. absurd cc) (λ e. absurd cc))
-served_mesh_refused (requests.Check format) call h = if_told _ _ call.streams.input.left (λ bytes v. (h.0.0, h.0.1, v)) h.0.3
+served_mesh_refused (requests.Check format) call h =
+    of_whole (λ bytes. (v : Verdict) × (is_broken v ≡ true) × HasVerdict format v bytes) call.streams.input.left h.0.2.bytes h.0.2.read.all.whole (h.0.0, h.0.1, h.0.2.verdict)
 served_mesh_refused (requests.Gen seed sizes) call h = absurd h.0.0
 served_mesh_refused (requests.Soak seed) call h = not_soaked seed call answers.MeshRefused tt h
+served_mesh_refused requests.Help call h = absurd h.0.0
+served_mesh_refused requests.Version call h = absurd h.0.0
 
 pub why_mesh_refused : (r : Request) (call : Call) (a : Answer) → status_of a ≡ statuses.MeshRefused → Serves r call a → HasBrokenMesh r call
 why_mesh_refused r call a e h = served_mesh_refused r call (as_answer r call a answers.MeshRefused h (is_mesh_refused a e))
@@ -107,6 +116,8 @@ served_too_long (requests.Session level pad name bricks pages) call (inr h) = su
 served_too_long (requests.Check format) call h = h.0.0
 served_too_long (requests.Gen seed sizes) call h = absurd h.0.0
 served_too_long (requests.Soak seed) call h = not_soaked seed call answers.InputTooLong tt h
+served_too_long requests.Help call h = absurd h.0.0
+served_too_long requests.Version call h = absurd h.0.0
 
 pub why_too_long : (r : Request) (call : Call) (a : Answer) → status_of a ≡ statuses.InputTooLong → Serves r call a → HasTooMany r call
 why_too_long r call a e h = served_too_long r call (as_answer r call a answers.InputTooLong h (is_too_long a e))
@@ -119,6 +130,8 @@ served_shelf_fault (requests.Session level pad name bricks pages) call (inr h) =
 served_shelf_fault (requests.Check format) call h = absurd h.0
 served_shelf_fault (requests.Gen seed sizes) call h = absurd h.0.0
 served_shelf_fault (requests.Soak seed) call h = not_soaked seed call answers.ShelfFault tt h
+served_shelf_fault requests.Help call h = absurd h.0.0
+served_shelf_fault requests.Version call h = absurd h.0.0
 
 pub why_shelf_fault : (r : Request) (call : Call) (a : Answer) → status_of a ≡ statuses.ShelfFault → Serves r call a → HasNoFile r call
 why_shelf_fault r call a e h = served_shelf_fault r call (as_answer r call a answers.ShelfFault h (is_shelf_fault a e))
@@ -128,13 +141,14 @@ pub not_rejected : (call : Call) (a : Answer) (s : Status) → status_of a ≡ s
 not_rejected call a s e other h = other (sym (ap status_of h.answer_is) ∙ e)
 
 -- the headline, for an extraction
-shown : (r : Request) (call : Call) (a : Answer) (level : ℤ) (pad : Option ℤ) (format : TwoWayFormat) → r ≡ requests.Extract level pad format → a ≡ answers.Done → Serves r call a → HoldsWatertight level pad call.streams.input
+shown : (r : Request) (call : Call) (a : Answer) (level : ℤ) (pad : Option ℤ) (format : TwoWayFormat) → r ≡ requests.Extract level pad format → a ≡ answers.Done → Serves r call a
+    → WritesWatertight level pad format call.streams
 shown r call a level pad format e d h = (subst (λ (q : Request). Serves q call a) e h).2 d
 
 pub same_request : (a b : Request) → Some a ≡ Some b → a ≡ b
 same_request a b e = cc
 
 pub headline : (o : Option Request) (call : Call) (a : Answer) (level : ℤ) (pad : Option ℤ) (format : TwoWayFormat) → MatchOption o (Rejects call a) (λ r. Serves r call a)
-    → o ≡ Some (requests.Extract level pad format) → status_of a ≡ statuses.Done → HoldsWatertight level pad call.streams.input
+    → o ≡ Some (requests.Extract level pad format) → status_of a ≡ statuses.Done → WritesWatertight level pad format call.streams
 headline None call a level pad format h asked done = absurd cc
 headline (Some r) call a level pad format h asked done = shown r call a level pad format (same_request r (requests.Extract level pad format) asked) (is_done a done) h

@@ -14,10 +14,10 @@ use Rattle.script.specs.declared.command.Command.{Command}
 use Rattle.session.specs.Following.{LineTurn}
 use Rattle.session.specs.Kept.{Kept, KeptLine, Scene}
 use Rattle.session.specs.Lines.{Saying}
-use Rattle.session.specs.Loop.{TakesTurn}
-use Rattle.session.specs.Worlds.{CountsBy, World, replies_text, scene_of, shelf_errors}
+use Rattle.session.specs.Worlds.{CountsBy, TakesTurn, World, replies_text, scene_of, shelf_errors}
 use Rattle.session.proofs.Running.{replies_text-append, kept_both, line_no_error}
-use Rattle.commands.specs.Soaking.{HasNoWant, RanQuietly, Shows, SoakBreaks, Soaks, SoaksLine, is_ply, is_want, may_want, shown, shown_by}
+use Rattle.commands.specs.SoakLoop.{Shows, SoaksLine, may_want}
+use Rattle.commands.specs.Soaking.{HasNoWant, RanQuietly, SoakBreaks, Soaks, is_ply, is_want, shown, shown_by}
 use Rattle.commands.specs.declared.soak.Pace.{Pace}
 use Rattle.commands.specs.declared.soak.Pace.TheVariants.{On, Wanting, Fault}
 use Rattle.commands.proofs.Wanting.{kept_still, line_fault_no_want, same_scene, still_by}

@@ -1,17 +1,20 @@
 -- How a soak ends, and what it leaves.
-use Rattle.std.proofs.Common.{◌≡◌, ◌⊎◌, ℕ, List, [], ◌∷◌, ◌++◌, Some, MatchOption, refl, sym, ap, subst, inl, inr}
+use Rattle.std.proofs.Common.{◌≡◌, ◌⊎◌, ℕ, List, [], ◌∷◌, ◌++◌, Some, IfSome, MatchOption, refl, sym, ap, subst, inl, inr}
 use Rattle.std.specs.Prelude.{Option}
+use Rattle.std.proofs.lemmas.List.{append-nil}
 use Rattle.byte_streams.specs.Causes.{Rose}
 use Rattle.bench_core.specs.Keeping.{Workbench, first_bench}
+use Rattle.bench_core.specs.Machine.{IsState}
 use Rattle.volume_gen.specs.Soak.{soak_lines}
 use Rattle.session.specs.Worlds.{World, world}
 use Rattle.commands.specs.Outcome.{Call}
 use Rattle.commands.specs.Sessions.{world_after}
-use Rattle.commands.specs.Soaking.{DoesSoak, RunsLines, SoakLeaves, SoakLedTo, soak_level, soak_limits, soak_volume, soak_world}
+use Rattle.commands.specs.Soaking.{DoesSoak, HoldsSoakMeshes, RunsLines, SoakLeaves, SoakLedTo, SoakMeshes, soak_level, soak_limits, soak_volume, soak_world}
 use Rattle.endings.specs.Status.{status_of}
 use Rattle.endings.specs.declared.answer.Answer.{Answer}
 use Rattle.endings.specs.declared.answer.Answer.TheVariants as answers
 use Rattle.endings.specs.declared.answer.Status.TheVariants as statuses
+use Rattle.commands.proofs.Meshes.{mesh_turns}
 
 -- an answer that a soak does not give
 abbrev pub IsForeign : Answer → Type 0
@@ -50,24 +53,35 @@ soaked_whole seed call a (same, inr h) writes = runs_whole (soak_lines seed) (so
 
 -- ---- the bench that is left
 
-led_to : (seed : ℕ) (call : Call) (last : Workbench) (a : Answer) → RunsLines (soak_lines seed) (soak_world seed call) (world_after call last) a → SoakLedTo seed call last
-led_to seed call last answers.Done h = (soak_lines seed, h.replies, h.ran.kept)
-led_to seed call last answers.Memory h = (h.0, h.5.replies, h.5.ran.kept)
-led_to seed call last answers.OutputFault h = (h.0, h.3.replies ++ h.3.reply ∷ [], h.3.ran.kept)
+pub led_to : (seed : ℕ) (call : Call) (last : Workbench) (a : Answer) → RunsLines (soak_lines seed) (soak_world seed call) (world_after call last) a → SoakLedTo seed call last
+led_to seed call last answers.Done h = record { lines = soak_lines seed; more = []; parts = sym (append-nil (soak_lines seed)); replies = h.replies; ran = h.ran }
+led_to seed call last answers.Memory h = record { lines = h.0; more = h.1 ∷ h.2; parts = h.3; replies = h.5.replies; ran = h.5.ran }
+led_to seed call last answers.OutputFault h = record { lines = h.0; more = h.1; parts = h.2; replies = h.3.replies ++ h.3.reply ∷ []; ran = h.3.ran }
 led_to seed call last answer h = absurd h
 
 pub soak_leaves : (seed : ℕ) (call : Call) (a : Answer) → DoesSoak seed call a → SoakLeaves seed call
 soak_leaves seed call a (same, inl h) = subst (λ (o : Option Workbench). MatchOption o (call.steps_after ≡ call.steps) (SoakLedTo seed call)) (sym h.shelf.none) h.shelf.steps
 soak_leaves seed call a (same, inr h) = subst (λ (o : Option Workbench). MatchOption o (call.steps_after ≡ call.steps) (SoakLedTo seed call)) (sym h.left_is) (led_to seed call h.last a h.runs)
 
+-- ---- its meshes
+
+meshes_of : (seed : ℕ) (call : Call) (last : Workbench) → IsState (first_bench (soak_volume seed) soak_level soak_limits).state → SoakLedTo seed call last → SoakMeshes seed call last
+meshes_of seed call last sound led = record { led = led; meshes = mesh_turns (soak_world seed call) (world_after call last) led.lines led.replies sound led.ran.kept }
+
+pub holds_meshes : (seed : ℕ) (call : Call) (a : Answer) → DoesSoak seed call a → HoldsSoakMeshes seed call
+holds_meshes seed call a (same, inl h) = subst (λ (o : Option Workbench). IfSome o (SoakMeshes seed call)) (sym h.shelf.none) tt
+holds_meshes seed call a (same, inr h) =
+    subst (λ (o : Option Workbench). IfSome o (SoakMeshes seed call)) (sym h.left_is) (meshes_of seed call h.last h.sound (led_to seed call h.last a h.runs))
+
 -- ---- from the opened bench on
 
 pub opened_soak : (seed : ℕ) (call : Call) (a : Answer) (last bench : Workbench) (lines : List (List ℕ)) → call.streams.input_after ≡ call.streams.input → call.left ≡ Some last
-    → bench ≡ first_bench (soak_volume seed) soak_level soak_limits → lines ≡ soak_lines seed
+    → bench ≡ first_bench (soak_volume seed) soak_level soak_limits → IsState bench.state → lines ≡ soak_lines seed
     → RunsLines lines (world bench call.steps call.store call.streams.output) (world_after call last) a → DoesSoak seed call a
-opened_soak seed call a last bench lines same left first are h = (
+opened_soak seed call a last bench lines same left first sound are h = (
   same,
   inr (record {
+    sound = subst (λ (b : Workbench). IsState b.state) first sound;
     last = last;
     left_is = left;
     runs = subst (λ (ls : List (List ℕ)). RunsLines ls (soak_world seed call) (world_after call last) a) are

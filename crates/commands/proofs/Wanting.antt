@@ -26,7 +26,8 @@ use Rattle.session.specs.Table.{Turn, after_writing, may_want_memory, says_of, s
 use Rattle.session.specs.declared.response.Response.{Response}
 use Rattle.session.specs.declared.response.Response.TheVariants as responses
 use Rattle.session.proofs.Running.{contours_apart}
-use Rattle.commands.specs.Soaking.{is_want, is_want_response}
+use Rattle.commands.specs.SoakLoop.{is_want_response}
+use Rattle.commands.specs.Soaking.{is_want}
 
 -- ---- which texts say that memory was wanting
 

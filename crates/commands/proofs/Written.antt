@@ -1,11 +1,14 @@
 -- What was written, by the answer.
-use Rattle.std.proofs.Common.{◌≡◌, ℕ, ◌≤◌, List, length, Ok, Err, IfSome, refl, sym, ap, subst, ℤ}
+use Rattle.std.proofs.Common.{◌≡◌, ℕ, ◌≤◌, List, length, Ok, Err, refl, sym, ap, subst, ℤ}
 use Rattle.std.specs.Prelude.{Option, Result}
+use Rattle.std.specs.Io.KnownBytes.{Appends}
 use Rattle.iso_base.specs.Volume.{Volume}
 use Rattle.byte_streams.specs.Seen.{Tape}
 use Rattle.mesh_text.specs.declared.format.TwoWayFormat.{TwoWayFormat}
 use Rattle.point_command.specs.Meaning.{text_by}
+use Rattle.commands.specs.Headline.{IsMeshWatertight, ShowsMesh}
 use Rattle.commands.specs.Meaning.{mesh_given, text_of_volume}
+use Rattle.point_command.specs.Inputs.{HasRead}
 use Rattle.point_command.specs.Outcome.{Converts, ReadWhole, Streams, WritesGiven}
 use Rattle.point_command.specs.Volumes.{HoldsNone, IsNoVolume, volume_answer, volume_limit, volume_of}
 use Rattle.point_command.specs.declared.reasons.NoVolume.{NoVolume}
@@ -16,20 +19,22 @@ use Rattle.endings.specs.declared.answer.Answer.{Answer}
 use Rattle.endings.specs.declared.answer.Answer.TheVariants as answers
 
 -- where the input was read whole, the command converts it
-pub converts : (given : List ℕ → Result (List ℕ) VolumeFault) (call : Streams) (bytes : List ℕ) (a : Answer) → ReadWhole volume_limit call
-    → IfSome call.input.left (λ all. bytes ≡ all) → WritesGiven (given bytes) call.output call.output_after a → Converts given call a
-converts given call bytes answers.Done read whole h =
-    (h.0, read, of_whole (λ all. given all ≡ Ok h.0) call.input.left bytes whole h.1, record { gained = h.2; beside = h.3 })
-converts given call bytes answers.OutputFault read whole h =
-    (h.0, read, of_whole (λ all. given all ≡ Ok h.0) call.input.left bytes whole h.1, record { cause = h.2; gained = h.3; beside = h.4 })
-converts given call bytes (answers.BadVolume fault) read whole h = (read, of_whole (λ all. given all ≡ Err fault) call.input.left bytes whole h.0, h.1)
-converts given call bytes answers.Memory read whole h = h
-converts given call bytes answers.MeshRefused read whole h = absurd h
-converts given call bytes answers.BadWords read whole h = absurd h
-converts given call bytes answers.InputFault read whole h = absurd h
-converts given call bytes answers.InputTooLong read whole h = absurd h
-converts given call bytes answers.ShelfFault read whole h = absurd h
-converts given call bytes (answers.BadMesh fault) read whole h = absurd h
+whole_of : (call : Streams) (bytes : List ℕ) → HasRead volume_limit call.input call.input_after bytes → ReadWhole volume_limit call
+whole_of call bytes read = record { ended = read.all.end; within = of_whole (λ all. length all ≤ volume_limit) call.input.left bytes read.all.whole read.within }
+
+pub converts : (given : List ℕ → Result (List ℕ) VolumeFault) (call : Streams) (bytes : List ℕ) (a : Answer) → HasRead volume_limit call.input call.input_after bytes
+    → WritesGiven (given bytes) call.output call.output_after a → Converts given call a
+converts given call bytes answers.Done read h = (bytes, h.0, read, h.1, record { gained = h.2; beside = h.3 })
+converts given call bytes answers.OutputFault read h = (bytes, h.0, read, h.1, record { cause = h.2; gained = h.3; beside = h.4 })
+converts given call bytes (answers.BadVolume fault) read h =
+    (whole_of call bytes read, of_whole (λ all. given all ≡ Err fault) call.input.left bytes read.all.whole h.0, h.1)
+converts given call bytes answers.Memory read h = h
+converts given call bytes answers.MeshRefused read h = absurd h
+converts given call bytes answers.BadWords read h = absurd h
+converts given call bytes answers.InputFault read h = absurd h
+converts given call bytes answers.InputTooLong read h = absurd h
+converts given call bytes answers.ShelfFault read h = absurd h
+converts given call bytes (answers.BadMesh fault) read h = absurd h
 
 -- a refusal writes nothing
 pub refused : (level : ℤ) (pad : Option ℤ) (format : TwoWayFormat) (bytes : List ℕ) (tape : Tape) (reason : NoVolume) → IsNoVolume pad level bytes reason
@@ -72,3 +77,25 @@ not_held level pad format call (answers.BadMesh fault) same h = absurd h
 -- which is no end of a command that was carried out
 pub not_held_done : (level : ℤ) (pad : Option ℤ) (call : Streams) (a : Answer) → HoldsNone pad level call.input call.input_after a → a ≡ answers.Done → ⊥
 not_held_done level pad call a h e = subst (HoldsNone pad level call.input call.input_after) e h
+
+-- the text that was written is that of the watertight mesh
+one_text : (one other : List ℕ) (given : Result (List ℕ) VolumeFault) → given ≡ Ok one → given ≡ Ok other → one ≡ other
+one_text one other given e f = cc
+
+same_text : (level : ℤ) (pad : Option ℤ) (format : TwoWayFormat) (bytes text : List ℕ) (v : Volume) → volume_of pad level bytes ≡ Ok v → mesh_given level pad format bytes ≡ Ok text → text ≡ text_of_volume format level v
+same_text level pad format bytes text v holds given =
+    one_text text (text_of_volume format level v) (mesh_given level pad format bytes) given (ap (text_by (text_of_volume format level)) holds)
+
+pub shows : (level : ℤ) (pad : Option ℤ) (format : TwoWayFormat) (call : Streams) (bytes : List ℕ) (a : Answer) → HasRead volume_limit call.input call.input_after bytes
+    → WritesGiven (mesh_given level pad format bytes) call.output call.output_after a → (a ≡ answers.Done → IsMeshWatertight level pad bytes) → ShowsMesh level pad format call a
+shows level pad format call bytes a read h mesh done =
+    let w = subst (WritesGiven (mesh_given level pad format bytes) call.output call.output_after) done h in
+    let m = mesh done in
+    record {
+      bytes = bytes;
+      read = read;
+      volume = m.0;
+      holds = m.1;
+      writes = record { gained = subst (Appends call.output.taken call.output_after.taken) (same_text level pad format bytes w.0 m.0 m.1 w.1) w.2; beside = w.3 };
+      watertight = m.2;
+    }

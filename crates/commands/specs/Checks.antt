@@ -12,6 +12,7 @@ use Rattle.mesh_read.specs.Obj.{obj_of}
 use Rattle.mesh_read.specs.declared.fault.MeshFault.{MeshFault}
 use Rattle.mesh_check.specs.Said.{said}
 use Rattle.endings.specs.Verdicts.{verdict_text}
+use Rattle.point_command.specs.Inputs.{HasRead}
 use Rattle.point_command.specs.Outcome.{NothingWritten, ReadWhole, Streams, Writes, WritesFront}
 use Rattle.mesh_text.specs.declared.format.TwoWayFormat.{TwoWayFormat}
 use Rattle.mesh_text.specs.declared.format.TwoWayFormat.TheVariants.{Ply, Obj}
@@ -34,6 +35,13 @@ mesh_in Obj bytes = obj_of bytes
 abbrev pub HasVerdict : TwoWayFormat → Verdict → List ℕ → Type 0
 HasVerdict format v bytes = (m : Mesh) × (mesh_in format bytes ≡ Ok m) × IsVerdict (triangles_of m.triangles) (said v)
 
+-- The whole input was read, and it has this verdict. Where the input does not tell its bytes, the verdict is still that on some
+-- mesh text.
+pub record HasMesh (format : TwoWayFormat) (old new : Feed) (v : Verdict) : Type 0 where
+  pub bytes : List ℕ
+  pub read : HasRead mesh_limit old new bytes
+  pub verdict : HasVerdict format v bytes
+
 -- whether a verdict refuses a mesh
 abbrev pub is_broken : Verdict → Bool
 is_broken verdicts.Closed = false
@@ -42,17 +50,15 @@ is_broken (verdicts.RepeatedCorner t) = true
 is_broken (verdicts.EdgeTwice a b) = true
 is_broken (verdicts.SplitVertex v) = true
 
--- the whole input was read, it has this verdict, and the verdict's line was written
+-- the whole input was read, its verdict refuses the mesh or not, and the verdict's line was written
 abbrev pub TellsVerdict : TwoWayFormat → Bool → Streams → Type 0
-TellsVerdict format broken call =
-    (v : Verdict) × (is_broken v ≡ broken) × ReadWhole mesh_limit call × IfSome call.input.left (HasVerdict format v) × Writes call (verdict_text v)
+TellsVerdict format broken call = (v : Verdict) × (is_broken v ≡ broken) × HasMesh format call.input call.input_after v × Writes call (verdict_text v)
 
 -- A command that reads a mesh text from its input and says its verdict.
 abbrev pub Checks : TwoWayFormat → Streams → Answer → Type 0
 Checks format call answers.Done = TellsVerdict format false call
 Checks format call answers.MeshRefused = TellsVerdict format true call
-Checks format call answers.OutputFault =
-    (v : Verdict) × ReadWhole mesh_limit call × IfSome call.input.left (HasVerdict format v) × WritesFront call (verdict_text v)
+Checks format call answers.OutputFault = (v : Verdict) × HasMesh format call.input call.input_after v × WritesFront call (verdict_text v)
 Checks format call answers.InputFault = Rose call.input.faults call.input_after.faults × NothingWritten call
 Checks format call answers.InputTooLong = IfSome call.input.left (λ bytes. mesh_limit < length bytes) × NothingWritten call
 Checks format call (answers.BadMesh fault) =
@@ -79,12 +85,6 @@ mesh_answer reasons.Memory = answers.Memory
 abbrev pub IsNoMesh : TwoWayFormat → List ℕ → NoMesh → Type 0
 IsNoMesh format bytes (reasons.Refused fault) = mesh_in format bytes ≡ Err fault
 IsNoMesh format bytes reasons.Memory = Unit {0}
-
--- the whole input was read, and it has this verdict
-pub record HasMesh (format : TwoWayFormat) (old new : Feed) (v : Verdict) : Type 0 where
-  pub ended : IsAtEnd new.left
-  pub within : IfSome old.left (λ bytes. length bytes ≤ mesh_limit)
-  pub whole : IfSome old.left (HasVerdict format v)
 
 -- why there is no verdict
 abbrev pub HasNoMesh : TwoWayFormat → Feed → Feed → Answer → Type 0

@@ -1,9 +1,12 @@
 -- The headline, where a mesh is extracted.
-use Rattle.std.specs.Prelude.{◌≡◌, ℕ, List, Option, Ok, IfSome, ℤ}
+use Rattle.std.specs.Prelude.{◌≡◌, ℕ, List, Option, Ok, ℤ}
 use Rattle.iso_base.specs.Volume.{Volume}
-use Rattle.byte_streams.specs.Seen.{Feed}
 use Rattle.bench_core.specs.Surface.{IsWatertight}
-use Rattle.point_command.specs.Volumes.{volume_of}
+use Rattle.mesh_text.specs.declared.format.TwoWayFormat.{TwoWayFormat}
+use Rattle.point_command.specs.Inputs.{HasRead}
+use Rattle.point_command.specs.Outcome.{Streams, Writes}
+use Rattle.point_command.specs.Volumes.{volume_limit, volume_of}
+use Rattle.commands.specs.Meaning.{text_of_volume}
 use Rattle.endings.specs.declared.answer.Answer.{Answer}
 use Rattle.endings.specs.declared.answer.Answer.TheVariants as answers
 
@@ -13,10 +16,16 @@ use Rattle.endings.specs.declared.answer.Answer.TheVariants as answers
 abbrev pub IsMeshWatertight : ℤ → Option ℤ → List ℕ → Type 0
 IsMeshWatertight level pad bytes = (v : Volume) × (volume_of pad level bytes ≡ Ok v) × IsWatertight v level
 
--- that of the volume in the input
-abbrev pub HoldsWatertight : ℤ → Option ℤ → Feed → Type 0
-HoldsWatertight level pad input = IfSome input.left (IsMeshWatertight level pad)
+-- The text of the mesh of the volume in the input was written, and that mesh is watertight. Where the input does not tell its
+-- bytes, the volume is that of some bytes.
+pub record WritesWatertight (level : ℤ) (pad : Option ℤ) (format : TwoWayFormat) (call : Streams) : Type 0 where
+  pub bytes : List ℕ
+  pub read : HasRead volume_limit call.input call.input_after bytes
+  pub volume : Volume
+  pub holds : volume_of pad level bytes ≡ Ok volume
+  pub writes : Writes call (text_of_volume format level volume)
+  pub watertight : IsWatertight volume level
 
 -- so where the command is done
-abbrev pub ShowsMesh : ℤ → Option ℤ → Feed → Answer → Type 0
-ShowsMesh level pad input answer = answer ≡ answers.Done → HoldsWatertight level pad input
+abbrev pub ShowsMesh : ℤ → Option ℤ → TwoWayFormat → Streams → Answer → Type 0
+ShowsMesh level pad format call answer = answer ≡ answers.Done → WritesWatertight level pad format call

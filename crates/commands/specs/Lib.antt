@@ -6,7 +6,10 @@ pub mod Checks
 pub mod Generating
 pub mod Headline
 pub mod Causes
-pub mod Serving
 pub mod SessionMeshes
 pub mod Economy
 pub mod Soaking
+pub mod SoakLoop
+pub mod Sure
+pub mod Serving
+pub mod Reading

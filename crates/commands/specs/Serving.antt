@@ -11,11 +11,13 @@ use Rattle.commands.specs.Generating.{Generates}
 use Rattle.commands.specs.Headline.{ShowsMesh}
 use Rattle.point_command.specs.Meaning.{points_given}
 use Rattle.commands.specs.Meaning.{mesh_given}
-use Rattle.point_command.specs.Outcome.{Converts}
+use Rattle.point_command.specs.Outcome.{Converts, Tells}
 use Rattle.commands.specs.Outcome.{Call, LeavesShelf, Rejects}
 use Rattle.commands.specs.Sessions.{Asked, RunsSession}
 use Rattle.commands.specs.Soaking.{DoesSoak}
+use Rattle.commands.specs.Sure.{HasSureReplies, HasSureSoak}
 use Rattle.point_command.specs.Volumes.{volume_limit, volume_of}
+use Rattle.command_words.specs.Help.{help_text, version_text}
 use Rattle.command_words.specs.Words.{request_of}
 use Rattle.command_words.specs.declared.request.Request.{Request}
 use Rattle.command_words.specs.declared.request.Request.TheVariants as requests
@@ -31,11 +33,13 @@ asked_for level pad name bricks pages = record { level = level; pad = pad; name 
 abbrev pub Serves : Request → Call → Answer → Type 0
 Serves (requests.Points level) call answer = Converts (points_given level) call.streams answer × LeavesShelf call
 Serves (requests.Extract level pad format) call answer =
-    Converts (mesh_given level pad format) call.streams answer × LeavesShelf call × ShowsMesh level pad call.streams.input answer
+    Converts (mesh_given level pad format) call.streams answer × LeavesShelf call × ShowsMesh level pad format call.streams answer
 Serves (requests.Session level pad name bricks pages) call answer = RunsSession (asked_for level pad name bricks pages) call answer
 Serves (requests.Check format) call answer = Checks format call.streams answer × LeavesShelf call
 Serves (requests.Gen seed sizes) call answer = Generates seed sizes call.streams answer × LeavesShelf call
 Serves (requests.Soak seed) call answer = DoesSoak seed call answer
+Serves requests.Help call answer = Tells help_text call.streams answer × LeavesShelf call
+Serves requests.Version call answer = Tells version_text call.streams answer × LeavesShelf call
 
 -- what a command line does
 abbrev pub Ends : List (List ℕ) → Call → Answer → Type 0
@@ -57,14 +61,20 @@ CanServe (requests.Session level pad name bricks pages) call =
     × (call.store.files ≡ Some files) × (get files name ≡ Some bytes) × (length bytes ≤ volume_limit) × (volume_of pad level bytes ≡ Ok v)
 CanServe (requests.Gen seed sizes) call = Unit {0}
 CanServe (requests.Soak seed) call = Unit {0}
+CanServe requests.Help call = Unit {0}
+CanServe requests.Version call = Unit {0}
 CanServe (requests.Check format) call = (bytes : List ℕ) × (m : Mesh) × Brings call mesh_limit bytes × (mesh_in format bytes ≡ Ok m)
 
--- it is carried out, or memory is wanting; a session's volume may have failed to be read, where the shelf's count rose
+-- It is carried out, or memory is wanting, of which help and the version take none; a session's volume may have failed to be
+-- read, where the shelf's count rose. Where it did not rise, each reply is the machine's, or says that memory was wanting.
 abbrev pub IsCarriedOut : Request → Call → Status → Type 0
 IsCarriedOut (requests.Points level) call status = (status ≡ statuses.Done) ⊎ (status ≡ statuses.Memory)
 IsCarriedOut (requests.Extract level pad format) call status = (status ≡ statuses.Done) ⊎ (status ≡ statuses.Memory)
 IsCarriedOut (requests.Session level pad name bricks pages) call status =
-    (status ≡ statuses.Done) ⊎ (status ≡ statuses.Memory) ⊎ ((status ≡ statuses.ShelfFault) × Rose call.store.faults call.store_after.faults)
+    ((status ≡ statuses.Done) ⊎ (status ≡ statuses.Memory) ⊎ ((status ≡ statuses.ShelfFault) × Rose call.store.faults call.store_after.faults))
+    × HasSureReplies (asked_for level pad name bricks pages) call
 IsCarriedOut (requests.Gen seed sizes) call status = (status ≡ statuses.Done) ⊎ (status ≡ statuses.Memory)
-IsCarriedOut (requests.Soak seed) call status = (status ≡ statuses.Done) ⊎ (status ≡ statuses.Memory)
+IsCarriedOut (requests.Soak seed) call status = ((status ≡ statuses.Done) ⊎ (status ≡ statuses.Memory)) × HasSureSoak seed call
+IsCarriedOut requests.Help call status = status ≡ statuses.Done
+IsCarriedOut requests.Version call status = status ≡ statuses.Done
 IsCarriedOut (requests.Check format) call status = (status ≡ statuses.Done) ⊎ (status ≡ statuses.MeshRefused) ⊎ (status ≡ statuses.Memory)

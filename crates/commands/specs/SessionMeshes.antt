@@ -56,12 +56,17 @@ abbrev pub WritesReplies : Ending → Tape → Tape → List (List ℕ) → Type
 WritesReplies endings.OutputFault old new replies = AppendsFront old.taken new.taken (replies_text replies)
 WritesReplies ending old new replies = Appends old.taken new.taken (replies_text replies)
 
+-- so it is at each line that asked for a mesh, among lines that were run with these replies
+abbrev pub MeshTurns : World → World → List (List ℕ) → List (List ℕ) → Type 0
+MeshTurns w v lines replies =
+    (before : List (List ℕ)) (asked : List ℕ) (later : List (List ℕ)) (format : TwoWayFormat) (name : List ℕ)
+    → lines ≡ before ++ asked ∷ later → read_of asked ≡ Ok (Some (writes_mesh format name)) → MeshTurn w v before later replies format name
+
 -- Lines were run, and their replies are what was written: so it is at each line that asked for a mesh.
 pub record ShowsMeshes (w v : World) (ending : Ending) (lines : List (List ℕ)) : Type 0 where
   pub replies : List (List ℕ)
   pub written : WritesReplies ending w.tape v.tape replies
-  pub meshes : (before : List (List ℕ)) (asked : List ℕ) (later : List (List ℕ)) (format : TwoWayFormat) (name : List ℕ)
-      → lines ≡ before ++ asked ∷ later → read_of asked ≡ Ok (Some (writes_mesh format name)) → MeshTurn w v before later replies format name
+  pub meshes : MeshTurns w v lines replies
 
 -- So it is with the lines of the script that were run, however the session ended, on the volume of the file.
 pub record HoldsMeshes (asked : Asked) (call : Call) (status : Status) (last : Workbench) : Type 0 where

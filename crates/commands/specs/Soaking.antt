@@ -1,30 +1,23 @@
 -- What `soak` does: the soak script of a seed, run on the volume that it generates.
-use Rattle.std.specs.Prelude.{◌≡◌, ◌⊎◌, ℕ, ◌≤◌, Bool, true, false, if◌then◌else◌, List, [], ◌∷◌, ◌++◌, bytes_eq, codes, Some, None, Ok, MatchOption, ℤ, pos}
+use Rattle.std.specs.Prelude.{◌≡◌, ◌⊎◌, ℕ, ◌≤◌, Bool, true, false, if◌then◌else◌, List, [], ◌∷◌, ◌++◌, bytes_eq, codes, Some, None, Ok, IfSome, MatchOption, ℤ, pos}
 use Rattle.std.specs.Io.KnownBytes.{Appends}
 use Rattle.iso_defs.specs.Grid.{Grid}
 use Rattle.iso_base.specs.Volume.{Volume, unpadded}
 use Rattle.byte_streams.specs.Causes.{Rose}
-use Rattle.byte_streams.specs.Seen.{Tape}
-use Rattle.iso_base.specs.declared.fault.BenchFault.TheVariants.{Memory}
 use Rattle.mesh_cache.specs.Cache.{Limits}
 use Rattle.bench_core.specs.Keeping.{Workbench, first_bench}
+use Rattle.bench_core.specs.Machine.{IsState}
 use Rattle.volume_gen.specs.Generated.{generated_volume}
 use Rattle.volume_gen.specs.Soak.{soak_lines}
 use Rattle.script.specs.Commands.{read_of}
 use Rattle.script.specs.declared.command.Command.TheVariants.{Fill, Ply}
-use Rattle.script.specs.declared.reply.Reply.TheVariants.{Refused}
 use Rattle.session.specs.Kept.{Kept}
 use Rattle.session.specs.Lines.{Saying}
-use Rattle.session.specs.Loop.{PutAll}
-use Rattle.session.specs.Table.{may_want_memory}
-use Rattle.session.specs.declared.response.Response.{Response}
-use Rattle.session.specs.declared.response.Response.TheVariants.{Line}
 use Rattle.session.specs.Worlds.{CountsBy, World, replies_text, scene_of, world}
 use Rattle.point_command.specs.Outcome.{NothingWritten}
 use Rattle.commands.specs.Outcome.{Call, LeavesShelf}
+use Rattle.commands.specs.SessionMeshes.{MeshTurns}
 use Rattle.commands.specs.Sessions.{world_after}
-use Rattle.commands.specs.declared.soak.Pace.{Pace}
-use Rattle.commands.specs.declared.soak.Pace.TheVariants.{On, Wanting, Fault}
 use Rattle.endings.specs.declared.answer.Answer.{Answer}
 use Rattle.endings.specs.declared.answer.Answer.TheVariants as answers
 
@@ -131,6 +124,7 @@ pub record StaysIdle (call : Call) (answer : Answer) : Type 0 where
 
 -- lines of the script were run on the generated volume, from a bench that had kept nothing of its mesh to the one that is left
 pub record RunsSoak (seed : ℕ) (call : Call) (answer : Answer) : Type 0 where
+  pub sound : IsState (first_bench (soak_volume seed) soak_level soak_limits).state
   pub last : Workbench
   pub left_is : call.left ≡ Some last
   pub runs : RunsLines (soak_lines seed) (soak_world seed call) (world_after call last) answer
@@ -141,36 +135,25 @@ DoesSoak seed call answer = (call.streams.input_after ≡ call.streams.input) ×
 
 -- ---- what it leaves of the mesh
 
--- lines and their replies led to the bench that is left
-abbrev pub SoakLedTo : ℕ → Call → Workbench → Type 0
-SoakLedTo seed call last =
-    (lines : List (List ℕ)) × (replies : List (List ℕ)) × Kept (scene_of (soak_world seed call)) lines replies (scene_of (world_after call last))
+-- The first lines of the script were run, with replies that led to the bench that is left.
+pub record SoakLedTo (seed : ℕ) (call : Call) (last : Workbench) : Type 0 where
+  pub lines : List (List ℕ)
+  pub more : List (List ℕ)
+  pub parts : soak_lines seed ≡ lines ++ more
+  pub replies : List (List ℕ)
+  pub ran : RanQuietly (soak_world seed call) (world_after call last) lines replies
 
 -- so it is where a bench is left; where none is, no cell was classified
 abbrev pub SoakLeaves : ℕ → Call → Type 0
 SoakLeaves seed call = MatchOption call.left (call.steps_after ≡ call.steps) (SoakLedTo seed call)
 
--- ---- parts of the loop
+-- ---- its meshes
 
--- whether a response says that memory was wanting
-abbrev pub is_want_response : Response → Bool
-is_want_response (Line (Refused Memory)) = true
-is_want_response response = false
+-- and each line among them that asked for a mesh wrote it
+pub record SoakMeshes (seed : ℕ) (call : Call) (last : Workbench) : Type 0 where
+  pub led : SoakLedTo seed call last
+  pub meshes : MeshTurns (soak_world seed call) (world_after call last) led.lines led.replies
 
--- whether memory may be wanting for a line
-abbrev pub may_want : Saying → Bool
-may_want (Ok (Some command)) = may_want_memory command
-may_want says = false
-
--- a reply was written, if it is shown
-abbrev pub Shows : Tape → Tape → List ℕ → Bool → Pace → Type 0
-Shows old new text is_shown On = PutAll old new (if is_shown then text else [])
-Shows old new text is_shown Wanting = ⊥
-Shows old new text is_shown Fault = (is_shown ≡ true) × (front : List ℕ) × (back : List ℕ) × (text ≡ front ++ back)
-    × Appends old.taken new.taken front × (new.beside ≡ old.beside) × Rose old.faults new.faults
-
--- one line was run; or memory was wanting for it, and it left everything as it was; or its reply was not written whole
-abbrev pub SoaksLine : World → World → List ℕ → Pace → Type 0
-SoaksLine w v line On = Soaks w v (line ∷ [])
-SoaksLine w v line Wanting = (may_want (read_of line) ≡ true) × Soaks w v []
-SoaksLine w v line Fault = SoakBreaks w v (line ∷ [])
+-- in each soak that was begun
+abbrev pub HoldsSoakMeshes : ℕ → Call → Type 0
+HoldsSoakMeshes seed call = IfSome call.left (SoakMeshes seed call)

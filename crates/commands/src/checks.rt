@@ -1,8 +1,8 @@
 //! The verdict on a mesh text.
 ghost use Rattle.std.specs.Prelude.{◌≡◌, ◌^◌, ◌≤◌, length, Ok, IfOk, IfErr};
-ghost use Rattle.byte_streams.specs.Seen.{Puts};
+ghost use Rattle.byte_streams.specs.Seen.{Puts, ReadsWithin};
 ghost use Rattle.mesh_read.specs.Answers.{Answers};
-ghost use Rattle.commands.specs.Checks.{answer_to, Checks, HasMesh, HasNoMesh, HasVerdict, IsNoMesh, is_broken, mesh_in};
+ghost use Rattle.commands.specs.Checks.{answer_to, Checks, HasMesh, HasNoMesh, HasVerdict, IsNoMesh, is_broken, mesh_in, mesh_limit};
 ghost use Rattle.point_command.specs.Outcome.{streams_between};
 ghost use Rattle.endings.specs.Verdicts.{verdict_text};
 
@@ -102,6 +102,7 @@ fn verdict_of_input<S: Source>(
     input: &mut S,
 ) -> Result<Verdict, Answer>
     ensures verdict { IfOk result (λ v. HasMesh format (S.seen input.old) (S.seen input.new) v) }
+    ensures reading { ReadsWithin mesh_limit (S.seen input.old) (S.seen input.new) }
     ensures fault { IfErr result (λ answer. HasNoMesh format (S.seen input.old) (S.seen input.new) answer) }
 {
     let bytes = read_all_of(alloc, input, LIMIT)?;
@@ -133,7 +134,8 @@ pub fn check<S: Source, K: Sink>(
     input: &mut S,
     output: &mut K,
 ) -> Answer
-    ensures { Checks format (streams_between S.seen K.seen input.old input.new output.old output.new) result }
+    ensures checks { Checks format (streams_between S.seen K.seen input.old input.new output.old output.new) result }
+    ensures reading { ReadsWithin mesh_limit (S.seen input.old) (S.seen input.new) }
 {
     let verdict = match verdict_of_input(alloc, format, input) {
         Ok(verdict) => verdict,

@@ -4,13 +4,14 @@ ghost use Rattle.std.specs.Prelude.{◌≡◌, ℤ, is_some, length, None, Ok, A
 ghost use Rattle.iso_defs.specs.Grid.{point_count};
 ghost use Rattle.iso_base.specs.Volume.{Volume, unpadded};
 ghost use Rattle.iso_base.specs.Samples.{IsSample};
-ghost use Rattle.byte_streams.specs.Seen.{Puts};
+ghost use Rattle.byte_streams.specs.Seen.{Puts, ReadsWithin};
 ghost use Rattle.commands.specs.Meaning.{mesh_given, text_of_volume};
 ghost use Rattle.bench_core.specs.Machine.{IsAbovePad};
 ghost use Rattle.bench_core.specs.Surface.{IsWatertight};
 ghost use Rattle.commands.specs.Headline.{IsMeshWatertight, ShowsMesh};
 ghost use Rattle.endings.specs.declared.answer.Answer.TheVariants as answers;
 ghost use Rattle.point_command.specs.Outcome.{Converts, WritesGiven, streams_between};
+ghost use Rattle.point_command.specs.Volumes.{volume_limit};
 
 use crate::volumes::volume_in;
 use bench_core::watertight;
@@ -189,7 +190,8 @@ pub fn extract<S: Source, K: Sink>(
 ) -> Answer
     requires { IfSome pad IsSample }
     ensures converts { Converts (mesh_given level pad format) (streams_between S.seen K.seen input.old input.new output.old output.new) result }
-    ensures shows { ShowsMesh level pad (S.seen input.old) result }
+    ensures shows { ShowsMesh level pad format (streams_between S.seen K.seen input.old input.new output.old output.new) result }
+    ensures reading { ReadsWithin volume_limit (S.seen input.old) (S.seen input.new) }
 {
     match bytes_of_input(alloc, input) {
         Ok(bytes) => extract_bytes(alloc, level, pad, format, bytes, output),

@@ -1,6 +1,8 @@
 //! Sessions: a script on the volume of a file.
 ghost use Rattle.std.specs.Prelude.{◌≡◌, None, IfSome};
 ghost use Rattle.iso_base.specs.Samples.{IsSample};
+ghost use Rattle.byte_streams.specs.Seen.{ReadsWithin};
+ghost use Rattle.session.specs.Sessions.{script_limit};
 ghost use Rattle.commands.specs.Outcome.{call_between};
 ghost use Rattle.commands.specs.Serving.{asked_for};
 ghost use Rattle.commands.specs.Sessions.{RunsSession, answer_of};
@@ -41,8 +43,9 @@ pub fn run_on_file<S: Source, K: Sink, H: Shelf, L: Ledger>(
 ) -> Answer
     requires left { left.old ≡ None }
     requires pad { IfSome pad IsSample }
-    ensures { RunsSession (asked_for level pad name.now capacity.bricks capacity.pages)
+    ensures runs { RunsSession (asked_for level pad name.now capacity.bricks capacity.pages)
         (call_between S.seen K.seen H.seen input.old input.new output.old output.new shelf.old shelf.new left.new steps.old steps.new) result }
+    ensures reading { ReadsWithin script_limit (S.seen input.old) (S.seen input.new) }
 {
     let store = match bricks_on_shelf(alloc, shelf, name, pad, level) {
         Ok(store) => store,

@@ -2,13 +2,15 @@
 ghost use Rattle.std.specs.Prelude.{◌≡◌, ℕ, List, Some, None, Ok, IfOk};
 ghost use Rattle.byte_streams.specs.Seen.{Feed};
 ghost use Rattle.bench_core.specs.Keeping.{first_bench};
+ghost use Rattle.bench_core.specs.Machine.{IsState};
 ghost use Rattle.volume_gen.specs.Soak.{soak_lines};
 ghost use Rattle.script.specs.Commands.{read_of};
 ghost use Rattle.session.specs.Responses.{response_text};
 ghost use Rattle.session.specs.Worlds.{world};
 ghost use Rattle.point_command.specs.Outcome.{unread_between};
 ghost use Rattle.commands.specs.Outcome.{call_with};
-ghost use Rattle.commands.specs.Soaking.{DoesSoak, RunsLines, Shows, SoaksLine, is_ply, is_want_response, soak_level, soak_limits, soak_sizes, soak_volume};
+ghost use Rattle.commands.specs.SoakLoop.{Shows, SoaksLine, is_want_response};
+ghost use Rattle.commands.specs.Soaking.{DoesSoak, RunsLines, is_ply, soak_level, soak_limits, soak_sizes, soak_volume};
 
 use arrayvec::ArrayString;
 use bench_core::{BeginFault, Bench, BenchFault, Capacity};
@@ -141,7 +143,8 @@ fn capacity() -> Capacity
 
 /// A bench on the generated volume of a seed.
 fn open(alloc: Global, seed: u64) -> Result<Bench, Memory>
-    ensures { IfOk result (λ b. b ≡ first_bench (soak_volume seed) soak_level soak_limits) }
+    ensures opened { IfOk result (λ b. b ≡ first_bench (soak_volume seed) soak_level soak_limits) }
+    ensures sound { IfOk result (λ b. IsState b.state) }
 {
     let volume = generated(alloc, seed, &sizes())?;
     match Bench::begin(alloc, VoxelList::of(volume), level(), capacity()) {

@@ -10,7 +10,7 @@ ghost use Rattle.iso_defs.specs.Scratch.{cell_centres, cell_triangles, crossing_
 ghost use Rattle.iso_defs.specs.Signs.{is_crossing};
 ghost use Rattle.fan_laws.specs.Together.{LiesInFace};
 ghost use Rattle.std.specs.List.{count_by, flat_map};
-ghost use Rattle.std.specs.Prelude.{if◌then◌else◌, length, nat_lt, ℕ, ℤ, ◌*◌, ◌+◌, ◌<◌, ◌==◌, ◌≡◌, ◌≢◌, ◌≤◌};
+ghost use Rattle.std.specs.Prelude.{if◌then◌else◌, length, nat_lt, slice_index, ℕ, ℤ, ◌*◌, ◌+◌, ◌<◌, ◌==◌, ◌≡◌, ◌≢◌, ◌≤◌};
 
 use iso_base::{EdgeName, Sizes};
 
@@ -22,10 +22,12 @@ pub fn pair_determines_face(a: EdgeName, b: EdgeName, sizes: &Sizes)
     let _ = sizes.nx();
 }
 
-/// A lattice edge names one vertex where it is crossing, and else none; no two vertices have one name.
+/// A lattice edge names one vertex where it is crossing, and else none; no two vertices have one name; and the number of a vertex,
+/// by which triangles speak of it, is its place in the list of vertices.
 pub fn one_vertex()
     ensures edges { (g : Grid) (s : ℕ → ℤ) (n : ℕ) → n < name_bound g → count_by (λ m. m == n) (vertex_names g s) ≡ (if is_crossing g s n then 1 else 0) }
     ensures all { (g : Grid) (s : ℕ → ℤ) (n : ℕ) → count_by (λ m. m == n) (vertex_names g s) ≤ 1 }
+    ensures places { (g : Grid) (s : ℕ → ℤ) (i : ℕ) → i < length (vertices g s) → number_of g s (slice_index (vertex_names g s) i) ≡ i }
 {}
 
 /// A mesh has at most seven times as many vertices and twelve times as many triangles as its grid has points.

@@ -2,8 +2,8 @@ ghost use Rattle.std.specs.Prelude.{◌≡◌, ◌+◌, ◌/◌, ◌<◌, ◌≤
 ghost use Rattle.arrayvec.specs.ArrayString.{array_string_len};
 ghost use Rattle.iso_defs.specs.Texts.{decimal_text, level_size_text, level_text, thousandths};
 
-use crate::number::put_number;
 use arrayvec::ArrayString;
+use itoa::Buffer;
 
 /// A number of thousandths of a voxel.
 #[derive(Clone, Copy, Debug, PartialEq, Eq)]
@@ -18,21 +18,29 @@ fn put_digit(digit: u64, into: &mut ArrayString<24>)
     into.push((b'0' + digit as u8) as char);
 }
 
-/// Appends the whole part of a number of thousandths.
-#[tactic(auto, using(crate::proofs::Digits::whole_part, crate::proofs::Digits::short_whole_part))]
-fn put_whole_part(n: u64, into: &mut ArrayString<24>)
-    requires room { array_string_len into.old + 20 ≤ 24 }
-    ensures text { into.new.bytes ≡ into.old.bytes ++ decimal (n / 1000) }
-    ensures room { array_string_len into.new ≤ array_string_len into.old + 17 }
-    ensures short { n ≤ 2 ^ 44 → array_string_len into.new ≤ array_string_len into.old + 11 }
+fn put_sign(into: &mut ArrayString<24>)
+    requires room { array_string_len into.old < 24 }
+    ensures text { into.new.bytes ≡ into.old.bytes ++ 45 ∷ [] }
+    ensures room { array_string_len into.new ≡ array_string_len into.old + 1 }
 {
-    put_number(n / 1000, into);
+    into.push('-');
+}
+
+/// Appends the whole part of a number of thousandths. It asks for no more room than the digits take, where `put_number` would ask
+/// for that of the longest number of 64 bits.
+fn put_whole_part(n: u64, into: &mut ArrayString<24>)
+    requires room { array_string_len into.old + length (decimal (n / 1000)) ≤ 24 }
+    ensures text { into.new.bytes ≡ into.old.bytes ++ decimal (n / 1000) }
+    ensures room { array_string_len into.new ≡ array_string_len into.old + length (decimal (n / 1000)) }
+{
+    let mut buffer = Buffer::new();
+    into.push_str(buffer.format(n / 1000));
 }
 
 fn put_thousandths(n: u64, into: &mut ArrayString<24>)
-    requires room { array_string_len into.old + 21 ≤ 24 }
+    requires room { array_string_len into.old + length (decimal (n / 1000)) + 4 ≤ 24 }
     ensures text { into.new.bytes ≡ into.old.bytes ++ thousandths n }
-    ensures short { n ≤ 2 ^ 44 → array_string_len into.new ≤ array_string_len into.old + 15 }
+    ensures room { array_string_len into.new ≡ array_string_len into.old + length (decimal (n / 1000)) + 4 }
 {
     put_whole_part(n, into);
     into.push('.');
@@ -43,20 +51,23 @@ fn put_thousandths(n: u64, into: &mut ArrayString<24>)
 }
 
 /// Appends the number with three decimals: a sign where it is negative, the whole part, a point and three digits.
+/// These are 16 bytes at most.
+#[tactic(auto, using(crate::proofs::Digits::short_whole_part))]
 pub fn put_decimal(value: Thousandth, into: &mut ArrayString<24>)
     requires bound { unsigned_abs value.0 < 2 ^ 44 }
-    requires room { array_string_len into.old + 22 ≤ 24 }
+    requires room { array_string_len into.old + 16 ≤ 24 }
     ensures text { into.new.bytes ≡ into.old.bytes ++ decimal_text value.0 }
     ensures room { array_string_len into.new ≤ array_string_len into.old + 16 }
 {
     if value.0 < 0 {
-        into.push('-');
+        put_sign(into);
         put_thousandths(value.0.unsigned_abs(), into);
     } else {
         put_thousandths(value.0.unsigned_abs(), into);
     }
 }
 
+#[tactic(auto, using(crate::proofs::Digits::whole_part))]
 fn put_level_size(n: u64, into: &mut ArrayString<24>)
     requires room { array_string_len into.old + 21 ≤ 24 }
     ensures text { into.new.bytes ≡ into.old.bytes ++ level_size_text n }
@@ -74,7 +85,7 @@ pub fn put_level(thousandths: i64, into: &mut ArrayString<24>)
     ensures { into.new.bytes ≡ into.old.bytes ++ level_text thousandths }
 {
     if thousandths < 0 {
-        into.push('-');
+        put_sign(into);
         put_level_size(thousandths.unsigned_abs(), into);
     } else {
         put_level_size(thousandths.unsigned_abs(), into);

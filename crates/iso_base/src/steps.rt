@@ -30,7 +30,8 @@ impl<L: Ledger> Steps<L> {
         Steps { book, share }
     }
 
-    /// Raises the counter by one.
+    /// Raises the counter by one, for a cell that is classified. `classify_with` of `case_table` is its one caller, so that the
+    /// counter tells how many cells came past there.
     pub fn tick(&mut self)
         ensures { self.new ≡ self.old + 1 }
     {

@@ -2,7 +2,7 @@
 use Rattle.std.proofs.Common.{◌≡◌, ℕ, if◌then◌else◌, Ok, Err, subst, arith, IfOk}
 use Rattle.std.specs.Prelude.{Result, IsErrOf}
 use Rattle.byte_streams.specs.Causes.{Rose}
-use Rattle.byte_streams.specs.Memory.{one_more}
+use Rattle.byte_streams.specs.Causes.{one_more}
 use Rattle.iso_io.specs.Shelves.{is_failed}
 use Rattle.iso_io.specs.declared.shelf.ShelfError.{ShelfError}
 use Rattle.iso_io.specs.declared.shelf.ShelfError.TheVariants.{Failed}

@@ -3,7 +3,7 @@ use Rattle.std.specs.Prelude.{◌≡◌, ◌⊎◌, ℕ, ◌+◌, ◌<◌, false
 use Rattle.std.specs.Prelude.{refl}
 use Rattle.std.specs.Coded.{Coded, code_by, coded×, coded_ℕ, coded_list}
 use Rattle.byte_streams.specs.Files.{no_files}
-use Rattle.byte_streams.specs.Memory.{one_more}
+use Rattle.byte_streams.specs.Causes.{one_more}
 use Rattle.iso_io.specs.Places.{Places, content_in, has_place, placed, placed_behind, fitting, places_code}
 use Rattle.iso_io.specs.Shelves.{Store}
 

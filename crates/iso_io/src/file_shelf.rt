@@ -1,6 +1,6 @@
 ghost use Rattle.std.specs.Prelude.{◌≡◌, ◌≤◌, length, IfOk};
 ghost use Rattle.byte_streams.specs.Causes.{Rose};
-ghost use Rattle.byte_streams.specs.Memory.{one_more};
+ghost use Rattle.byte_streams.specs.Causes.{one_more};
 
 use crate::shelf::{Shelf, ShelfError};
 use arrayvec::ArrayString;
@@ -97,7 +97,7 @@ fn append_to(
 
 impl<'a> Shelf for FileShelf<'a> {
     ghost use Rattle.std.specs.Prelude.{◌≡◌, ◌⊎◌, ◌≤◌, length, IfOk, IfErr, is_err, if◌then◌else◌};
-    ghost use Rattle.byte_streams.specs.Memory.{one_more};
+    ghost use Rattle.byte_streams.specs.Causes.{one_more};
     ghost use Rattle.iso_io.specs.Shelves.{Starts, Grows, is_failed, untold_store};
 
     ghost seen = { untold_store };

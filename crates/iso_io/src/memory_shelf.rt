@@ -3,7 +3,7 @@ ghost use Rattle.std.specs.FinMap.{get};
 ghost use Rattle.std.specs.Option.{option_map};
 ghost use Rattle.byte_streams.specs.Files.{no_files};
 ghost use Rattle.iso_io.specs.Places.{has_place};
-ghost use Rattle.byte_streams.specs.Memory.{one_more};
+ghost use Rattle.byte_streams.specs.Causes.{one_more};
 ghost use Rattle.iso_io.specs.Memory.{KeptFiles, empty_shelf, stored};
 
 use crate::places::Places;
@@ -94,6 +94,8 @@ impl Shelf for MemShelf {
     ghost use Rattle.iso_io.specs.Shelves.{Starts, Grows};
 
     ghost seen = { store_of };
+
+    ghost may_fail = { IsFailing };
 
     fn read(&mut self, alloc: Global, name: &str, limit: u64) -> Result<Vec<u8>, ShelfError>
         ensures same { self.new.places ≡ self.old.places }

@@ -44,7 +44,8 @@ fn eight_at(bytes: &[u8], from: usize) -> u64
     ])
 }
 
-/// Whether all corners of the eight cells from a place on are above, or none is: the cells have no loops then.
+/// Whether all corners of the eight cells from a place on are above, or none is: the cells have no loops then. `false` is free:
+/// cells are then looked at one by one.
 #[inline(always)]
 fn have_no_loops<H: Heights>(field: &H, y: u32, z: u32, bytes: &[u8], from: usize) -> bool
     requires eight { from + 8 < (H.leveled field.now).grid.nx }
@@ -168,7 +169,7 @@ fn are_all(signs: &[u8], sign: u8) -> bool
     alike
 }
 
-/// Whether all points round a row of cells are above, or none is: the cells have no loops then.
+/// Whether all points round a row of cells are above, or none is: the cells have no loops then. `false` is free, as above.
 fn are_alike<H: Heights>(field: &H, signs: &[u8], y: u32, z: u32) -> bool
     requires y { y + 1 < (H.leveled field.now).grid.ny }
     requires z { z + 1 < (H.leveled field.now).grid.nz }
@@ -187,7 +188,7 @@ fn are_alike<H: Heights>(field: &H, signs: &[u8], y: u32, z: u32) -> bool
     true
 }
 
-/// Whether a row of points begins a row of cells that may have loops, by the signs.
+/// Whether a row of points begins a row of cells that may have loops, by the signs. Of a row inside the grid `true` is free.
 fn may_have_loops<H: Heights>(field: &H, signs: &[u8], row: u32) -> bool
     requires row { row < row_count (H.leveled field.now).grid }
     requires signs { signs.now ≡ map (sign_of (H.leveled field.now).level) (H.leveled field.now).samples }

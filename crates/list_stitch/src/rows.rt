@@ -41,7 +41,7 @@ pub fn sign_row<'a, H: Heights>(field: &H, signs: &'a [u8], y: u32, z: u32) -> &
 }
 
 /// Whether a row of points begins a row of cells that may have loops: not where a crossing edge begins in none of the rows of
-/// points round it.
+/// points round it. Of a row inside the grid `true` is free.
 pub fn has_loops<H: Heights>(field: &H, ranks: &RowRanks, total: u32, row: u32) -> bool
     requires ranks { AreRowRanks (H.leveled field.now) ranks.now total }
     requires row { row < row_count (H.leveled field.now).grid }

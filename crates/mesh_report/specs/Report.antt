@@ -25,7 +25,7 @@ reaches n ts zero v w = v == w
 reaches n ts (suc k) v w = v == w || list_any (λ u. are_joined ts v u && reaches n ts k u w) (below n)
 
 -- The component of a vertex: the least vertex reached from it along edges. Of n vertices each is reached along n edges if at all,
--- so the bound leaves no way out (component_is, in proofs/Reach.antt).
+-- so the bound leaves no way out: the law `component_is_least_reached`.
 unfoldable pub component : ℕ → List Triangle → ℕ → ℕ
 component n ts v = least_of (filter (reaches n ts n v) (below n))
 

@@ -1,4 +1,4 @@
-ghost use Rattle.std.specs.Prelude.{◌≡◌, ◌+◌, ◌<◌, ◌≤◌, ◌^◌, ◌++◌, [], All, IsTrue, length, decimal, unsigned_abs};
+ghost use Rattle.std.specs.Prelude.{◌≡◌, ◌+◌, ◌<◌, ◌≤◌, ◌^◌, ◌++◌, [], All, IsTrue, length, decimal, unsigned_abs, ◌↔◌};
 ghost use Rattle.mesh_text.specs.Lines.{along, letter_line, obj_face_line, obj_vertex_line, ply_face_line, ply_vertex_line, point_line};
 
 use crate::digits::put_letter;
@@ -64,7 +64,7 @@ impl Lines {
     /// Whether there is room for one more line.
     #[inline(always)]
     pub fn has_room(&self) -> bool
-        ensures { IsTrue result → length self.now + 64 ≤ 4096 }
+        ensures { IsTrue result ↔ (length self.now + 64 ≤ 4096) }
     {
         self.end <= PAGE - 64
     }

@@ -77,7 +77,7 @@ fn colon_at(text: &[u8]) -> Option<usize>
     text.iter().position(|b| *b == b':')
 }
 
-/// What a line says. It is not empty.
+/// What a line says.
 #[tactic(auto, unfolding(crate::specs::Fields::meaning_of))]
 pub fn line_meaning(text: &[u8]) -> Meaning<'_>
     ensures { seen_line result ≡ meaning_of text.now }

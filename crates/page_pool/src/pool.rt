@@ -10,6 +10,7 @@ use arrayvec::ArrayVec;
 use iso_base::Memory;
 use std::alloc::Global;
 use std::marker::Model;
+use thiserror::Error;
 
 /// The name of a chain, which only `Pool::store` gives. No other chain that the pool has goes by it. Letting it go keeps the
 /// chain's pages taken for good.
@@ -27,7 +28,8 @@ impl Model for Chain {
 }
 
 /// A list needs more pages than are free. Nothing was stored.
-#[derive(Clone, Copy, Debug, PartialEq, Eq)]
+#[derive(Clone, Copy, Debug, PartialEq, Eq, Error)]
+#[error("{needed} pages needed, {free} free")]
 pub struct Full {
     /// The pages that the list needs.
     pub needed: u32,

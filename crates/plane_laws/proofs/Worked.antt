@@ -1,5 +1,5 @@
-use Rattle.iso_defs.specs.Contours.{contours}
 -- Worked contour lines, by computation.
+use Rattle.iso_defs.specs.Contours.{contours}
 use Rattle.std.specs.Prelude.{◌≡◌, ℕ, ℤ, pos, negsuc, [], ◌∷◌, true, false, if◌then◌else◌, ◌==◌}
 use Rattle.std.proofs.Common.{refl}
 

@@ -3,6 +3,7 @@ use Rattle.std.specs.Prelude.{◌≡◌, ℕ, ◌<◌, ◌≤◌, List, length, 
 use Rattle.std.specs.Io.KnownBytes.{Appends, IsAtEnd}
 use Rattle.byte_streams.specs.Causes.{Rose}
 use Rattle.byte_streams.specs.Seen.{Feed, Tape, AppendsFront}
+use Rattle.point_command.specs.Inputs.{HasRead}
 use Rattle.point_command.specs.Volumes.{volume_limit}
 use Rattle.endings.specs.declared.answer.VolumeFault.{VolumeFault}
 use Rattle.endings.specs.declared.answer.Answer.{Answer}
@@ -45,12 +46,23 @@ pub record WritesFront (call : Streams) (text : List ℕ) : Type 0 where
   pub gained : AppendsFront call.output.taken call.output_after.taken text
   pub beside : call.output_after.beside ≡ call.output.beside
 
--- A command that reads a volume from its input and then writes. `given` is the text that an input gives, or why it gives none.
+-- a text was written, or a front of it where the output failed
+abbrev pub WritesText : List ℕ → Streams → Answer → Type 0
+WritesText text call answers.Done = Writes call text
+WritesText text call answers.OutputFault = WritesFront call text
+WritesText text call answer = ⊥
+
+-- so it is where a program tells of itself, and nothing is read
+abbrev pub Tells : List ℕ → Streams → Answer → Type 0
+Tells text call answer = WritesText text call answer × (call.input_after ≡ call.input)
+
+-- A command that reads a volume from its input and then writes. `given` is the text that the bytes of an input give, or why they
+-- give none. Where the input does not tell its bytes, what is written is still the text that some bytes give.
 abbrev pub Converts : (List ℕ → Result (List ℕ) VolumeFault) → Streams → Answer → Type 0
 Converts given call answers.Done =
-    (text : List ℕ) × ReadWhole volume_limit call × IfSome call.input.left (λ bytes. given bytes ≡ Ok text) × Writes call text
+    (bytes : List ℕ) × (text : List ℕ) × HasRead volume_limit call.input call.input_after bytes × (given bytes ≡ Ok text) × Writes call text
 Converts given call answers.OutputFault =
-    (text : List ℕ) × ReadWhole volume_limit call × IfSome call.input.left (λ bytes. given bytes ≡ Ok text) × WritesFront call text
+    (bytes : List ℕ) × (text : List ℕ) × HasRead volume_limit call.input call.input_after bytes × (given bytes ≡ Ok text) × WritesFront call text
 Converts given call answers.InputFault = Rose call.input.faults call.input_after.faults × NothingWritten call
 Converts given call answers.InputTooLong = IfSome call.input.left (λ bytes. volume_limit < length bytes) × NothingWritten call
 Converts given call (answers.BadVolume fault) =

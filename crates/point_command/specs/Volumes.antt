@@ -19,6 +19,7 @@ use Rattle.endings.specs.declared.answer.VolumeFault.{VolumeFault}
 use Rattle.endings.specs.declared.answer.VolumeFault.TheVariants.{Nrrd, Pad, LevelNotAbovePad}
 use Rattle.endings.specs.declared.answer.Answer.{Answer}
 use Rattle.endings.specs.declared.answer.Answer.TheVariants as answers
+use Rattle.point_command.specs.Inputs.{HasRead}
 use Rattle.point_command.specs.declared.reasons.NoVolume.{NoVolume}
 use Rattle.point_command.specs.declared.reasons.NoVolume.TheVariants as reasons
 
@@ -64,9 +65,9 @@ IsNoVolume pad level bytes reasons.Memory = Unit {0}
 
 -- the whole input was read, and these are the crossing edges of its volume
 pub record HoldsEdges (level : ℤ) (old new : Feed) (grid : Grid) (names places : List ℕ) : Type 0 where
-  pub ended : IsAtEnd new.left
-  pub within : IfSome old.left (λ bytes. length bytes ≤ volume_limit)
-  pub whole : IfSome old.left (λ bytes. AreEdgesOfFile bytes level grid names places)
+  pub bytes : List ℕ
+  pub read : HasRead volume_limit old new bytes
+  pub edges : AreEdgesOfFile bytes level grid names places
 
 -- why there is no volume in the input
 abbrev pub HoldsNone : Option ℤ → ℤ → Feed → Feed → Answer → Type 0

@@ -1,8 +1,11 @@
--- What the words of a command line that is `points` ask for.
+-- What the words of a command line that is `points` ask for, or that is a question about the program.
 use Rattle.std.specs.Prelude.{nat_lt, if◌then◌else◌, ℕ, List, [], ◌∷◌, take, drop, codes, bytes_eq, Option, Some, None, ℤ, unsigned_abs}
-use Rattle.std.specs.Option.{option_and_then}
+use Rattle.std.specs.Option.{option_and_then, option_map}
 use Rattle.iso_base.specs.Shifted.{level_limit}
 use Rattle.text_lines.specs.Levels.{level_number_of}
+use Rattle.program_words.specs.Questions.{asks_help, asks_version}
+use Rattle.point_command.specs.declared.words.Asked.{Asked}
+use Rattle.point_command.specs.declared.words.Asked.TheVariants.{Points, Help, Version}
 
 -- a level number within the limit, in thousandths
 abbrev pub within_limit : ℤ → Option ℤ
@@ -23,3 +26,8 @@ level_of_two command option = if bytes_eq command (codes "points") then level_of
 abbrev pub points_level : List (List ℕ) → Option ℤ
 points_level (command ∷ option ∷ []) = level_of_two command option
 points_level words = None
+
+-- what the program is asked for: `--help` alone or behind `points`, `--version` alone, or the points at a level
+abbrev pub asked_of : List (List ℕ) → Option Asked
+asked_of words =
+    if asks_help (codes "points" ∷ []) words then Some Help else if asks_version words then Some Version else option_map Points (points_level words)

@@ -2,13 +2,13 @@
 
 ghost use Rattle.std.specs.Prelude.{◌≡◌, ◌++◌, [], ℤ, None, IfOk, IfErr, length};
 ghost use Rattle.iso_base.specs.Volume.{Voxels};
-ghost use Rattle.byte_streams.specs.Seen.{Puts};
+ghost use Rattle.byte_streams.specs.Seen.{Puts, ReadsWithin};
 ghost use Rattle.mesh_text.specs.Lines.{points_head};
 ghost use Rattle.mesh_write.specs.Edges.{placed_lines};
 ghost use Rattle.file_points.specs.Edges.{AreEdgesOf, AreEdgesOfFile};
 ghost use Rattle.point_command.specs.Meaning.{points_given};
 ghost use Rattle.point_command.specs.Outcome.{Converts, streams_between};
-ghost use Rattle.point_command.specs.Volumes.{HoldsEdges, HoldsNone, IsNoVolume};
+ghost use Rattle.point_command.specs.Volumes.{HoldsEdges, HoldsNone, IsNoVolume, volume_limit};
 
 use crate::input::bytes_of_input;
 use crate::reasons::NoVolume;
@@ -35,6 +35,7 @@ fn edges_of_input<S: Source>(
 ) -> Result<FileEdges, Answer>
     ensures known { IfOk result (λ e. (v : Voxels) × AreEdgesOf v level e.sizes e.edges.names.items e.edges.places.items) }
     ensures edges { IfOk result (λ e. HoldsEdges level (S.seen input.old) (S.seen input.new) e.sizes e.edges.names.items e.edges.places.items) }
+    ensures reading { ReadsWithin volume_limit (S.seen input.old) (S.seen input.new) }
     ensures fault { IfErr result (λ answer. HoldsNone None level (S.seen input.old) (S.seen input.new) answer) }
 {
     let bytes = bytes_of_input(alloc, input)?;
@@ -59,7 +60,8 @@ pub fn points<S: Source, K: Sink>(
     input: &mut S,
     output: &mut K,
 ) -> Answer
-    ensures { Converts (points_given level) (streams_between S.seen K.seen input.old input.new output.old output.new) result }
+    ensures converts { Converts (points_given level) (streams_between S.seen K.seen input.old input.new output.old output.new) result }
+    ensures reading { ReadsWithin volume_limit (S.seen input.old) (S.seen input.new) }
 {
     let edges = match edges_of_input(alloc, input, level) {
         Ok(edges) => edges,

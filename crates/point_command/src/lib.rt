@@ -3,6 +3,7 @@
 #![tactic(auto)]
 
 mod crossings;
+mod help;
 mod input;
 mod reasons;
 mod run;
@@ -11,4 +12,4 @@ mod words;
 pub use crossings::points;
 pub use input::{VOLUME_LIMIT, bytes_of_input};
 pub use reasons::NoVolume;
-pub use run::run_points;
+pub use run::{run_points, tell};

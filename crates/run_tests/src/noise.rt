@@ -1,6 +1,6 @@
 //! Scripts and volumes of pseudo-random bytes, and an input without an end.
 
-ghost use Rattle.byte_streams.specs.Seen.{untold_feed};
+ghost use Rattle.std.specs.Prelude.{None};
 
 use crate::calls::{Outcome, call_of, check_output, outcome_of, outcome_over};
 use crate::faults::worked;
@@ -52,14 +52,17 @@ fn noise_is_refused(rt: HostRuntime) -> Result<(), Fail> {
     Ok(())
 }
 
-/// Gives the byte 0 without end.
+/// Gives the byte 0 without end, and counts its reads.
 #[derive(Drop)]
-struct Zeros;
+struct Zeros {
+    reads: u64,
+}
 
 impl Source for Zeros {
-    ghost seen = { λ _. untold_feed 0 };
+    ghost seen = { λ zeros. record { left = None; reads = zeros.reads; faults = 0 } };
 
     fn read(&mut self, into: &mut [u8]) -> Result<usize, Failed> {
+        self.reads = self.reads.saturating_add(1);
         into.fill(0);
         Ok(into.len())
     }
@@ -68,7 +71,10 @@ impl Source for Zeros {
 #[test]
 fn an_input_without_end_is_too_long(rt: HostRuntime) -> Result<(), Fail> {
     let call = call_of(&["points", "--level=5"], b"");
-    let outcome = outcome_over(rt.alloc(), &call, &mut Zeros)?;
+    let mut zeros = Zeros { reads: 0 };
+    let outcome = outcome_over(rt.alloc(), &call, &mut zeros)?;
     assert_eq!(rt; outcome.status, Status::InputTooLong);
+    // The limit of 640,065,536 bytes lies within the last of these pieces of 65,536.
+    assert_eq!(rt; zeros.reads, 9_767);
     Ok(())
 }

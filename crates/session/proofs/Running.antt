@@ -37,7 +37,7 @@ kept_followed (l ∷ ls) rs w v h = (h.0, h.1, h.2.bench.state, h.2.files, h.3, 
 pub replies_text-append : (xs ys : List (List ℕ)) → replies_text (xs ++ ys) ≡ replies_text xs ++ replies_text ys
 replies_text-append xs ys = flat_map-append (λ (r : List ℕ). r) xs ys
 
-shelf_errors-append : (xs ys : List (List ℕ)) → shelf_errors (xs ++ ys) ≡ shelf_errors xs + shelf_errors ys
+pub shelf_errors-append : (xs ys : List (List ℕ)) → shelf_errors (xs ++ ys) ≡ shelf_errors xs + shelf_errors ys
 shelf_errors-append [] ys = omega arith
 shelf_errors-append (x ∷ xs) ys = omega (arith, shelf_errors-append xs ys)
 

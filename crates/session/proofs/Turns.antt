@@ -26,8 +26,7 @@ use Rattle.session.specs.declared.response.Response.TheVariants.{Line}
 use Rattle.session.specs.Responses.{response_text}
 use Rattle.session.specs.Table.{Turn, contour_reply, measures_reply, report_reply, reply_to_change, reply_to_mesh, reply_to_save, step_of, says_of, writes_of, may_want_memory, after_writing}
 use Rattle.session.specs.Kept.{CommandKeeps, area_of, cache_after, is_done}
-use Rattle.session.specs.Worlds.{CountsBy, scene, shelf_errors}
-use Rattle.session.specs.Loop.{TakesTurn}
+use Rattle.session.specs.Worlds.{CountsBy, TakesTurn, scene, shelf_errors}
 use Rattle.session.proofs.Running.{written_no_error, saved_no_error, contours_no_error, measures_no_error, report_no_error, fault_no_error, one_error}
 
 -- what is answered, by whether a call did what was asked

@@ -3,8 +3,8 @@ ghost use Rattle.std.specs.Prelude.{◌≡◌, ℕ};
 ghost use Rattle.iso_io.specs.Shelves.{Store};
 ghost use Rattle.session.specs.Table.{reply_to_change, reply_to_mesh, reply_to_save};
 ghost use Rattle.session.specs.Responses.{response_text};
-ghost use Rattle.session.specs.Loop.{RanLine, TakesTurn, Told, quits_by};
-ghost use Rattle.session.specs.Worlds.{SameLoans, world_of};
+ghost use Rattle.session.specs.Loop.{RanLine, Told, quits_by};
+ghost use Rattle.session.specs.Worlds.{SameLoans, TakesTurn, world_of};
 
 use crate::after::After;
 use crate::loans::Session;

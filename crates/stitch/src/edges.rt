@@ -205,7 +205,8 @@ fn write_point<T: Packed, K: Sink>(
     Ok(())
 }
 
-/// Whether the points from a place to before an end are eight at which no crossing edge begins.
+/// Whether the points from a place to before an end are eight at which no crossing edge begins. `false` is free: points are then
+/// gone through one by one.
 #[inline(always)]
 fn eight_begin_none(flags: &[u8], start: usize, end: usize) -> bool
     requires order { start ≤ end }

@@ -100,7 +100,8 @@ pub fn edges_to_row<H: Heights>(field: &H, ranks: &RowRanks, total: u32, y: u32,
     total
 }
 
-/// Whether no crossing edge begins in the four rows of points of a row of cells: its cells have no loops then.
+/// Whether no crossing edge begins in the four rows of points of a row of cells: its cells have no loops then. This saves work
+/// and no text rests on it: the contract leaves `false` free.
 pub fn is_quiet<H: Heights>(field: &H, ranks: &RowRanks, total: u32, y: u32, z: u32) -> bool
     requires ranks { AreRowRanks (H.leveled field.now) ranks.now total }
     requires y { y + 1 < (H.leveled field.now).grid.ny }

@@ -17,7 +17,8 @@ use std::simd::prelude::*;
 use std::sync::ledger::Ledger;
 use stitch_rows::{ActiveRow, CellRows, Field, case_row};
 
-/// Whether the eight cases from a place on are one case.
+/// Whether the eight cases from a place on are one case. This saves work and no text rests on it: the contract leaves `false`
+/// free.
 #[inline(always)]
 fn are_same(cases: &[u16], from: usize) -> bool
     requires { from + 8 ≤ length cases.now }
@@ -27,7 +28,7 @@ fn are_same(cases: &[u16], from: usize) -> bool
     eight.simd_eq(u16x8::splat(cases[from])).all()
 }
 
-/// Whether the eight cases from a place on are one case that has no loops.
+/// Whether the eight cases from a place on are one case that has no loops. `false` is free, as above.
 #[inline(always)]
 pub fn have_no_loops(cases: &[u16], from: usize) -> bool
     requires eight { from + 8 ≤ length cases.now }

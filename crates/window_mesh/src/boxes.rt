@@ -10,14 +10,17 @@ use crate::rows::add_row;
 use brick_store::BrickStore;
 use iso_base::{BenchFault, Memory, Point, SizeFault, Sizes, VoxelData};
 use std::alloc::{AllocError, Global};
+use thiserror::Error;
 use voxel_list::{FillBox, VoxelList};
 
 /// Why a box is no window.
-#[derive(Clone, Copy, Debug, PartialEq, Eq)]
+#[derive(Clone, Copy, Debug, PartialEq, Eq, Error)]
 pub enum WindowFault {
     /// An axis has fewer than 2 points of the box; with their number. Axis 0 is x, 1 is y, 2 is z.
+    #[error("{n} points along axis {axis}")]
     Thin { axis: u8, n: u64 },
     /// Memory could not be had.
+    #[error("no memory")]
     Memory,
 }
 

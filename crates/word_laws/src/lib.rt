@@ -3,11 +3,12 @@
 
 ghost use Rattle.command_words.specs.Words.{request_of};
 ghost use Rattle.command_words.specs.declared.request.Request.TheVariants.{Points};
-ghost use Rattle.point_command.specs.Words.{points_level};
+ghost use Rattle.point_command.specs.Words.{asked_of};
+ghost use Rattle.point_command.specs.declared.words.Asked.TheVariants as alone;
 ghost use Rattle.std.specs.Prelude.{List, Some, ℕ, ℤ, ◌↔◌, ◌≡◌};
 
-/// The words from which the program of `points` alone takes a level are those by which the workbench is asked for `points`
-/// at that level.
+/// The words by which the program of `points` alone is asked for the points at a level are those by which the workbench is
+/// asked for them.
 pub fn points_words_agree()
-    ensures { (words : List (List ℕ)) (level : ℤ) → (points_level words ≡ Some level) ↔ (request_of words ≡ Some (Points level)) }
+    ensures { (words : List (List ℕ)) (level : ℤ) → (asked_of words ≡ Some (alone.Points level)) ↔ (request_of words ≡ Some (Points level)) }
 {}

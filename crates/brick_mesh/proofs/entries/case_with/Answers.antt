@@ -5,4 +5,4 @@ use Rattle.brick_mesh.proofs.entries.case_with.Goals as goal
 
 pub returns-clause-value : goal.returns-clause-value
 unfolding case_of
-returns-clause-value g c = c.number.ensures.value ∙ c.row_of.ensures.number ∙ ap₂ case_number c.requires.signs c.joined_with.ensures.faces
+returns-clause-value g c = c.number.ensures.value ∙ c.classify_with.ensures.number ∙ ap₂ case_number c.requires.signs c.joined_with-joined.ensures.faces

@@ -1,6 +1,6 @@
 use Rattle.std.proofs.Common.{None}
 use Rattle.point_command.specs.Volumes.{HoldsNone}
-use Rattle.point_command.proofs.FileEdges.{edges_told, known_edges}
+use Rattle.point_command.proofs.FileEdges.{known_edges}
 use Rattle.point_command.proofs.Passed.{passed_on}
 use Rattle.point_command.proofs.crossings.edges_of_input.Goals as goal
 
@@ -8,7 +8,11 @@ pub returns-clause-known : goal.returns-clause-known
 returns-clause-known g c = known_edges _ _ _ _ _ c.in_ok-edges_in.ensures.edges
 
 pub returns-clause-edges : goal.returns-clause-edges
-returns-clause-edges g c = edges_told _ _ _ _ _ _ _ c.in_ok-bytes.ensures.all c.in_ok-bytes.ensures.within c.in_ok-edges_in.ensures.edges
+returns-clause-edges g c = record {
+  bytes = c.in_ok-bytes.bytes.items;
+  read = record { all = c.in_ok-bytes.ensures.all; within = c.in_ok-bytes.ensures.within };
+  edges = c.in_ok-edges_in.ensures.edges;
+}
 
 pub returns-in_err-bytes-clause-fault : goal.returns-in_err-bytes-clause-fault
 returns-in_err-bytes-clause-fault g c =

@@ -3,7 +3,7 @@ use Rattle.bench_core.specs.Keeping.{Keeps, fill_area, set_area}
 use Rattle.bench_core.specs.Machine.{IsStep, IsSureStep, set_step, fill_step, level_step, three_from}
 use Rattle.script.specs.declared.command.Command.TheVariants.{Set, Fill, Level, Undo, Redo, Save, SaveText, SaveHex, Window, Contour, Report, Measure}
 use Rattle.session.specs.Responses.{response_text}
-use Rattle.session.specs.Loop.{TakesTurn}
+use Rattle.session.specs.Worlds.{TakesTurn}
 use Rattle.session.proofs.Turns.{change_by, fill_by, stays_keeps, turn_by, work_by}
 use Rattle.session.proofs.turn.run_command.Goals as goal
 

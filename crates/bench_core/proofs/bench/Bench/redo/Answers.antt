@@ -42,8 +42,8 @@ follow-requires-clause-grid c =
 pub follow-requires-clause-filled : goal.follow-requires-clause-filled
 follow-requires-clause-filled c =
     let b = c.self.inside in
-    filled_after c.in-Some.change.now b.store c.make.new.store b.level c.make.new.level c.value-value.result c.area-area.result
-    c.self.invariant.0.state.volume c.make.ensures c.area-area.ensures c.value-value.ensures
+    filled_after c.in-Some.change.now b.store c.make.new.store b.level c.make.new.level c.value-filled.result c.area-area.result
+    c.self.invariant.0.state.volume c.make.ensures c.area-area.ensures c.value-filled.ensures
 
 pub invariant_of-self-2 : goal.invariant_of-self-2
 invariant_of-self-2 c =

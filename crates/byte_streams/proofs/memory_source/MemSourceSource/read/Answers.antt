@@ -15,5 +15,6 @@ returns-clause-reads c =
     let rest : c.split_at.result.1.now ≡ drop c.self.inside.at c.self.inside.bytes.items = c.split_at.ensures.back ∙ ap (drop c.self.inside.at) c.deref-2.ensures.value in
     record {
       bytes = (parts c.self.inside.bytes.items c.copy_front-count.new.into c.split_at.result.1.now c.args.self.now.left c.self.inside.at c.copy_front-count.result left rest c.copy_front-count.ensures.same, λ none _. ended c.self.inside.bytes.items c.split_at.result.1.now c.self.inside.at c.copy_front-count.result rest (c.copy_front-count.ensures.none none));
+      counted = search rules;
       cause = search rules;
     }

@@ -1,0 +1,8 @@
+//! What stands round a program: its words, the standard streams and its exit status.
+#![tactic(auto)]
+
+mod program;
+mod words;
+
+pub use program::{Program, run_program};
+pub use words::words_of;
