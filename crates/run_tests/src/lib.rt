@@ -12,20 +12,13 @@ mod faults;
 #[cfg(test)]
 mod generate;
 #[cfg(test)]
-<<<<<<< HEAD
-=======
 mod help;
 #[cfg(test)]
->>>>>>> c0f747d1e0f89ed7a72efd5e38c2a7a5c71d2470
 mod malformed;
 #[cfg(test)]
 mod noise;
 #[cfg(test)]
-<<<<<<< HEAD
-mod printed;
-=======
 mod reads;
->>>>>>> c0f747d1e0f89ed7a72efd5e38c2a7a5c71d2470
 #[cfg(test)]
 mod scripts;
 #[cfg(test)]
