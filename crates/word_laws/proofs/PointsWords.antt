@@ -71,8 +71,8 @@ taken (command ∷ words) level e = decide (bytes_eq command (codes "points"))
 -- ---- and no question about the program
 
 other_than : {A : Type 0} (b : Bool) (x y z : Option A) → cond b x y ≡ z → (x ≡ z → ⊥) → (b ≡ false) × (y ≡ z)
-other_than true x y z e no = absurd (no e)
-other_than false x y z e no = (refl, e)
+other_than true x y z e differ = absurd (differ e)
+other_than false x y z e differ = (refl, e)
 
 of_false : {A : Type 0} (b : Bool) (x y : Option A) → b ≡ false → cond b x y ≡ y
 of_false b x y f = rw f refl
@@ -81,7 +81,7 @@ and_false : (b : Bool) → (b && false) ≡ false
 and_false true = refl
 and_false false = refl
 
-no_choice : (b : Bool) (level : ℤ) → cond b None (None {A = ℤ}) ≡ Some level → ⊥
+no_choice : (b : Bool) (level : ℤ) → cond b None None ≡ Some level → ⊥
 no_choice true level e = absurd cc
 no_choice false level e = absurd cc
 
