@@ -57,6 +57,8 @@ fn told(alloc: Global, request: Request) -> Result<String, AllocError> {
             format!(in alloc; "gen {seed} {} {} {}", sizes.nx(), sizes.ny(), sizes.nz())
         }
         Request::Soak { seed } => format!(in alloc; "soak {seed}"),
+        Request::Help => String::from_str(alloc, "help"),
+        Request::Version => String::from_str(alloc, "version"),
     }
 }
 
@@ -114,6 +116,9 @@ const COMMAND_LINES: &[(&str, &str)] = &[
     ("soak 000000000000000007", "soak 7"),
     ("check ply", "check ply"),
     ("check obj", "check obj"),
+    ("--help", "help"),
+    ("session --help", "help"),
+    ("--version", "version"),
 ];
 
 #[test]
@@ -126,7 +131,7 @@ fn command_lines_are_read(rt: HostRuntime) -> Result<(), Fail> {
 
 /// One line of words after another. The first has none.
 const OTHER_WORDS: &str =
-    "\nextract\npoints --level 5\nextract --level=5 --level=5\npoints --level=5 --pad=0\nsession --level=5\ncheck ply x\n--level=5 points\npoints --level=\npoints --level=8589934592\npoints --level=8589934592.001\npoints --level=-8589934592\npoints --level=0000000000000000005\npoints --level=0000000000000000005.5\nextract --level=0.0005\npoints --level=.5\npoints --level=5.\npoints --level=+1\npoints --level=1e3\npoints --level=1.5.5\nextract --level=5 --pad=0.5\npoints -- --level=5\npoints --level=5 -\npoints --levels=5\nextract --level=0 --pad=4294967296\nextract --level=0 --pad=-2147483649\nextract --format=PLY --level=5\nsession --level=5 -a\nsession --level=5 a b\nsession --level=5 --bricks=0 a\nsession --level=5 --bricks=65537 a\nsession --level=5 --bricks=0000000001 a\nsession --level=5 --bricks=-1 a\nsession --level=5 --bricks=1 --bricks=1 a\nsession --level=5 --pages=15 a\nsession --level=5 --pages=1048577 a\nsession --level=5 --pages= a\nextract --level=5 --bricks=1\ncheck stl\ncheck --format=ply\ngen 0 1 2 2\ngen 0 2 2\ngen 0 2 2 2 2\ngen -0 2 2 2\ngen 0 2 1027 2\ngen 0 1026 1026 1026\ngen 0 2 2 -2\ngen 1000000000000000000 2 2 2\ngen --seed=0 2 2 2\nsoak\nsoak 7 7\nsoak -0\nsoak 7.5\nsoak 1000000000000000000";
+    "\nextract\npoints --level 5\nextract --level=5 --level=5\npoints --level=5 --pad=0\nsession --level=5\ncheck ply x\n--level=5 points\npoints --level=\npoints --level=8589934592\npoints --level=8589934592.001\npoints --level=-8589934592\npoints --level=0000000000000000005\npoints --level=0000000000000000005.5\nextract --level=0.0005\npoints --level=.5\npoints --level=5.\npoints --level=+1\npoints --level=1e3\npoints --level=1.5.5\nextract --level=5 --pad=0.5\npoints -- --level=5\npoints --level=5 -\npoints --levels=5\nextract --level=0 --pad=4294967296\nextract --level=0 --pad=-2147483649\nextract --format=PLY --level=5\nsession --level=5 -a\nsession --level=5 a b\nsession --level=5 --bricks=0 a\nsession --level=5 --bricks=65537 a\nsession --level=5 --bricks=0000000001 a\nsession --level=5 --bricks=-1 a\nsession --level=5 --bricks=1 --bricks=1 a\nsession --level=5 --pages=15 a\nsession --level=5 --pages=1048577 a\nsession --level=5 --pages= a\nextract --level=5 --bricks=1\ncheck stl\ncheck --format=ply\ngen 0 1 2 2\ngen 0 2 2\ngen 0 2 2 2 2\ngen -0 2 2 2\ngen 0 2 1027 2\ngen 0 1026 1026 1026\ngen 0 2 2 -2\ngen 1000000000000000000 2 2 2\ngen --seed=0 2 2 2\nsoak\nsoak 7 7\nsoak -0\nsoak 7.5\nsoak 1000000000000000000\nhelp\nversion\n--help points\n--help --help\n--version --help\npoints --version\npoints --help --level=5\npoints --level=5 --help";
 
 #[test]
 fn other_words_are_refused(rt: HostRuntime) -> Result<(), Fail> {
