@@ -12,7 +12,8 @@ as a comment of the page:
     <!-- needs TOOL -->    it is passed over where TOOL is not on the path
     <!-- not run: WHY -->  it is never run here
 
-Then each link of a page to a file of this repository, with its place in it, is looked up.
+Then each link of a page to a file of this repository, with its place in it, is looked up; and so is what guarantees.md names:
+each call `crate::call` and `crate::Type::call`, each clause of `commands::run`, and the number of lines of each file.
 """
 import os
 import pathlib
@@ -27,6 +28,9 @@ PROGRAM = TOP / "crates" / "isobench" / "out" / "isobench"
 FENCE = re.compile(r"^```(\w*)$")
 MARK = re.compile(r"^<!-- (needs|not run:) (.*) -->$")
 LINK = re.compile(r"\]\(([^)\s]+)\)")
+CALL = re.compile(r"`([a-z_]+)((?:::\w+)+)`")
+LINES = re.compile(r"^\| `(crates/\S+)` \| (\d+) \|", re.MULTILINE)
+CLAUSES = re.compile(r"^\| [^|]* \| ((?:`[a-z_]+`(?:, )?)+) \|$", re.MULTILINE)
 
 
 def pages():
@@ -114,6 +118,29 @@ def lost_links(page):
     return lost
 
 
+def sources_of(crate):
+    return "\n".join(file.read_text(encoding="utf-8") for file in sorted((TOP / "crates" / crate / "src").glob("*.rt")))
+
+
+def lost_names(page):
+    """What a page on guarantees names and the code does not have, and files with another number of lines."""
+    text = page.read_text(encoding="utf-8")
+    for crate, path in sorted(set(CALL.findall(text))):
+        source = sources_of(crate)
+        names = path.split("::")[1:]
+        if not all(re.search(rf"\b(fn|struct|enum|trait) {name}\b|pub use [^;]*\b{name}\b", source) for name in names):
+            yield f"no call {crate}{path}"
+    run = sources_of("commands")
+    for row in CLAUSES.findall(text):
+        for clause in re.findall(r"`([a-z_]+)`", row):
+            if f"ensures {clause} {{" not in run:
+                yield f"no clause {clause}"
+    for file, count in LINES.findall(text):
+        found = (TOP / file).read_text(encoding="utf-8").count("\n") if (TOP / file).exists() else None
+        if found != int(count):
+            yield f"{file} has {found} lines"
+
+
 def main():
     words = sys.argv[1:]
     if words not in ([], ["--list"]):
@@ -131,6 +158,9 @@ def main():
         with tempfile.TemporaryDirectory() as room:
             shutil.copytree(TOP / "examples", f"{room}/examples")
             wrong += run_page(page, room if page.parent == TOP else f"{room}/examples")
+    for lost in lost_names(TOP / "docs" / "guarantees.md"):
+        wrong += 1
+        print(f"docs/guarantees.md: {lost}")
     if not words and not PROGRAM.exists():
         print("crates/isobench/out/isobench is not built")
     sys.exit(1 if wrong else 0)
