@@ -1,8 +1,8 @@
 #!/usr/bin/env python3
 """Draws the crates into docs/architecture.md, from crates.txt.
 
-    python3 tools/draw_crates.py            draws them between the two marks
-    python3 tools/draw_crates.py --check    ends with 1 if what stands there is not what would be drawn
+    python3 tools/draw_crates.py            ends with 1 if what stands there is not what would be drawn
+    python3 tools/draw_crates.py --write    draws them between the two marks
 
 Two figures: the crates by height, where a crate stands one above the highest that it names; and a graph, in which an arrow
 leads from a crate to one that it names, unless it stands on that one by way of another as well. Crates of tests and of runs
@@ -75,14 +75,19 @@ def graph(named):
 
 
 def main():
+    words = sys.argv[1:]
+    if words not in ([], ["--write"], ["--check"]):
+        print(__doc__, end="")
+        sys.exit(0 if words == ["--help"] else 2)
     named = crates()
     page = PAGE.read_text(encoding="utf-8")
     before, rest = page.split(BEGIN)
     after = rest.split(END)[1]
     drawn = before + "\n".join([BEGIN, "", *by_height(named), "", *graph(named), "", END]) + after
-    if sys.argv[1:] == ["--check"]:
-        sys.exit(0 if drawn == page else f"{PAGE.relative_to(TOP)} is not as {sys.argv[0]} draws it")
-    PAGE.write_text(drawn, encoding="utf-8")
+    if words == ["--write"]:
+        PAGE.write_text(drawn, encoding="utf-8")
+        sys.exit(0)
+    sys.exit(0 if drawn == page else f"{PAGE.relative_to(TOP)} is not as tools/draw_crates.py draws it")
 
 
 main()

@@ -1,0 +1,169 @@
+#!/usr/bin/env python3
+"""Runs the commands that README.md and docs/ show, and compares what they print with what is shown.
+
+    python3 tools/check_docs.py            runs all of them, and ends with 1 where anything differs
+    python3 tools/check_docs.py --list     says what would be run, and what would not, and runs nothing
+
+Each block marked `sh` is run by bash, the blocks of one page one after another, in a copy of examples/ (those of README.md
+in the folder above it), with the built program on the path; what is printed is compared with the next block without a mark,
+if that follows before the next `sh` block. Where that ends with a line `..`, more may be printed. Above a block may stand,
+as a comment of the page:
+
+    <!-- needs TOOL -->    it is passed over where TOOL is not on the path
+    <!-- not run: WHY -->  it is never run here
+
+Then each link of a page to a file of this repository, with its place in it, is looked up; and so is what guarantees.md names:
+each call `crate::call` and `crate::Type::call`, each clause of `commands::run`, and the number of lines of each file.
+"""
+import os
+import pathlib
+import re
+import shutil
+import subprocess
+import sys
+import tempfile
+
+TOP = pathlib.Path(__file__).resolve().parent.parent
+PROGRAM = TOP / "crates" / "isobench" / "out" / "isobench"
+FENCE = re.compile(r"^```(\w*)$")
+MARK = re.compile(r"^<!-- (needs|not run:) (.*) -->$")
+LINK = re.compile(r"\]\(([^)\s]+)\)")
+CALL = re.compile(r"`([a-z_]+)((?:::\w+)+)`")
+LINES = re.compile(r"^\| `(crates/\S+)` \| (\d+) \|", re.MULTILINE)
+CLAUSES = re.compile(r"^\| [^|]* \| ((?:`[a-z_]+`(?:, )?)+) \|$", re.MULTILINE)
+
+
+def pages():
+    return [TOP / "README.md", TOP / "CHANGELOG.md", TOP / "examples" / "README.md", *sorted((TOP / "docs").glob("*.md"))]
+
+
+def blocks_of(page):
+    """Each block of a page: its line, its mark, its text, and the comment above it."""
+    blocks, inside, above = [], None, None
+    for number, line in enumerate(page.read_text(encoding="utf-8").splitlines(), 1):
+        fence = FENCE.match(line)
+        if inside is None and fence:
+            inside = (number, fence[1], [], above)
+        elif inside is not None and line == "```":
+            blocks.append((inside[0], inside[1], "".join(f"{it}\n" for it in inside[2]), inside[3]))
+            inside, above = None, None
+        elif inside is not None:
+            inside[2].append(line)
+        elif line.strip():
+            above = MARK.match(line)
+    return blocks
+
+
+def steps_of(page):
+    """Each block of commands with what it is to print, if that is shown."""
+    steps = []
+    for line, mark, text, above in blocks_of(page):
+        if mark == "sh":
+            steps.append([line, text, above, None])
+        elif mark == "" and steps and steps[-1][3] is None:
+            steps[-1][3] = text
+    return steps
+
+
+def why_not(above):
+    if above and above[1] == "not run:":
+        return above[2]
+    if above and not shutil.which(above[2]):
+        return f"{above[2]} is not on the path"
+    return None
+
+
+def run_page(page, folder):
+    """How many blocks of a page differ."""
+    wrong = 0
+    paths = [str(PROGRAM.parent), *os.environ["PATH"].split(os.pathsep)]
+    for line, text, above, shown in steps_of(page):
+        name = f"{page.relative_to(TOP)}:{line}"
+        if why_not(above):
+            print(f"{name}: not run, {why_not(above)}")
+            continue
+        ran = subprocess.run(["bash", "-e", "-o", "pipefail", "-c", text], cwd=folder, env={**os.environ, "PATH": os.pathsep.join(paths)},
+                             stdin=subprocess.DEVNULL, stdout=subprocess.PIPE, stderr=subprocess.STDOUT, timeout=120)
+        printed = ran.stdout.decode("utf-8", "replace")
+        if shown is not None and not is_shown(printed, shown):
+            wrong += 1
+            print(f"{name}: prints\n{printed}in place of\n{shown}", end="")
+        elif shown is None and ran.returncode != 0:
+            wrong += 1
+            print(f"{name}: ends with status {ran.returncode}\n{printed}", end="")
+    return wrong
+
+
+def is_shown(printed, shown):
+    """Whether that is what was printed; a last line `..` stands for the rest."""
+    return printed.startswith(shown[:-3]) if shown.endswith("\n..\n") else printed == shown
+
+
+def places_in(page):
+    """The places of a page that a link may name."""
+    heads = re.findall(r"^#+ (.*)$", page.read_text(encoding="utf-8"), re.MULTILINE)
+    return {re.sub(r"[^\w\- ]", "", head.lower()).replace(" ", "-") for head in heads}
+
+
+def lost_links(page):
+    """The links of a page that lead nowhere in the repository."""
+    lost = []
+    for link in LINK.findall(page.read_text(encoding="utf-8")):
+        name, _, place = link.partition("#")
+        if "://" in name:
+            continue
+        file = (page.parent / name).resolve() if name else page
+        if not file.exists() or place and file.suffix == ".md" and place not in places_in(file):
+            lost.append(link)
+    return lost
+
+
+def sources_of(crate):
+    return "\n".join(file.read_text(encoding="utf-8") for file in sorted((TOP / "crates" / crate / "src").glob("*.rt")))
+
+
+def lost_names(page):
+    """What a page on guarantees names and the code does not have, and files with another number of lines."""
+    text = page.read_text(encoding="utf-8")
+    for crate, path in sorted(set(CALL.findall(text))):
+        source = sources_of(crate)
+        names = path.split("::")[1:]
+        if not all(re.search(rf"\b(fn|struct|enum|trait) {name}\b|pub use [^;]*\b{name}\b", source) for name in names):
+            yield f"no call {crate}{path}"
+    run = sources_of("commands")
+    for row in CLAUSES.findall(text):
+        for clause in re.findall(r"`([a-z_]+)`", row):
+            if f"ensures {clause} {{" not in run:
+                yield f"no clause {clause}"
+    for file, count in LINES.findall(text):
+        found = (TOP / file).read_text(encoding="utf-8").count("\n") if (TOP / file).exists() else None
+        if found != int(count):
+            yield f"{file} has {found} lines"
+
+
+def main():
+    words = sys.argv[1:]
+    if words not in ([], ["--list"]):
+        print(__doc__, end="")
+        sys.exit(0 if words == ["--help"] else 2)
+    wrong = 0
+    for page in filter(pathlib.Path.exists, pages()):
+        for link in lost_links(page):
+            wrong += 1
+            print(f"{page.relative_to(TOP)}: no file or place {link}")
+        if words:
+            for line, _, above, shown in steps_of(page):
+                print(f"{page.relative_to(TOP)}:{line}: {why_not(above) or ('run and compared' if shown else 'run')}")
+            continue
+        with tempfile.TemporaryDirectory() as room:
+            shutil.copytree(TOP / "examples", f"{room}/examples")
+            wrong += run_page(page, room if page.parent == TOP else f"{room}/examples")
+    for lost in lost_names(TOP / "docs" / "guarantees.md"):
+        wrong += 1
+        print(f"docs/guarantees.md: {lost}")
+    if not words and not PROGRAM.exists():
+        print("crates/isobench/out/isobench is not built")
+    sys.exit(1 if wrong else 0)
+
+
+main()

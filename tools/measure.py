@@ -1,0 +1,202 @@
+#!/usr/bin/env python3
+"""Measures isobench, and beside it VTK and scikit-image where they are installed, on volumes that it makes itself.
+
+    python3 tools/measure.py [--program PATH] [--size N] [--rounds R] [--instructions] [--write]
+
+prints the tables of docs/performance.md; with --write it puts them there. PATH is a built isobench, without the option the
+one of this checkout; N the points along each axis (128); of R rounds (5) the best counts. Peak memory wants Debian's package
+`time`; --instructions counts those of `extract` by valgrind, which takes minutes. VTK and scikit-image are asked for by the
+system's python3 (Debian: python3-vtk9, python3-skimage), each in a process of its own that reads the same file, extracts
+and, VTK, writes ASCII PLY; the time of importing them is taken off. Measure on a quiet machine.
+"""
+import argparse
+import array
+import os
+import pathlib
+import shutil
+import subprocess
+import sys
+import tempfile
+import time
+
+TOP = pathlib.Path(__file__).resolve().parent.parent
+PAGE = TOP / "docs" / "performance.md"
+BEGIN, END = "<!-- written by tools/measure.py -->", "<!-- end of what is written -->"
+
+READ = """
+import sys, time, numpy
+def volume(path):
+    text = open(path, "rb").read()
+    head, _, samples = text.partition(b"\\n\\n")
+    sizes = [int(w) for w in head.split(b"sizes: ")[1].split(b"\\n")[0].split()]
+    return sizes, numpy.frombuffer(samples, "int16" if b"int16" in head else "uint8", sizes[0] * sizes[1] * sizes[2]).reshape(sizes[::-1])
+"""
+OTHERS = {
+    "VTK flying edges": ("import vtk\nfrom vtk.util import numpy_support\n", """
+start = time.perf_counter()
+sizes, samples = volume(sys.argv[1])
+image = vtk.vtkImageData()
+image.SetDimensions(*sizes)
+image.GetPointData().SetScalars(numpy_support.numpy_to_vtk(samples.ravel()))
+edges = vtk.vtkFlyingEdges3D()
+edges.SetInputData(image)
+edges.SetValue(0, float(sys.argv[2]))
+edges.ComputeNormalsOff()
+edges.Update()
+extracted = time.perf_counter()
+writer = vtk.vtkPLYWriter()
+writer.SetFileName(sys.argv[3])
+writer.SetFileTypeToASCII()
+writer.SetInputConnection(edges.GetOutputPort())
+writer.Write()
+print(extracted - start, time.perf_counter() - start, edges.GetOutput().GetNumberOfPolys())
+"""),
+    "scikit-image": ("from skimage import measure\n", """
+start = time.perf_counter()
+sizes, samples = volume(sys.argv[1])
+vertices, faces, _, _ = measure.marching_cubes(samples, float(sys.argv[2]))
+extracted = time.perf_counter()
+print(extracted - start, float("nan"), len(faces))
+"""),
+}
+
+
+def head(kind, size):
+    order = "" if kind == "uint8" else "endian: little\n"
+    return f"NRRD0004\ntype: {kind}\ndimension: 3\nsizes: {size} {size} {size}\n{order}encoding: raw\n\n".encode()
+
+
+def sphere(size):
+    """Samples that fall with the squared distance from the middle."""
+    middle, radius = size - 1, (0.8 * size) ** 2
+    samples = bytearray()
+    for z in range(size):
+        for y in range(size):
+            rest = radius - (2 * y - middle) ** 2 - (2 * z - middle) ** 2
+            samples += bytes(max(0, min(255, int(128 + (rest - (2 * x - middle) ** 2) / (2.0 * size)))) for x in range(size))
+    return bytes(samples)
+
+
+def noise(size, state=7):
+    samples = bytearray(size ** 3)
+    for i in range(len(samples)):
+        state = (6364136223846793005 * state + 1442695040888963407) & (2 ** 64 - 1)
+        samples[i] = state >> 56
+    return bytes(samples)
+
+
+def volumes(program, size):
+    """Name, level, options, and the bytes of the file."""
+    smooth = sphere(size)
+    wide = array.array("h", (100 * sample - 12800 for sample in smooth))
+    if sys.byteorder == "big":
+        wide.byteswap()
+    blocks = subprocess.run([program, "gen", "7", *3 * [str(size)]], stdout=subprocess.PIPE, check=True).stdout
+    return [
+        ("sphere, uint8", "128.5", [], head("uint8", size) + smooth),
+        ("sphere, uint8, padded", "128.5", ["--pad=0"], head("uint8", size) + smooth),
+        ("sphere, int16", "0.5", [], head("int16", size) + wide.tobytes()),
+        ("sphere, int16, padded", "0.5", ["--pad=-32768"], head("int16", size) + wide.tobytes()),
+        ("blocks of `gen 7`", "128.5", [], blocks),
+        ("noise, uint8", "128.5", [], head("uint8", size) + noise(size)),
+    ]
+
+
+def seconds_of(words, folder, given=None, script=b""):
+    """Seconds of a run, whose output goes to a new file."""
+    output = folder / "output"
+    output.unlink(missing_ok=True)
+    with open(given or os.devnull, "rb") as stdin, open(output, "wb") as stdout:
+        start = time.perf_counter()
+        child = subprocess.Popen(words, cwd=folder, stdin=subprocess.PIPE if script else stdin, stdout=stdout)
+        child.communicate(script or None)
+        took = time.perf_counter() - start
+    if child.returncode:
+        sys.exit(f"{' '.join(words)} ends with {child.returncode}")
+    return took
+
+
+def peak_of(words, folder, given):
+    """Peak memory of a run in MB, if it can be told."""
+    if not os.path.exists("/usr/bin/time"):
+        return float("nan")
+    with open(given, "rb") as stdin:
+        subprocess.run(["/usr/bin/time", "-f", "%M", "-o", folder / "peak", *words], cwd=folder, stdin=stdin, stdout=subprocess.DEVNULL, check=True)
+    return int((folder / "peak").read_text()) / 1024
+
+
+def instructions_of(words, folder, given):
+    with open(given, "rb") as stdin:
+        ran = subprocess.run(["valgrind", "--tool=callgrind", "--callgrind-out-file=/dev/null", *words], cwd=folder, stdin=stdin,
+                             stdout=subprocess.DEVNULL, stderr=subprocess.PIPE)
+    counted = [line for line in ran.stderr.decode().splitlines() if "Collected" in line]
+    return int(counted[0].split(":")[1]) / 1e6 if counted else float("nan")
+
+
+def others(name, folder, level, rounds):
+    """Seconds to extract and to write too, and triangles, of another program; None where it is not installed."""
+    imports, body = OTHERS[name]
+    python = "/usr/bin/python3" if os.path.exists("/usr/bin/python3") else sys.executable
+    found = []
+    for _ in range(rounds):
+        ran = subprocess.run([python, "-c", imports + READ + body, "volume", level, "other.ply"], cwd=folder, stdout=subprocess.PIPE, stderr=subprocess.DEVNULL)
+        if ran.returncode:
+            return None
+        found.append([float(word) for word in ran.stdout.split()])
+    return [min(column) for column in zip(*found)]
+
+
+def shown(number, digits=3):
+    return "" if number != number else f"{number:.{digits}f}"
+
+
+def tables(program, size, rounds, counts):
+    """The lines of both tables."""
+    first = ["| volume | `extract` s | peak MB |" + (" million instructions |" if counts else "") + " triangles | VTK: extract s | and write s | triangles | scikit-image: extract s | triangles |"]
+    first.append("|---" * (first[0].count("|") - 1) + "|")
+    second = ["| volume | open s | first `ply` s | `set` and `ply` s | `report` s | `measure` s | peak MB |", "|---|---|---|---|---|---|---|"]
+    with tempfile.TemporaryDirectory() as room:
+        folder = pathlib.Path(room)
+        for name, level, options, text in volumes(program, size):
+            given = folder / "volume"
+            given.write_bytes(text)
+            words = [program, "extract", f"--level={level}", *options]
+            row = [name, shown(min(seconds_of(words, folder, given) for _ in range(rounds))), shown(peak_of(words, folder, given), 1)]
+            faces = next(line for line in (folder / "output").open("rb") if line.startswith(b"element face")) if seconds_of(words, folder, given) else b""
+            row += [shown(instructions_of(words, folder, given), 0)] if counts else []
+            row.append(faces.split()[2].decode())
+            for other, cells in (("VTK flying edges", 3), ("scikit-image", 2)):
+                told = None if options else others(other, folder, level, rounds)
+                row += [""] * cells if told is None else [shown(told[0])] + [shown(told[1])] * (cells - 2) + [str(int(told[2]))]
+            first.append("| " + " | ".join(row) + " |")
+            session = [program, "session", f"--level={level}", *options, "volume"]
+            took = {lines: min(seconds_of(session, folder, script=lines.encode()) for _ in range(rounds))
+                    for lines in ("quit\n", "ply a\n", "ply a\nset 9 9 9 1\nply b\n", "report\n", "measure\n")}
+            opened, once, twice, report, measured = took.values()
+            (folder / "script").write_text("ply a\n")
+            parts = [opened, once - opened, twice - once, report - opened, measured - opened]
+            second.append("| " + " | ".join([name, *map(shown, parts), shown(peak_of(session, folder, folder / "script"), 1)]) + " |")
+    return first, second
+
+
+def main():
+    parser = argparse.ArgumentParser(description=__doc__, formatter_class=argparse.RawDescriptionHelpFormatter)
+    parser.add_argument("--program", default=str(TOP / "crates" / "isobench" / "out" / "isobench"))
+    parser.add_argument("--size", type=int, default=128)
+    parser.add_argument("--rounds", type=int, default=5)
+    parser.add_argument("--instructions", action="store_true")
+    parser.add_argument("--write", action="store_true")
+    args = parser.parse_args()
+    program = os.path.abspath(args.program)
+    counts = args.instructions and bool(shutil.which("valgrind"))
+    first, second = tables(program, args.size, args.rounds, counts)
+    said = [f"Volumes of {args.size} points along each axis; best of {args.rounds}.", "", *first, "", *second]
+    if not args.write:
+        print("\n".join(said))
+        return
+    before, rest = PAGE.read_text(encoding="utf-8").split(BEGIN)
+    PAGE.write_text(before + "\n".join([BEGIN, "", *said, "", END]) + rest.split(END)[1], encoding="utf-8")
+
+
+if __name__ == "__main__":
+    main()
