@@ -1,0 +1,28 @@
+//! Samples that are asked for where they lie.
+ghost use Rattle.std.specs.Prelude.{◌≡◌, ◌+◌, ◌<◌, ◌≤◌, ℤ, All, List, drop, length, map, take};
+ghost use Rattle.iso_base.specs.Volume.{sample};
+ghost use Rattle.samples.specs.Signs.{sign_of};
+
+use crate::number::Packed;
+use iso_base::Level;
+
+/// The samples of a volume, listed with x fastest and z slowest: numbers in memory, bytes of a file, or any of these in a pad.
+pub trait Samples {
+    ghost list: { Self → List ℤ };
+
+    /// The sample of an index.
+    fn at(&self, point: u32) -> i64
+        requires { point < length (list self.now) }
+        ensures { result ≡ sample (list self.now) point };
+
+    /// Copies the samples from an index on over the numbers of a slice, as many as it has, in the width of these.
+    fn copy_run<T: Packed>(&self, start: u32, into: &mut [T])
+        requires room { start + length into.old ≤ length (list self.now) }
+        requires fits { All T.Fits (take (length into.old) (drop start (list self.now))) }
+        ensures { map T.value into.new ≡ take (length into.old) (drop start (list self.now)) };
+
+    /// Writes 1 for each sample above the level, and 0 for each other, from an index on, as many as there is room for.
+    fn put_signs(&self, start: u32, level: Level, into: &mut [u8])
+        requires { start + length into.old ≤ length (list self.now) }
+        ensures { into.new ≡ map (sign_of level) (take (length into.old) (drop start (list self.now))) };
+}
