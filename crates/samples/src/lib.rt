@@ -3,10 +3,12 @@
 
 mod list;
 mod number;
+mod pad;
 mod samples;
 mod signs;
 
-pub use list::Numbers;
+pub use list::{Numbers, converted};
 pub use number::{Packed, sample_at};
-pub use samples::Samples;
-pub use signs::put_signs;
+pub use pad::Padded;
+pub use samples::{Samples, all_signs};
+pub use signs::{put_signs, sample_sign, sign};

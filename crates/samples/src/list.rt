@@ -4,7 +4,7 @@ ghost use Rattle.std.specs.Prelude.{◌≡◌, All, length, map};
 use crate::number::{Packed, sample_at};
 use crate::samples::Samples;
 use crate::signs::put_signs;
-use iso_base::Level;
+use iso_base::{Level, VoxelData};
 use voxel_list::VoxelList;
 
 /// Samples in memory, in a width of their own.
@@ -55,6 +55,26 @@ impl<'a, T: Packed> Samples for Numbers<'a, T> {
 }
 
 impl Samples for VoxelList {
+    ghost list = { λ v. v.samples };
+
+    #[inline(always)]
+    fn at(&self, point: u32) -> i64 {
+        self.samples()[point as usize]
+    }
+
+    #[inline(always)]
+    fn copy_run<U: Packed>(&self, start: u32, into: &mut [U]) {
+        let start = start as usize;
+        copy_all(&self.samples()[start..start + into.len()], into);
+    }
+
+    fn put_signs(&self, start: u32, level: Level, into: &mut [u8]) {
+        let start = start as usize;
+        put_signs(&self.samples()[start..start + into.len()], level, into);
+    }
+}
+
+impl Samples for VoxelData {
     ghost list = { λ v. v.samples };
 
     #[inline(always)]

@@ -1,10 +1,12 @@
 //! Samples that are asked for where they lie.
-ghost use Rattle.std.specs.Prelude.{◌≡◌, ◌+◌, ◌<◌, ◌≤◌, ℤ, All, List, drop, length, map, take};
+ghost use Rattle.std.specs.Prelude.{◌≡◌, ◌+◌, ◌<◌, ◌≤◌, ℤ, All, IfOk, List, drop, length, map, take};
+ghost use Rattle.iso_defs.specs.Grid.{point_count};
 ghost use Rattle.iso_base.specs.Volume.{sample};
 ghost use Rattle.samples.specs.Signs.{sign_of};
 
 use crate::number::Packed;
-use iso_base::Level;
+use iso_base::{Level, Sizes};
+use std::alloc::{AllocError, Global};
 
 /// The samples of a volume, listed with x fastest and z slowest: numbers in memory, bytes of a file, or any of these in a pad.
 pub trait Samples {
@@ -25,4 +27,19 @@ pub trait Samples {
     fn put_signs(&self, start: u32, level: Level, into: &mut [u8])
         requires { start + length into.old ≤ length (list self.now) }
         ensures { into.new ≡ map (sign_of level) (take (length into.old) (drop start (list self.now))) };
+}
+
+/// 1 for each sample of a grid that is above the level, else 0.
+pub fn all_signs<S: Samples>(
+    alloc: Global,
+    sizes: &Sizes,
+    samples: &S,
+    level: Level,
+) -> Result<Vec<u8>, AllocError>
+    requires { length (S.list samples.now) ≡ point_count sizes.now }
+    ensures { IfOk result (λ v. v.items ≡ map (sign_of level) (S.list samples.now)) }
+{
+    let mut signs = vec![in alloc; 0u8; sizes.count() as usize]?;
+    samples.put_signs(0, level, signs.as_mut_slice());
+    Ok(signs)
 }

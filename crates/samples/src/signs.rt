@@ -17,6 +17,14 @@ pub fn sign<T: Packed>(number: T, bound: Option<T>) -> u8
     }
 }
 
+/// 1 for a sample above the level, else 0.
+#[inline(always)]
+pub fn sample_sign(sample: i64, level: Level) -> u8
+    ensures { result ≡ sign_of level sample }
+{
+    if sample >= level.least_above() { 1 } else { 0 }
+}
+
 /// Writes 1 for each number above the level, and 0 for each other.
 #[inline(always)]
 pub fn put_signs<T: Packed>(numbers: &[T], level: Level, into: &mut [u8])
