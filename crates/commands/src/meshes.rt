@@ -1,33 +1,29 @@
 //! The mesh of a volume, from scratch.
 
-ghost use Rattle.std.specs.Prelude.{◌≡◌, ℤ, is_some, length, None, Ok, All, IfOk, IfSome};
+ghost use Rattle.std.specs.Prelude.{◌≡◌, ℤ, is_some, length, Ok, Some, All, IfOk, IfSome};
 ghost use Rattle.iso_defs.specs.Grid.{point_count};
-ghost use Rattle.iso_base.specs.Volume.{Volume, unpadded};
+ghost use Rattle.iso_base.specs.Volume.{Volume, Voxels};
 ghost use Rattle.iso_base.specs.Samples.{IsSample};
 ghost use Rattle.byte_streams.specs.Seen.{Puts};
-ghost use Rattle.commands.specs.Meaning.{mesh_given, text_of_volume};
+ghost use Rattle.commands.specs.Meaning.{mesh_given, mesh_in, text_of_volume};
 ghost use Rattle.bench_core.specs.Machine.{IsAbovePad};
 ghost use Rattle.bench_core.specs.Surface.{IsWatertight};
 ghost use Rattle.commands.specs.Headline.{IsMeshWatertight, ShowsMesh};
 ghost use Rattle.endings.specs.declared.answer.Answer.TheVariants as answers;
 ghost use Rattle.point_command.specs.Outcome.{Converts, WritesGiven, streams_between};
 
-use crate::volumes::volume_in;
-use bench_core::watertight;
-use crossing_edges::{Numbers, SampleList};
-use endings::Answer;
-use file_points::{FileBytes, FileSamples};
-use iso_base::{Level, SampleKind, Sizes, Written};
+use endings::{Answer, VolumeFault};
+use iso_base::{Level, Sizes, Written};
 use iso_io::{Failed, Sink, Source};
 use list_stitch::{ListMesh, Style};
 use mesh_text::TwoWayFormat;
-use nrrd_read::{FileVolume, RawVolume, read_file_volume};
+use nrrd_read::{FileVolume, RawVolume, read_file_volume, with_samples};
 use point_command::{NoVolume, bytes_of_input};
+use samples::{Padded, Samples};
 use std::alloc::Global;
-use voxel_list::VoxelList;
 
 /// Appends the text of a volume's mesh.
-fn put_text<S: SampleList, K: Sink>(
+fn put_text<S: Samples, K: Sink>(
     sink: &mut K,
     mesh: &ListMesh<'_, S>,
     style: Style,
@@ -38,14 +34,8 @@ fn put_text<S: SampleList, K: Sink>(
     mesh.write(style, sink)
 }
 
-fn is_padded(volume: &VoxelList) -> bool
-    ensures { result ≡ is_some volume.now.pad }
-{
-    volume.pad().is_some()
-}
-
 /// Writes the mesh of a volume, from its sizes and its samples.
-fn write_mesh<S: SampleList, K: Sink>(
+fn write_mesh<S: Samples, K: Sink>(
     alloc: Global,
     level: Level,
     style: Style,
@@ -67,95 +57,84 @@ fn write_mesh<S: SampleList, K: Sink>(
     }
 }
 
-/// Writes the mesh of a volume in a list.
-fn extract_list<K: Sink>(
+/// Writes the mesh of a volume in a file in its pad, from its samples: no list of the samples in the pad is made.
+fn extract_padded<S: Samples, K: Sink>(
     alloc: Global,
     level: Level,
+    pad: i64,
     format: TwoWayFormat,
-    volume: &VoxelList,
-    output: &mut K,
-) -> Answer
-    requires { IsAbovePad volume.now.pad level }
-    ensures text { WritesGiven (Ok (text_of_volume format level volume.now)) (K.seen output.old) (K.seen output.new) result }
-    ensures surface { IsWatertight volume.now level }
-{
-    let padded = is_padded(volume);
-    watertight(volume, level);
-    let samples = Numbers {
-        numbers: volume.samples(),
-    };
-    let style = Style { format, padded };
-    write_mesh(alloc, level, style, volume.sizes(), &samples, output)
-}
-
-/// Writes the mesh of a volume in its file without a pad, from its samples.
-fn extract_samples<S: SampleList, K: Sink>(
-    alloc: Global,
-    level: Level,
-    format: TwoWayFormat,
-    volume: &RawVolume<'_>,
+    sizes: Sizes,
     samples: &S,
     output: &mut K,
 ) -> Answer
-    requires { S.list samples.now ≡ volume.now.samples }
-    ensures text { WritesGiven (Ok (text_of_volume format level (unpadded volume.now))) (K.seen output.old) (K.seen output.new) result }
-    ensures surface { IsWatertight (unpadded volume.now) level }
+    requires count { length (S.list samples.now) ≡ point_count sizes }
+    requires samples { All IsSample (S.list samples.now) }
+    requires range { IsSample pad }
+    ensures text { (v : Voxels) → v.grid ≡ sizes → v.samples ≡ S.list samples.now
+        → WritesGiven (mesh_in level (Some pad) format v) (K.seen output.old) (K.seen output.new) result }
 {
+    let padded = match Padded::new(samples, sizes, pad) {
+        Ok(padded) => padded,
+        Err(fault) => return Answer::from(NoVolume::Refused(VolumeFault::Pad(fault))),
+    };
+    if !level.is_above_pad(pad) {
+        let level = level.value();
+        return Answer::from(NoVolume::Refused(VolumeFault::LevelNotAbovePad { level, pad }));
+    }
     let style = Style {
         format,
-        padded: false,
+        padded: true,
     };
-    write_mesh(alloc, level, style, volume.sizes(), samples, output)
+    write_mesh(alloc, level, style, padded.sizes(), &padded, output)
 }
 
-/// Writes the mesh of a volume without a pad whose samples stay in its file: bytes as they are, and numbers of other kinds as
-/// they are asked for.
+/// Writes the mesh of a volume in a file, in its pad where there is one, from its samples.
+fn extract_samples<S: Samples, K: Sink>(
+    alloc: Global,
+    level: Level,
+    pad: Option<i64>,
+    format: TwoWayFormat,
+    sizes: Sizes,
+    samples: &S,
+    output: &mut K,
+) -> Answer
+    requires count { length (S.list samples.now) ≡ point_count sizes }
+    requires samples { All IsSample (S.list samples.now) }
+    requires range { IfSome pad IsSample }
+    ensures text { (v : Voxels) → v.grid ≡ sizes → v.samples ≡ S.list samples.now
+        → WritesGiven (mesh_in level pad format v) (K.seen output.old) (K.seen output.new) result }
+{
+    match pad {
+        Some(pad) => extract_padded(alloc, level, pad, format, sizes, samples, output),
+        None => {
+            let style = Style {
+                format,
+                padded: false,
+            };
+            write_mesh(alloc, level, style, sizes, samples, output)
+        }
+    }
+}
+
+/// Writes the mesh of a volume whose samples stay in its file.
 fn extract_raw<K: Sink>(
     alloc: Global,
     level: Level,
+    pad: Option<i64>,
     format: TwoWayFormat,
     volume: &RawVolume<'_>,
     output: &mut K,
 ) -> Answer
-    ensures text { WritesGiven (Ok (text_of_volume format level (unpadded volume.now))) (K.seen output.old) (K.seen output.new) result }
-    ensures surface { IsWatertight (unpadded volume.now) level }
+    requires { IfSome pad IsSample }
+    ensures { WritesGiven (mesh_in level pad format volume.now) (K.seen output.old) (K.seen output.new) result }
 {
-    match volume.kind() {
-        SampleKind::U8 => {
-            let samples = FileBytes {
-                bytes: volume.bytes(),
-            };
-            extract_samples(alloc, level, format, volume, &samples, output)
-        }
-        _ => {
-            let samples = FileSamples { volume };
-            extract_samples(alloc, level, format, volume, &samples, output)
-        }
-    }
+    let sizes = volume.sizes();
+    with_samples!(volume.samples(), samples => {
+        extract_samples(alloc, level, pad, format, sizes, &samples, output)
+    })
 }
 
-/// Writes the mesh of the volume in the bytes of a file.
-fn extract_unpadded<K: Sink>(
-    alloc: Global,
-    level: Level,
-    format: TwoWayFormat,
-    bytes: &[u8],
-    output: &mut K,
-) -> Answer
-    ensures text { WritesGiven (mesh_given level None format bytes.now) (K.seen output.old) (K.seen output.new) result }
-    ensures surface { result ≡ answers.Done → IsMeshWatertight level None bytes.now }
-{
-    let volume = match read_file_volume(alloc, bytes) {
-        Ok((volume, _)) => volume,
-        Err(fault) => return Answer::from(NoVolume::from(fault)),
-    };
-    match volume {
-        FileVolume::Raw(raw) => extract_raw(alloc, level, format, &raw, output),
-        FileVolume::Read(read) => extract_list(alloc, level, format, &VoxelList::of(read), output),
-    }
-}
-
-/// Writes the mesh of the volume in the bytes of a file, in its pad.
+/// Writes the mesh of the volume in the bytes of a file, in its pad where there is one.
 fn extract_bytes<K: Sink>(
     alloc: Global,
     level: Level,
@@ -168,17 +147,19 @@ fn extract_bytes<K: Sink>(
     ensures text { WritesGiven (mesh_given level pad format bytes.items) (K.seen output.old) (K.seen output.new) result }
     ensures surface { result ≡ answers.Done → IsMeshWatertight level pad bytes.items }
 {
-    if pad.is_none() {
-        return extract_unpadded(alloc, level, format, &bytes, output);
-    }
-    match volume_in(alloc, bytes, pad, level) {
-        Ok(volume) => extract_list(alloc, level, format, &volume, output),
-        Err(reason) => Answer::from(reason),
-    }
+    let volume = match read_file_volume(alloc, &bytes) {
+        Ok((FileVolume::Raw(raw), _)) => {
+            return extract_raw(alloc, level, pad, format, &raw, output);
+        }
+        Ok((FileVolume::Read(read), _)) => read,
+        Err(fault) => return Answer::from(NoVolume::from(fault)),
+    };
+    drop(bytes);
+    extract_samples(alloc, level, pad, format, volume.sizes(), &volume, output)
 }
 
-/// Writes the mesh of the volume in the input, which is never held. Where there is no pad, raw samples stay in the bytes of the
-/// file; samples in print, and a volume with a pad, are made a list first.
+/// Writes the mesh of the volume in the input, which is never held. Raw samples stay in the bytes of the file, with a pad
+/// and without; samples in print are made a list first, and the bytes let go.
 pub fn extract<S: Source, K: Sink>(
     alloc: Global,
     level: Level,

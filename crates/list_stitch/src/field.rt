@@ -7,21 +7,21 @@ ghost use Rattle.flat_mesh.specs.Cases.{values_at};
 ghost use Rattle.flat_mesh.specs.Lattice.{IsLeveled, heights};
 ghost use Rattle.stitch.specs.Ends.{AreEnds};
 
-use crossing_edges::SampleList;
 use flat_mesh::{Cell, Heights, corner_indices};
 use iso_base::{Level, Point, Sizes, index};
+use samples::Samples;
 use std::marker::Model;
 use stitch::Ends;
 
 /// A volume in a list at a level. Contracts see its grid, its samples and the level.
 #[derive(Drop)]
-pub struct ListField<'a, S: SampleList> {
+pub struct ListField<'a, S: Samples> {
     sizes: Sizes,
     level: Level,
     samples: &'a S,
 }
 
-impl<'a, S: SampleList> Model for ListField<'a, S> {
+impl<'a, S: Samples> Model for ListField<'a, S> {
     ghost use Rattle.flat_mesh.specs.Lattice.{IsLeveled, Leveled};
 
     ghost Value = { Leveled };
@@ -31,7 +31,7 @@ impl<'a, S: SampleList> Model for ListField<'a, S> {
     ghost invariant = { λ f. IsLeveled (record { grid = f.sizes; samples = S.list f.samples.now; level = f.level }) };
 }
 
-impl<'a, S: SampleList> ListField<'a, S> {
+impl<'a, S: Samples> ListField<'a, S> {
     /// A volume at a level, from its sizes and its samples.
     pub fn new(sizes: Sizes, samples: &'a S, level: Level) -> ListField<'a, S>
         requires { IsLeveled (record { grid = sizes; samples = S.list samples.now; level = level }) }
@@ -124,7 +124,7 @@ impl<'a, S: SampleList> ListField<'a, S> {
     }
 }
 
-impl<'a, S: SampleList> Heights for ListField<'a, S> {
+impl<'a, S: Samples> Heights for ListField<'a, S> {
     ghost leveled = { λ f. f };
 
     fn sizes(&self) -> Sizes {
