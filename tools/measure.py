@@ -20,6 +20,9 @@ import tempfile
 import time
 
 TOP = pathlib.Path(__file__).resolve().parent.parent
+sys.path.insert(0, str(TOP / "examples"))
+from session import Session  # noqa: E402
+
 PAGE = TOP / "docs" / "performance.md"
 BEGIN, END = "<!-- written by tools/measure.py -->", "<!-- end of what is written -->"
 
@@ -102,17 +105,27 @@ def volumes(program, size):
     ]
 
 
-def seconds_of(words, folder, given=None, script=b""):
+def seconds_of(words, folder, given):
     """Seconds of a run, whose output goes to a new file."""
     output = folder / "output"
     output.unlink(missing_ok=True)
-    with open(given or os.devnull, "rb") as stdin, open(output, "wb") as stdout:
+    with open(given, "rb") as stdin, open(output, "wb") as stdout:
         start = time.perf_counter()
-        child = subprocess.Popen(words, cwd=folder, stdin=subprocess.PIPE if script else stdin, stdout=stdout)
-        child.communicate(script or None)
-        took = time.perf_counter() - start
-    if child.returncode:
-        sys.exit(f"{' '.join(words)} ends with {child.returncode}")
+        subprocess.run(words, cwd=folder, stdin=stdin, stdout=stdout, check=True)
+        return time.perf_counter() - start
+
+
+def session_seconds(program, folder, options):
+    """Seconds until a session is open and answers, and of each of its steps, into new files."""
+    for name in "ab":
+        (folder / name).unlink(missing_ok=True)
+    took, start = [], time.perf_counter()
+    with Session(program, "volume", *options, folder=folder) as session:
+        for lines in (["work 0"], ["ply a"], ["set 9 9 9 1", "ply b"], ["report"], ["measure"]):
+            for line in lines:
+                session.ask(line)
+            took.append(time.perf_counter() - start)
+            start = time.perf_counter()
     return took
 
 
@@ -169,13 +182,10 @@ def tables(program, size, rounds, counts):
                 told = None if options else others(other, folder, level, rounds)
                 row += [""] * cells if told is None else [shown(told[0])] + [shown(told[1])] * (cells - 2) + [str(int(told[2]))]
             first.append("| " + " | ".join(row) + " |")
-            session = [program, "session", f"--level={level}", *options, "volume"]
-            took = {lines: min(seconds_of(session, folder, script=lines.encode()) for _ in range(rounds))
-                    for lines in ("quit\n", "ply a\n", "ply a\nset 9 9 9 1\nply b\n", "report\n", "measure\n")}
-            opened, once, twice, report, measured = took.values()
+            took = zip(*(session_seconds(program, folder, [f"--level={level}", *options]) for _ in range(rounds)))
             (folder / "script").write_text("ply a\n")
-            parts = [opened, once - opened, twice - once, report - opened, measured - opened]
-            second.append("| " + " | ".join([name, *map(shown, parts), shown(peak_of(session, folder, folder / "script"), 1)]) + " |")
+            peak = peak_of([program, "session", f"--level={level}", *options, "volume"], folder, folder / "script")
+            second.append("| " + " | ".join([name, *(shown(min(seconds)) for seconds in took), shown(peak, 1)]) + " |")
     return first, second
 
 
