@@ -186,36 +186,37 @@ fn check_pieces(rt: &impl Abort, alloc: Global, shelf: &mut FileShelf) {
     check_start(rt, shelf, "no/such/folder", Err(Failed));
 }
 
-// The system's files, in the test's own folder.
+// The system's files, in the folder of the tests.
 #[test]
 fn files_are_written_and_read(rt: HostRuntime) {
     check_pieces(&rt, rt.alloc(), &mut FileShelf::new(&rt));
 }
 
-/// Appends in turns to two files that are not there at first, and one that fails.
+/// Appends in turns to two files that are not there at first, and one that fails. All tests share one folder, so no other test
+/// has files of these names.
 const TURNS: &[(&str, &[u8], Result<(), Failed>)] = &[
-    ("a", b"abc", Ok(())),
-    ("b", b"uvw", Ok(())),
-    ("a", b"de", Ok(())),
+    ("first", b"abc", Ok(())),
+    ("second", b"uvw", Ok(())),
+    ("first", b"de", Ok(())),
     ("no/such/folder", b"z", Err(Failed)),
-    ("a", b"f", Ok(())),
-    ("b", b"xyz", Ok(())),
+    ("first", b"f", Ok(())),
+    ("second", b"xyz", Ok(())),
 ];
 
 fn check_turns(rt: &impl Abort, alloc: Global, shelf: &mut FileShelf) {
     for (name, bytes, want) in TURNS {
         check_append(rt, shelf, (*name, *bytes), *want);
     }
-    check_read(rt, alloc, shelf, ("a", b"abcdef"));
-    check_read(rt, alloc, shelf, ("b", b"uvwxyz"));
+    check_read(rt, alloc, shelf, ("first", b"abcdef"));
+    check_read(rt, alloc, shelf, ("second", b"uvwxyz"));
 }
 
 /// A file that has bytes is made anew.
 fn check_anew(rt: &impl Abort, alloc: Global, shelf: &mut FileShelf) {
-    check_start(rt, shelf, "a", Ok(()));
-    check_read(rt, alloc, shelf, ("a", b""));
-    check_append(rt, shelf, ("a", b"gh"), Ok(()));
-    check_read(rt, alloc, shelf, ("a", b"gh"));
+    check_start(rt, shelf, "first", Ok(()));
+    check_read(rt, alloc, shelf, ("first", b""));
+    check_append(rt, shelf, ("first", b"gh"), Ok(()));
+    check_read(rt, alloc, shelf, ("first", b"gh"));
 }
 
 fn check_changes(rt: &impl Abort, alloc: Global, shelf: &mut FileShelf) {
