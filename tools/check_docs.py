@@ -9,7 +9,7 @@ in the folder above it), with the built program on the path; what is printed is 
 if that follows before the next `sh` block. Where that ends with a line `..`, more may be printed. Above a block may stand,
 as a comment of the page:
 
-    <!-- needs TOOL -->    it is passed over where TOOL is not on the path
+    <!-- needs TOOL, TOOL -->    it is passed over where one of these is not on the path
     <!-- not run: WHY -->  it is never run here
 
 Then each link of a page to a file of this repository, with its place in it, is looked up; and so is what guarantees.md names:
@@ -68,9 +68,8 @@ def steps_of(page):
 def why_not(above):
     if above and above[1] == "not run:":
         return above[2]
-    if above and not shutil.which(above[2]):
-        return f"{above[2]} is not on the path"
-    return None
+    lacking = [tool for tool in above[2].split(", ") if not shutil.which(tool)] if above else []
+    return f"{lacking[0]} is not on the path" if lacking else None
 
 
 def run_page(page, folder):
