@@ -180,6 +180,28 @@ fn add_rows<T: Packed, L: Ledger>(
     }
 }
 
+/// The same, in whichever width the brick is kept.
+fn add_entries<L: Ledger>(
+    block: &Block<'_>,
+    rows: &PairRows,
+    entries: &mut ArrayVec<u32, 512>,
+    steps: &mut Steps<L>,
+)
+    requires rows { AreRows block.now 81 rows.now }
+    requires none { entries.old.items ≡ [] }
+    ensures entries { entries.new.items ≡ entries_of block.now.grid (heights block.now) block.now.brick }
+    ensures counted { steps.new ≡ steps.old + length entries.new.items }
+    ensures bound { steps.new ≤ steps.old + 512 }
+{
+    match block.copies() {
+        PackedRun::U8(copies) => add_rows(block, copies, rows, entries, steps),
+        PackedRun::I16(copies) => add_rows(block, copies, rows, entries, steps),
+        PackedRun::U16(copies) => add_rows(block, copies, rows, entries, steps),
+        PackedRun::I32(copies) => add_rows(block, copies, rows, entries, steps),
+        PackedRun::I64(copies) => add_rows(block, copies, rows, entries, steps),
+    }
+}
+
 /// Replaces the entries by those of a brick at a level: of its cells that have a crossing edge, ascending.
 /// The counter is raised by one for each of them.
 pub fn extract_brick<L: Ledger>(
@@ -197,10 +219,7 @@ pub fn extract_brick<L: Ledger>(
     let block = Block::of(store, brick, level);
     let rows = pair_rows(&block);
     entries.clear();
-    match block.copies() {
-        PackedRun::Bytes(copies) => add_rows(&block, copies, &rows, entries, steps),
-        PackedRun::Numbers(copies) => add_rows(&block, copies, &rows, entries, steps),
-    }
+    add_entries(&block, &rows, entries, steps);
 }
 
 /// Replaces the rows by the numbers of the cases of a row of cells.
@@ -225,6 +244,28 @@ fn put_row<T: Packed, L: Ledger>(
     }
 }
 
+/// The same, in whichever width the brick is kept.
+fn put_cases<L: Ledger>(
+    block: &Block<'_>,
+    y: u8,
+    z: u8,
+    rows: &mut ArrayVec<u16, 8>,
+    steps: &mut Steps<L>,
+)
+    requires row { IsCellRow block.now y z }
+    ensures cases { rows.new.items ≡ row_cases block.now.grid (heights block.now) block.now.brick y z }
+    ensures counted { steps.new ≡ steps.old + length rows.new.items }
+    ensures bound { steps.new ≤ steps.old + 8 }
+{
+    match block.copies() {
+        PackedRun::U8(copies) => put_row(block, copies, y, z, rows, steps),
+        PackedRun::I16(copies) => put_row(block, copies, y, z, rows, steps),
+        PackedRun::U16(copies) => put_row(block, copies, y, z, rows, steps),
+        PackedRun::I32(copies) => put_row(block, copies, y, z, rows, steps),
+        PackedRun::I64(copies) => put_row(block, copies, y, z, rows, steps),
+    }
+}
+
 /// Replaces the rows by the numbers of the cases of a row of cells of a brick, from the least place along x on.
 /// The counter is raised by one for each of them.
 pub fn extract_row<L: Ledger>(
@@ -245,8 +286,5 @@ pub fn extract_row<L: Ledger>(
     ensures bound { steps.new ≤ steps.old + 8 }
 {
     let block = Block::of(store, brick, level);
-    match block.copies() {
-        PackedRun::Bytes(copies) => put_row(&block, copies, y, z, rows, steps),
-        PackedRun::Numbers(copies) => put_row(&block, copies, y, z, rows, steps),
-    }
+    put_cases(&block, y, z, rows, steps);
 }

@@ -1,5 +1,5 @@
-//! A volume in bricks of 8x8x8 cells, each with its own copy of every sample at a corner of one of its cells: in a byte each where
-//! all samples are of kind uint8, with a pad from 0 to 255 or none, and in eight bytes each otherwise.
+//! A volume in bricks of 8x8x8 cells, each with its own copy of every sample at a corner of one of its cells: in one, two, four or
+//! eight bytes each, by the kind and the pad.
 #![tactic(auto)]
 
 mod boxes;

@@ -10,13 +10,13 @@ ghost use Rattle.iso_base.specs.Samples.{IsOfKind, IsSample};
 ghost use Rattle.iso_base.specs.Volume.{IsInner, IsVolume, Volume, sample};
 ghost use Rattle.brick_store.specs.Holding.{IsCellOf, brick_of, holds_point, local_of, points_along};
 ghost use Rattle.brick_store.specs.Copies.{AreAllCopies, AreCopiesOf};
-ghost use Rattle.packed_samples.specs.Runs.{row_set, samples_in};
+ghost use Rattle.packed_samples.specs.Runs.{row_set, run_width, samples_in};
+ghost use Rattle.packed_samples.specs.Widths.{width_of};
 ghost use Rattle.brick_store.specs.Boxes.{AreAsMany, AreOfKind, IsInnerArea, boxed};
 
 use crate::boxes::Values;
 use crate::kept::Kept;
 use crate::numbering::{self, BrickId};
-use crate::{boxes, copies, flat, rows, taken};
 use arrayvec::ArrayVec;
 use iso_base::{CellName, Memory, Point, SampleKind, Sizes};
 use packed_samples::{Packed, PackedRun, SampleRuns};
@@ -25,8 +25,8 @@ use std::marker::Model;
 use voxel_list::{FillBox, VoxelList};
 
 /// A volume in bricks of 8x8x8 cells, in the order of their numbers. Each has 729 samples of its own: those at the corners of its
-/// cells, and zeros behind the end of the grid. They are kept in a byte each where the volume is of kind uint8 and its pad, if it has
-/// one, lies from 0 to 255, and otherwise in eight bytes each. Contracts see a store as the volume that it stands for.
+/// cells, and zeros behind the end of the grid. They are kept in the narrowest width that has room for all samples of the kind and for the
+/// pad: one, two, four or eight bytes each. Contracts see a store as the volume that it stands for.
 #[derive(Debug, Drop)]
 pub struct BrickStore {
     sizes: Sizes,
@@ -114,10 +114,7 @@ impl BrickStore {
         ensures value { result ≡ sample self.now.samples (index_of self.now.grid p) }
         ensures range { IsSample result }
     {
-        match &self.copies {
-            Kept::Bytes(bytes) => copies::get(&self.sizes, bytes, p),
-            Kept::Numbers(numbers) => copies::get(&self.sizes, numbers, p),
-        }
+        self.copies.get(&self.sizes, p)
     }
 
     /// Replaces the sample of a point of the stored grid in each brick that holds it:
@@ -128,10 +125,7 @@ impl BrickStore {
         requires kind { IsInner self.old (index_of self.old.grid p) → IsOfKind self.old.kind value }
         ensures { self.new ≡ record self.old { samples = slice_set self.old.samples (index_of self.old.grid p) value } }
     {
-        match &mut self.copies {
-            Kept::Bytes(bytes) => copies::set(&self.sizes, bytes, p, value),
-            Kept::Numbers(numbers) => copies::set(&self.sizes, numbers, p, value),
-        }
+        self.copies.set(&self.sizes, p, value);
     }
 
     /// Replaces samples of a row, along x from a point of the stored grid on, in each brick that holds them.
@@ -144,10 +138,7 @@ impl BrickStore {
         requires kind { All (IsOfKind self.old.kind) values.now }
         ensures { self.new ≡ record self.old { samples = row_set (index_of self.old.grid p) values.now self.old.samples } }
     {
-        match &mut self.copies {
-            Kept::Bytes(bytes) => rows::write_row(&self.sizes, bytes, p, values),
-            Kept::Numbers(numbers) => rows::write_row(&self.sizes, numbers, p, values),
-        }
+        self.copies.set_row(&self.sizes, p, values);
     }
 
     /// Replaces the samples of a box of the stored grid, which holds no pad: each brick that holds a point of it is written once.
@@ -160,10 +151,7 @@ impl BrickStore {
         ensures { self.new ≡ record self.old { samples = boxed self.old.grid area.now values.entry self.old.samples } }
     {
         let _ = area.low();
-        match &mut self.copies {
-            Kept::Bytes(bytes) => boxes::write_box(&self.sizes, bytes, area, values),
-            Kept::Numbers(numbers) => boxes::write_box(&self.sizes, numbers, area, values),
-        }
+        self.copies.set_box(&self.sizes, area, values);
     }
 
     /// The samples at the corners of a cell, by corner: corner c lies c % 2 points on along x, c / 2 % 2 along y and c / 4 along z.
@@ -173,10 +161,7 @@ impl BrickStore {
         ensures value { result ≡ cell_values self.now.grid (sample self.now.samples) cell.0 }
         ensures range { All IsSample result }
     {
-        match &self.copies {
-            Kept::Bytes(bytes) => copies::cell_values(&self.sizes, bytes, cell),
-            Kept::Numbers(numbers) => copies::cell_values(&self.sizes, numbers, cell),
-        }
+        self.copies.cell_values(&self.sizes, cell)
     }
 
     /// The brick that has a cell: each cell is in one brick.
@@ -216,10 +201,12 @@ impl BrickStore {
         numbering::points_along(&self.sizes, brick)
     }
 
-    /// The copies that all bricks keep, those of a brick behind those of the brick before it, where they lie in memory.
+    /// The copies that all bricks keep, those of a brick behind those of the brick before it, where they lie in memory, in the
+    /// narrowest width that has room for all samples of the kind and for the pad.
     #[inline(always)]
     pub fn copies(&self) -> PackedRun<'_>
-        ensures { AreAllCopies self.now.grid self.now.samples (samples_in result) }
+        ensures copies { AreAllCopies self.now.grid self.now.samples (samples_in result) }
+        ensures width { run_width result ≡ width_of self.now.kind self.now.pad }
     {
         let _ = self.sizes.nx();
         self.copies.lent()
@@ -254,20 +241,14 @@ impl BrickStore {
         requires fits { p.x + length into.old ≤ self.now.grid.nx }
         ensures { into.new ≡ map (λ d. sample self.now.samples (index_of self.now.grid p + d)) (below (length into.old)) }
     {
-        match &self.copies {
-            Kept::Bytes(bytes) => taken::copy_row(&self.sizes, bytes, p, into),
-            Kept::Numbers(numbers) => taken::copy_row(&self.sizes, numbers, p, into),
-        }
+        self.copies.copy_row(&self.sizes, p, into);
     }
 
     /// The volume as one list of samples. The store stays.
     pub fn flat(&self, alloc: Global) -> Result<VoxelList, Memory>
         ensures { IfOk result (λ v. v ≡ self.now) }
     {
-        let samples = match &self.copies {
-            Kept::Bytes(bytes) => flat::all_samples(alloc, &self.sizes, bytes)?,
-            Kept::Numbers(numbers) => flat::all_samples(alloc, &self.sizes, numbers)?,
-        };
+        let samples = self.copies.flat(alloc, &self.sizes)?;
         Ok(VoxelList::new(self.sizes, self.kind, self.pad, samples))
     }
 }

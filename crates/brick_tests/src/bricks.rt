@@ -105,8 +105,11 @@ fn check_first(rt: &impl Abort, store: &BrickStore)
     requires { store.now.grid ≡ record { nx = 17; ny = 17; nz = 17 } }
 {
     let first = match store.copies() {
-        PackedRun::Bytes(copies) => first_of_last(store, copies),
-        PackedRun::Numbers(copies) => first_of_last(store, copies),
+        PackedRun::U8(copies) => first_of_last(store, copies),
+        PackedRun::I16(copies) => first_of_last(store, copies),
+        PackedRun::U16(copies) => first_of_last(store, copies),
+        PackedRun::I32(copies) => first_of_last(store, copies),
+        PackedRun::I64(copies) => first_of_last(store, copies),
     };
     assert_eq!(rt; first, 10);
 }

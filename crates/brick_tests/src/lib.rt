@@ -21,3 +21,5 @@ mod spans;
 mod stores;
 #[cfg(test)]
 mod walks;
+#[cfg(test)]
+mod widths;

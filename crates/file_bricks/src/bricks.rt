@@ -1,14 +1,13 @@
 //! The bricks of a volume in its file.
-ghost use Rattle.std.specs.Prelude.{◌≡◌, ◌+◌, ◌≤◌, All, IfOk, IfErr, drop, length, map, pos, take};
+ghost use Rattle.std.specs.Prelude.{◌≡◌, ◌+◌, ◌≤◌, All, IfOk, IfErr, drop, length, map, take};
 ghost use Rattle.iso_base.specs.Volume.{unpadded};
-ghost use Rattle.packed_samples.specs.Runs.{IsByte};
 ghost use Rattle.nrrd_read.specs.Files.{file_voxels, IsRead};
 ghost use Rattle.nrrd_read.specs.Nrrd.{Fails, nrrd_of};
 
 use brick_store::BrickStore;
-use iso_base::{Memory, SampleKind};
+use iso_base::Memory;
 use nrrd_read::{FileVolume, NrrdFault, RawVolume, read_file_volume};
-use packed_samples::SampleRuns;
+use packed_samples::{Packed, SampleRuns, pack};
 use std::alloc::Global;
 use voxel_list::VoxelList;
 
@@ -18,58 +17,38 @@ struct RawSamples<'a> {
     volume: &'a RawVolume<'a>,
 }
 
-/// Copies samples from an index on over bytes, one by one.
-fn copy_each(volume: &RawVolume<'_>, start: u32, into: &mut [u8])
+/// Copies samples from an index on, one by one.
+fn copy_each<T: Packed>(volume: &RawVolume<'_>, start: u32, into: &mut [T])
     requires room { start + length into.old ≤ length volume.now.samples }
-    requires fits { All IsByte volume.now.samples }
-    ensures { map pos into.new ≡ take (length into.old) (drop start volume.now.samples) }
+    requires fits { All T.Fits volume.now.samples }
+    ensures { map T.value into.new ≡ take (length into.old) (drop start volume.now.samples) }
 {
     let _ = volume.sizes().nx();
     for k in 0..into.len() {
-        into[k] = volume.at(start + k as u32) as u8;
+        into[k] = T::of(volume.at(start + k as u32));
     }
 }
 
-/// Copies as many bytes as are known before the program runs. They are all read before the first is written, so that this takes
-/// no loop, no call and no test whether the two lots overlap.
+/// Copies nine samples from an index on, as many as a whole row of a brick has. Since their number is known, this takes no loop.
 #[inline(always)]
-fn copy_known<const N: usize>(bytes: &[u8], into: &mut [u8])
-    requires there { length bytes.now ≡ N }
-    requires room { length into.old ≡ N }
-    ensures { into.new ≡ bytes.now }
+fn copy_nine<T: Packed>(volume: &RawVolume<'_>, start: u32, into: &mut [T])
+    requires nine { length into.old ≡ 9 }
+    requires room { start + 9 ≤ length volume.now.samples }
+    requires fits { All T.Fits volume.now.samples }
+    ensures { map T.value into.new ≡ take 9 (drop start volume.now.samples) }
 {
-    let mut known = [0; N];
-    known.copy_from_slice(&bytes[..N]);
-    into[..N].copy_from_slice(&known);
-}
-
-/// Copies bytes over as many: nine, as a whole row of a brick has, and eight, as a row at the end of a grid often has, by a move
-/// of their own.
-#[inline(always)]
-fn copy_row(bytes: &[u8], into: &mut [u8])
-    requires { length bytes.now ≡ length into.old }
-    ensures { into.new ≡ bytes.now }
-{
-    match into.len() {
-        9 => copy_known::<9>(bytes, into),
-        8 => copy_known::<8>(bytes, into),
-        _ => into.copy_from_slice(bytes),
-    }
+    let mut samples = [0; 9];
+    volume.copy_run(start, &mut samples);
+    pack(&samples, into);
 }
 
 impl<'a> SampleRuns for RawSamples<'a> {
     ghost list = { λ s. s.volume.now.samples };
 
     #[inline(always)]
-    fn copy_run(&self, start: u32, into: &mut [i64]) {
-        self.volume.copy_run(start, into);
-    }
-
-    #[inline(always)]
-    fn copy_bytes(&self, start: u32, into: &mut [u8]) {
-        if self.volume.kind() == SampleKind::U8 {
-            let start = start as usize;
-            copy_row(&self.volume.bytes()[start..start + into.len()], into);
+    fn copy_run<T: Packed>(&self, start: u32, into: &mut [T]) {
+        if into.len() == 9 {
+            copy_nine(self.volume, start, into);
         } else {
             copy_each(self.volume, start, into);
         }

@@ -175,10 +175,19 @@ fn put_rows<K: Sink, D: Digits>(
     ensures bound { IfOk result (λ n. n ≤ 25000 * (sizes.now.ny * sizes.now.nz)) }
 {
     match store.copies() {
-        PackedRun::Bytes(copies) => {
+        PackedRun::U8(copies) => {
             put_packed(sink, digits, store, copies, sizes, hex, &mut [0u8; MOST])
         }
-        PackedRun::Numbers(copies) => {
+        PackedRun::I16(copies) => {
+            put_packed(sink, digits, store, copies, sizes, hex, &mut [0i16; MOST])
+        }
+        PackedRun::U16(copies) => {
+            put_packed(sink, digits, store, copies, sizes, hex, &mut [0u16; MOST])
+        }
+        PackedRun::I32(copies) => {
+            put_packed(sink, digits, store, copies, sizes, hex, &mut [0i32; MOST])
+        }
+        PackedRun::I64(copies) => {
             put_packed(sink, digits, store, copies, sizes, hex, &mut [0i64; MOST])
         }
     }

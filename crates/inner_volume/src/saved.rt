@@ -82,8 +82,11 @@ fn put_inner_samples<K: Sink>(sink: &mut K, store: &BrickStore, sizes: &Sizes) -
     ensures { Puts (K.seen sink.old) (K.seen sink.new) result (samples_text store.now.kind (inner_samples store.now)) }
 {
     match store.copies() {
-        PackedRun::Bytes(copies) => put_rows(sink, store, copies, sizes, &mut [0u8; BLOCK]),
-        PackedRun::Numbers(copies) => put_rows(sink, store, copies, sizes, &mut [0i64; BLOCK]),
+        PackedRun::U8(copies) => put_rows(sink, store, copies, sizes, &mut [0u8; BLOCK]),
+        PackedRun::I16(copies) => put_rows(sink, store, copies, sizes, &mut [0i16; BLOCK]),
+        PackedRun::U16(copies) => put_rows(sink, store, copies, sizes, &mut [0u16; BLOCK]),
+        PackedRun::I32(copies) => put_rows(sink, store, copies, sizes, &mut [0i32; BLOCK]),
+        PackedRun::I64(copies) => put_rows(sink, store, copies, sizes, &mut [0i64; BLOCK]),
     }
 }
 

@@ -1,1 +1,2 @@
-mod ByteLists
+mod PackedLists
+pub mod Widths

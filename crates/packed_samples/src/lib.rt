@@ -1,14 +1,14 @@
-//! Samples in as few bytes as serve: a byte each where all of them lie from 0 to 255, and eight bytes each otherwise.
+//! Samples in as few bytes as serve: one, two, four or eight bytes each, by the kind and the pad of their volume.
 #![tactic(auto)]
 
-mod bytes;
 mod list;
 mod number;
-mod numbers;
 mod run;
 mod source;
+mod width;
 
 pub use list::PackedList;
-pub use number::{Packed, sample_at};
+pub use number::{Packed, pack, sample_at};
 pub use run::PackedRun;
 pub use source::SampleRuns;
+pub use width::Width;

@@ -1,8 +1,9 @@
 //! Lists of packed samples.
-ghost use Rattle.std.specs.Prelude.{◌≡◌, ◌+◌, ◌<◌, ◌≤◌, ◌^◌, ◌++◌, ℤ, List, All, OnOk, length, pos, drop, take, replicate, slice_set};
+ghost use Rattle.std.specs.Prelude.{◌≡◌, ◌+◌, ◌<◌, ◌≤◌, ◌^◌, ◌++◌, ℤ, List, All, OnOk, length, map, pos, drop, take, replicate, slice_set};
 ghost use Rattle.iso_base.specs.Volume.{sample};
 ghost use Rattle.packed_samples.specs.Runs.{row_set};
 
+use crate::number::{Packed, pack, sample_at, unpack};
 use crate::source::SampleRuns;
 use std::alloc::AllocError;
 
@@ -11,10 +12,6 @@ pub trait PackedList {
     ghost list: { Self → List ℤ };
 
     ghost Fits: { ℤ → Type 0 };
-
-    /// The number of samples.
-    fn length(&self) -> usize
-        ensures { result ≡ length (list self.now) };
 
     /// The sample at a place.
     fn at(&self, place: usize) -> i64
@@ -50,4 +47,48 @@ pub trait PackedList {
         requires there { start + count ≤ length (S.list samples.now) }
         requires fits { All Fits (S.list samples.now) }
         ensures { list self.new ≡ row_set place (take count (drop start (S.list samples.now))) (list self.old) };
+}
+
+// Nine samples, as many as a whole row of a brick has, are copied without a loop or a call, since their number is known.
+impl<T: Packed + Drop> PackedList for Vec<T> {
+    ghost list = { λ v. map T.value v.items };
+
+    ghost Fits = { T.Fits };
+
+    #[inline(always)]
+    fn at(&self, place: usize) -> i64 {
+        sample_at(self, place)
+    }
+
+    #[inline(always)]
+    fn set(&mut self, place: usize, value: i64) {
+        self[place] = T::of(value);
+    }
+
+    #[inline(always)]
+    fn put(&mut self, start: usize, values: &[i64], from: usize, count: usize) {
+        if count == 9 {
+            pack(&values[from..from + 9], &mut self[start..start + 9]);
+        } else {
+            pack(&values[from..from + count], &mut self[start..start + count]);
+        }
+    }
+
+    #[inline(always)]
+    fn copy_to(&self, start: usize, into: &mut [i64]) {
+        unpack(&self[start..start + into.len()], into);
+    }
+
+    fn add_zeros(&mut self, count: usize) -> Result<(), AllocError> {
+        self.resize(self.len() + count, T::zero())
+    }
+
+    #[inline(always)]
+    fn take_from<S: SampleRuns>(&mut self, place: usize, samples: &S, start: u32, count: usize) {
+        if count == 9 {
+            samples.copy_run(start, &mut self[place..place + 9]);
+        } else {
+            samples.copy_run(start, &mut self[place..place + count]);
+        }
+    }
 }

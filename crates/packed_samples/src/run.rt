@@ -8,8 +8,11 @@ use crate::number::{sample_at, unpack};
 /// Samples one behind the other where they lie in memory, in the width that they are kept in.
 #[derive(Clone, Copy, Debug)]
 pub enum PackedRun<'a> {
-    Bytes(&'a [u8]),
-    Numbers(&'a [i64]),
+    U8(&'a [u8]),
+    I16(&'a [i16]),
+    U16(&'a [u16]),
+    I32(&'a [i32]),
+    I64(&'a [i64]),
 }
 
 impl<'a> PackedRun<'a> {
@@ -19,8 +22,11 @@ impl<'a> PackedRun<'a> {
         ensures { result ≡ length (samples_in self.now) }
     {
         match self {
-            PackedRun::Bytes(bytes) => bytes.len(),
-            PackedRun::Numbers(numbers) => numbers.len(),
+            PackedRun::U8(list) => list.len(),
+            PackedRun::I16(list) => list.len(),
+            PackedRun::U16(list) => list.len(),
+            PackedRun::I32(list) => list.len(),
+            PackedRun::I64(list) => list.len(),
         }
     }
 
@@ -31,8 +37,11 @@ impl<'a> PackedRun<'a> {
         ensures { result ≡ sample (samples_in self.now) place }
     {
         match self {
-            PackedRun::Bytes(bytes) => sample_at(bytes, place),
-            PackedRun::Numbers(numbers) => sample_at(numbers, place),
+            PackedRun::U8(list) => sample_at(list, place),
+            PackedRun::I16(list) => sample_at(list, place),
+            PackedRun::U16(list) => sample_at(list, place),
+            PackedRun::I32(list) => sample_at(list, place),
+            PackedRun::I64(list) => sample_at(list, place),
         }
     }
 
@@ -43,8 +52,11 @@ impl<'a> PackedRun<'a> {
         ensures { samples_in result ≡ take count (drop start (samples_in self.now)) }
     {
         match self {
-            PackedRun::Bytes(bytes) => PackedRun::Bytes(&bytes[start..start + count]),
-            PackedRun::Numbers(numbers) => PackedRun::Numbers(&numbers[start..start + count]),
+            PackedRun::U8(list) => PackedRun::U8(&list[start..start + count]),
+            PackedRun::I16(list) => PackedRun::I16(&list[start..start + count]),
+            PackedRun::U16(list) => PackedRun::U16(&list[start..start + count]),
+            PackedRun::I32(list) => PackedRun::I32(&list[start..start + count]),
+            PackedRun::I64(list) => PackedRun::I64(&list[start..start + count]),
         }
     }
 
@@ -55,8 +67,11 @@ impl<'a> PackedRun<'a> {
         ensures { into.new ≡ samples_in self.now }
     {
         match self {
-            PackedRun::Bytes(bytes) => unpack(bytes, into),
-            PackedRun::Numbers(numbers) => into.copy_from_slice(numbers),
+            PackedRun::U8(list) => unpack(list, into),
+            PackedRun::I16(list) => unpack(list, into),
+            PackedRun::U16(list) => unpack(list, into),
+            PackedRun::I32(list) => unpack(list, into),
+            PackedRun::I64(list) => unpack(list, into),
         }
     }
 }

@@ -331,10 +331,19 @@ fn write_points<K: Sink>(
     ensures bytes { IfOk result (λ _. block.new.total ≤ block.old.total + 192 * field.now.grid.nx) }
 {
     match field.copies() {
-        PackedRun::Bytes(copies) => {
+        PackedRun::U8(copies) => {
             write_bricks(field, copies, style, active, y, z, flags, block, sink)
         }
-        PackedRun::Numbers(copies) => {
+        PackedRun::I16(copies) => {
+            write_bricks(field, copies, style, active, y, z, flags, block, sink)
+        }
+        PackedRun::U16(copies) => {
+            write_bricks(field, copies, style, active, y, z, flags, block, sink)
+        }
+        PackedRun::I32(copies) => {
+            write_bricks(field, copies, style, active, y, z, flags, block, sink)
+        }
+        PackedRun::I64(copies) => {
             write_bricks(field, copies, style, active, y, z, flags, block, sink)
         }
     }

@@ -130,6 +130,27 @@ impl Flagged for u8 {
     }
 }
 
+impl Flagged for i16 {
+    #[inline(always)]
+    fn flag_eight(here: &[i16], up: &[i16], far: &[i16], least: i64, out: &mut [u8]) {
+        flag_front(here, up, far, least, 8, out);
+    }
+}
+
+impl Flagged for u16 {
+    #[inline(always)]
+    fn flag_eight(here: &[u16], up: &[u16], far: &[u16], least: i64, out: &mut [u8]) {
+        flag_front(here, up, far, least, 8, out);
+    }
+}
+
+impl Flagged for i32 {
+    #[inline(always)]
+    fn flag_eight(here: &[i32], up: &[i32], far: &[i32], least: i64, out: &mut [u8]) {
+        flag_front(here, up, far, least, 8, out);
+    }
+}
+
 impl Flagged for i64 {
     #[inline(always)]
     fn flag_eight(here: &[i64], up: &[i64], far: &[i64], least: i64, out: &mut [u8]) {

@@ -222,6 +222,24 @@ fn flag_bricks<T: Flagged>(
     }
 }
 
+/// Writes the flags of the points of a row, in whichever width its samples are kept.
+fn flag_active(field: &Field, active: &ActiveRow, y: u32, z: u32, flags: &mut [u8])
+    requires active { AreMarked field.now active.now }
+    requires first { active.now.first ≡ first_brick field.now.grid y z }
+    requires y { y < field.now.grid.ny }
+    requires z { z < field.now.grid.nz }
+    requires flags { length flags.old ≡ field.now.grid.nx }
+    ensures { AreFlags field.now y z flags.new }
+{
+    match field.copies() {
+        PackedRun::U8(copies) => flag_bricks(field, copies, active, y, z, flags),
+        PackedRun::I16(copies) => flag_bricks(field, copies, active, y, z, flags),
+        PackedRun::U16(copies) => flag_bricks(field, copies, active, y, z, flags),
+        PackedRun::I32(copies) => flag_bricks(field, copies, active, y, z, flags),
+        PackedRun::I64(copies) => flag_bricks(field, copies, active, y, z, flags),
+    }
+}
+
 /// Writes the flags of the points of a row. It looks at active bricks alone.
 pub fn flag_row(field: &Field, active: &ActiveRow, y: u32, z: u32, flags: &mut [u8])
     requires active { AreMarked field.now active.now }
@@ -232,10 +250,7 @@ pub fn flag_row(field: &Field, active: &ActiveRow, y: u32, z: u32, flags: &mut [
     ensures each { AreFlags field.now y z flags.new }
     ensures list { flags.new ≡ flags_from field.now.grid (heights field.now) (row_start field.now.grid y z) field.now.grid.nx }
 {
-    match field.copies() {
-        PackedRun::Bytes(copies) => flag_bricks(field, copies, active, y, z, flags),
-        PackedRun::Numbers(copies) => flag_bricks(field, copies, active, y, z, flags),
-    }
+    flag_active(field, active, y, z, flags);
 }
 
 /// Writes the flags of the points of a row at the front of a buffer.

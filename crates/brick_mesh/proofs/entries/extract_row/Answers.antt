@@ -13,14 +13,8 @@ row_there v brick y z level y_low z_low there =
     = inside v.grid brick 0 (y + 1) (z + 1) (record { x-in = omega (arith, o.x-in); y-in = o.y-in; z-in = o.z-in }) (omega arith) (omega arith) (omega arith) in
     record { y_low = y_low; z_low = z_low; last = last }
 
-pub put_row-requires-clause-row : goal.put_row-requires-clause-row
-put_row-requires-clause-row g c = rw c.of-block.ensures (row_there c.args.store.now c.args.brick.0 c.args.y c.args.z c.args.level c.requires.y c.requires.z c.requires.there)
+pub put_cases-requires : goal.put_cases-requires
+put_cases-requires g c = record { row = rw c.of-block.ensures (row_there c.args.store.now c.args.brick.0 c.args.y c.args.z c.args.level c.requires.y c.requires.z c.requires.there) }
 
-pub put_row-requires-in-Numbers-clause-row : goal.put_row-requires-in-Numbers-clause-row
-put_row-requires-in-Numbers-clause-row g c = rw c.of-block.ensures (row_there c.args.store.now c.args.brick.0 c.args.y c.args.z c.args.level c.requires.y c.requires.z c.requires.there)
-
-pub returns-in-Bytes-clause-cases : goal.returns-in-Bytes-clause-cases
-returns-in-Bytes-clause-cases g c = c.put_row.ensures.cases ∙ ap (λ (b : BrickAt). row_cases b.grid (heights b) b.brick c.args.y c.args.z) c.of-block.ensures
-
-pub returns-in-Numbers-clause-cases : goal.returns-in-Numbers-clause-cases
-returns-in-Numbers-clause-cases g c = c.put_row-in-Numbers.ensures.cases ∙ ap (λ (b : BrickAt). row_cases b.grid (heights b) b.brick c.args.y c.args.z) c.of-block.ensures
+pub returns-clause-cases : goal.returns-clause-cases
+returns-clause-cases g c = c.put_cases.ensures.cases ∙ ap (λ (b : BrickAt). row_cases b.grid (heights b) b.brick c.args.y c.args.z) c.of-block.ensures

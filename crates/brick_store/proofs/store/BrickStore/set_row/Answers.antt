@@ -1,14 +1,20 @@
-use Rattle.std.proofs.Common.{◌≡◌, ℕ, ◌+◌, ◌≤◌, ◌<◌, ◌∙◌, List, ap, length, sym, subst, ℤ}
+use Rattle.std.proofs.Common.{◌≡◌, ℕ, ◌+◌, ◌≤◌, ◌<◌, ◌∙◌, List, All, ap, length, sym, subst, ℤ}
 use Rattle.iso_base.specs.Points.{IsPoint, index_of}
 use Rattle.iso_base.specs.Volume.{IsInner, IsVolume, Volume}
 use Rattle.packed_samples.specs.Runs.{row_set}
-use Rattle.brick_store.specs.Copies.{samples_of, volume_of}
-use Rattle.brick_store.specs.Kept.{HasRoom, copies_in}
+use Rattle.packed_samples.specs.Widths.{HasRoom, width_of}
+use Rattle.brick_store.specs.Copies.{volume_of}
+use Rattle.brick_store.specs.Kept.{copies_in}
+use Rattle.brick_store.proofs.Fitting.{room_for_kind}
 use Rattle.brick_store.proofs.RowVolumes.{row_set_at}
 use Rattle.brick_store.proofs.RowWriting.{row_in}
 use Rattle.brick_store.proofs.Keeping.{stored_again}
 use Rattle.brick_store.proofs.store.BrickStore.set_row.Goals as goal
-use Rattle.brick_store.proofs.store.BrickStore.set_row.Goals.{in-Bytes, in-Numbers}
+
+pub set_row-requires-clause-room : goal.set_row-requires-clause-room
+set_row-requires-clause-room c =
+    rw c.self.invariant.width (subst (λ (v : Volume). All (HasRoom (width_of v.kind v.pad)) c.args.values.now) (sym c.self.view_is)
+    (room_for_kind c.args.self.now.kind c.args.self.now.pad c.args.values.now c.requires.kind))
 
 pub invariant_of-self : goal.invariant_of-self
 invariant_of-self c =
@@ -23,10 +29,5 @@ invariant_of-self c =
     let kept : IsVolume (record v { samples = row_set (index_of g p) values v.samples })
     = row_set_at v c.args.self.now (index_of g p) values c.self.view_is c.self.invariant.bricks.volume (row_in g p at (length values) fits)
     (subst (λ h. (k : ℕ) → k < length values → IsInner c.args.self.now (index_of h p + k)) (sym grid) c.requires.inner) c.requires.kind in
-    elim c.match-self.branch [
-      | in-Bytes w ↦ rw w.self-inside-is (stored_again g s.kind s.pad _ (row_set (index_of g p) values v.samples) kept
-          (subst (HasRoom s.kind s.pad) w.in-Bytes.is c.self.invariant.room) w.write_row.ensures.copies
-          (w.write_row.ensures.samples ∙ ap (λ k. row_set (index_of g p) values (samples_of g (copies_in k))) (sym w.in-Bytes.is)))
-      | in-Numbers w ↦ rw w.self-inside-is (stored_again g s.kind s.pad _ (row_set (index_of g p) values v.samples) kept tt w.write_row-in-Numbers.ensures.copies
-          (w.write_row-in-Numbers.ensures.samples ∙ ap (λ k. row_set (index_of g p) values (samples_of g (copies_in k))) (sym w.in-Numbers.is)))
-    ]
+    stored_again g s.kind s.pad _ (row_set (index_of g p) values v.samples) kept (c.set_row.ensures.width ∙ c.self.invariant.width)
+    c.set_row.ensures.copies c.set_row.ensures.samples
