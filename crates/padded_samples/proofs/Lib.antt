@@ -1,0 +1,2 @@
+pub mod PadRows
+pub mod Parts

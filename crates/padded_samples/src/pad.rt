@@ -1,0 +1,231 @@
+//! Samples in a pad, which no list is made of.
+ghost use Rattle.std.specs.Prelude.{◌≡◌, ℕ, ℤ, ◌+◌, ◌*◌, ◌<◌, ◌≤◌, ◌↔◌, Err, IfOk, IfSome, None, All, drop, length, map, slice_index, take, true};
+ghost use Rattle.iso_defs.specs.Grid.{point_count};
+ghost use Rattle.iso_base.specs.Points.{IsPoint, index_of};
+ghost use Rattle.iso_base.specs.Samples.{IsSample};
+ghost use Rattle.iso_base.specs.Sizing.{sized};
+ghost use Rattle.iso_base.specs.Volume.{sample};
+ghost use Rattle.iso_base.specs.declared.sizes.SizeFault.{SizeFault};
+ghost use Rattle.voxel_list.specs.Padding.{grown};
+ghost use Rattle.samples.specs.Signs.{sign_of};
+ghost use Rattle.padded_samples.specs.Pads.{InPad, IsInPad, padded_at, padded_list};
+
+use crate::rows::{copy_inside, fill_signs, inner_row, points_before, put_inside, put_pad};
+use iso_base::{Level, Point, SizeFault, Sizes, index, point_of};
+use samples::{Packed, Samples, sample_sign};
+use std::marker::Model;
+
+/// Samples with one more layer on each of the six sides of their grid, all of whose samples are the pad. Contracts see the
+/// grid without the layer, its samples and the pad.
+#[derive(Drop)]
+pub struct Padded<'a, S: Samples> {
+    inner: &'a S,
+    sizes: Sizes,
+    stored: Sizes,
+    pad: i64,
+}
+
+impl<'a, S: Samples> Model for Padded<'a, S> {
+    ghost use Rattle.std.specs.Prelude.{◌≡◌};
+    ghost use Rattle.voxel_list.specs.Padding.{grown};
+    ghost use Rattle.padded_samples.specs.Pads.{InPad, IsInPad};
+
+    ghost Value = { InPad };
+
+    ghost view = { λ p. record { grid = p.sizes; samples = S.list p.inner.now; pad = p.pad } };
+
+    ghost invariant = { λ p. IsInPad (record { grid = p.sizes; samples = S.list p.inner.now; pad = p.pad }) × (p.stored ≡ grown p.sizes) };
+}
+
+/// Whether two grids have the same sizes.
+#[inline(always)]
+fn are_same(a: &Sizes, b: &Sizes) -> bool
+    ensures { result ≡ true → a.now ≡ b.now }
+{
+    a.nx() == b.nx() && a.ny() == b.ny() && a.nz() == b.nz()
+}
+
+impl<'a, S: Samples> Padded<'a, S> {
+    /// The samples of a grid in a pad. It is refused exactly where the sizes grown by two are.
+    pub fn new(inner: &'a S, sizes: Sizes, pad: i64) -> Result<Padded<'a, S>, SizeFault>
+        requires count { length (S.list inner.now) ≡ point_count sizes }
+        requires range { IsSample pad }
+        ensures ok { IfOk result (λ p. p ≡ record { grid = sizes; samples = S.list inner.now; pad = pad }) }
+        ensures size { (fault : SizeFault) → (result ≡ Err fault) ↔ (sized (grown sizes) ≡ Err fault) }
+    {
+        let (nx, ny, nz) = (sizes.nx(), sizes.ny(), sizes.nz());
+        let stored = Sizes::new(u64::from(nx) + 2, u64::from(ny) + 2, u64::from(nz) + 2)?;
+        let _ = stored.nx();
+        Ok(Padded {
+            inner,
+            sizes,
+            stored,
+            pad,
+        })
+    }
+
+    /// The sizes of the grid with the layer.
+    pub fn sizes(&self) -> Sizes
+        ensures value { result ≡ grown self.now.grid }
+        ensures valid { IsInPad self.now }
+    {
+        self.stored
+    }
+
+    /// The sample of the layer.
+    #[inline(always)]
+    fn pad(&self) -> i64
+        ensures { result ≡ self.now.pad }
+    {
+        self.pad
+    }
+
+    /// The sample of a point of the grid with the layer.
+    #[inline(always)]
+    fn get(&self, point: Point) -> i64
+        requires { IsPoint (grown self.now.grid) point }
+        ensures { result ≡ padded_at self.now (index_of (grown self.now.grid) point) }
+    {
+        let Some(row) = inner_row(&self.sizes, point.y, point.z) else {
+            return self.pad;
+        };
+        if point.x == 0 {
+            return self.pad;
+        }
+        if point.x == self.sizes.nx() + 1 {
+            return self.pad;
+        }
+        let x = point.x - 1;
+        self.inner.at_point(&self.sizes, Point { x, ..row })
+    }
+
+    /// The sample of an index of the grid with the layer.
+    #[inline(always)]
+    fn sample(&self, index: u32) -> i64
+        requires { index < point_count (grown self.now.grid) }
+        ensures { result ≡ padded_at self.now index }
+    {
+        let sizes = self.sizes();
+        self.get(point_of(&sizes, index))
+    }
+
+    /// Copies the samples of a row from a point of the grid with the layer on.
+    #[inline(always)]
+    fn copy_part<T: Packed>(&self, point: Point, into: &mut [T])
+        requires point { IsPoint (grown self.now.grid) point }
+        requires row { point.x + length into.old ≤ self.now.grid.nx + 2 }
+        requires fits { (i : ℕ) → i < length into.old → T.Fits (padded_at self.now (index_of (grown self.now.grid) point + i)) }
+        ensures { (i : ℕ) → i < length into.old
+            → sample (map T.value into.new) i ≡ padded_at self.now (index_of (grown self.now.grid) point + i) }
+    {
+        let count = into.len();
+        let Some(row) = inner_row(&self.sizes, point.y, point.z) else {
+            return put_pad(self.pad, 0, count, into);
+        };
+        let first = points_before(point.x, count);
+        let last = ((self.sizes.nx() + 1 - point.x) as usize).min(count);
+        put_pad(self.pad, 0, first, into);
+        put_pad(self.pad, last, count, into);
+        if first < last {
+            let x = point.x + first as u32 - 1;
+            let point = Point { x, ..row };
+            copy_inside(self.inner, &self.sizes, point, first, last - first, into);
+        }
+    }
+
+    /// Copies samples from an index of the grid with the layer on, one by one.
+    fn copy_each<T: Packed>(&self, start: u32, into: &mut [T])
+        requires room { start + length into.old ≤ point_count (grown self.now.grid) }
+        requires fits { (i : ℕ) → i < length into.old → T.Fits (padded_at self.now (start + i)) }
+        ensures { (i : ℕ) → i < length into.old → sample (map T.value into.new) i ≡ padded_at self.now (start + i) }
+    {
+        // Reading the sizes brings in that the samples are so few that their indices fit.
+        let _ = self.sizes();
+        for k in 0..into.len() {
+            into[k] = T::of(self.sample(start + k as u32));
+        }
+    }
+
+    /// Writes the signs of a row of the grid with the layer over a part of a list.
+    #[inline(always)]
+    fn put_row(&self, y: u32, z: u32, level: Level, from: usize, into: &mut [u8])
+        requires y { y < self.now.grid.ny + 2 }
+        requires z { z < self.now.grid.nz + 2 }
+        requires room { from + (self.now.grid.nx + 2) ≤ length into.old }
+        ensures inside { (i : ℕ) → i < self.now.grid.nx + 2 → slice_index into.new (from + i)
+            ≡ sign_of level (padded_at self.now ((self.now.grid.nx + 2) * (y + (self.now.grid.ny + 2) * z) + i)) }
+        ensures before { (i : ℕ) → i < from → slice_index into.new i ≡ slice_index into.old i }
+    {
+        let count = self.sizes.nx() as usize;
+        let sign = sample_sign(self.pad(), level);
+        let Some(row) = inner_row(&self.sizes, y, z) else {
+            return fill_signs(sign, from, count + 2, into);
+        };
+        put_inside(self.inner, index(&self.sizes, row), level, from + 1, count, into);
+        into[from] = sign;
+        into[from + 1 + count] = sign;
+    }
+
+    /// Writes the signs of the first rows of the grid with the layer, so many.
+    fn put_rows(&self, rows: u32, level: Level, into: &mut [u8])
+        requires rows { rows ≤ (self.now.grid.ny + 2) * (self.now.grid.nz + 2) }
+        requires room { length into.old ≡ (self.now.grid.nx + 2) * rows }
+        ensures { (i : ℕ) → i < length into.old → slice_index into.new i ≡ sign_of level (padded_at self.now i) }
+    {
+        let width = self.sizes.nx() as usize + 2;
+        let height = self.sizes.ny() + 2;
+        for row in 0..rows {
+            self.put_row(row % height, row / height, level, width * row as usize, into);
+        }
+    }
+
+    /// Writes the signs of samples from an index on, one by one.
+    fn put_each(&self, start: u32, level: Level, into: &mut [u8])
+        requires { start + length into.old ≤ point_count (grown self.now.grid) }
+        ensures { (i : ℕ) → i < length into.old → slice_index into.new i ≡ sign_of level (padded_at self.now (start + i)) }
+    {
+        // Reading the sizes brings in that the samples are so few that their indices fit.
+        let _ = self.sizes();
+        for k in 0..into.len() {
+            into[k] = sample_sign(self.sample(start + k as u32), level);
+        }
+    }
+}
+
+impl<'a, S: Samples> Samples for Padded<'a, S> {
+    ghost list = { padded_list };
+
+    #[inline(always)]
+    fn at(&self, index: u32) -> i64 {
+        self.sample(index)
+    }
+
+    // A grid with as many points is nearly always this one, whose points need no division.
+    #[inline(always)]
+    fn at_point(&self, sizes: &Sizes, point: Point) -> i64 {
+        if are_same(sizes, &self.stored) {
+            self.get(point)
+        } else {
+            self.sample(index(sizes, point))
+        }
+    }
+
+    #[inline(always)]
+    fn copy_row<T: Packed>(&self, sizes: &Sizes, point: Point, into: &mut [T]) {
+        if are_same(sizes, &self.stored) {
+            self.copy_part(point, into);
+        } else {
+            self.copy_each(index(sizes, point), into);
+        }
+    }
+
+    // The signs of all samples are written row by row.
+    fn put_signs(&self, start: u32, level: Level, into: &mut [u8]) {
+        let rows = self.stored.ny() * self.stored.nz();
+        if start == 0 && into.len() == self.stored.nx() as usize * rows as usize {
+            self.put_rows(rows, level, into);
+        } else {
+            self.put_each(start, level, into);
+        }
+    }
+}
