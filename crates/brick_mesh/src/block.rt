@@ -12,7 +12,8 @@ ghost use Rattle.packed_samples.specs.Runs.{samples_in};
 
 use brick_store::{BrickId, BrickStore};
 use iso_base::Level;
-use packed_samples::{Packed, PackedRun};
+use packed_samples::PackedRun;
+use samples::Packed;
 use std::marker::Model;
 
 /// The shifted value of a sample among the copies of a brick.

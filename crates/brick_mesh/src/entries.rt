@@ -17,7 +17,8 @@ use arrayvec::ArrayVec;
 use brick_store::{BrickId, BrickStore};
 use case_table::{ambiguous_set, classify, classify_with, joined_faces_of};
 use iso_base::{Level, Steps};
-use packed_samples::{Packed, PackedRun};
+use packed_samples::PackedRun;
+use samples::Packed;
 use std::sync::ledger::Ledger;
 
 /// The number of the case of a cell, which is classified.

@@ -14,6 +14,7 @@ use Rattle.brick_store.specs.Holding.{brick_at}
 use Rattle.brick_store.specs.Copies.{AreCopies, copy_at, copy_place, samples_of}
 use Rattle.brick_store.specs.Rows.{AreOffsets, AreRowWritten, InZone, IsOfRow, Zone, row_zone}
 use Rattle.packed_samples.specs.Runs.{row_set}
+use Rattle.samples.proofs.Rows.{row_in}
 use Rattle.brick_store.proofs.BrickNumbers.{IsIn, IsPlaced, is_in, brick_grid, brick_places, places}
 use Rattle.brick_store.proofs.Standing.{length-samples_of, stands_for_one}
 use Rattle.brick_store.proofs.Writing.{place_brick, place_x, place_y, place_z}
@@ -238,17 +239,6 @@ one_written g p values bx by bz from end old new is hx hy hz f0 f1 f2 fe e0 e1 e
         shifted b d y z n le = omega arith
 
 -- ---- the whole row
-
--- the row lies in the list
-pub row_in : (g : Grid) (p : Point) → IsPoint g p → (n : ℕ) → p.x + n ≤ g.nx → index_of g p + n ≤ point_count g
-row_in g p at n h = elim (cases_lt 0 n) [
-  | inl l ↦ (
-      let last : index g (p.x + (n - 1)) p.y p.z < point_count g = index_in g (p.x + (n - 1)) p.y p.z (omega arith) at.y at.z in
-      omega arith)
-  | inr z ↦ (
-      let first : index_of g p < point_count g = index_in g p.x p.y p.z at.x at.y at.z in
-      omega arith)
-]
 
 -- copies that were written in each brick that holds a point of a row stand for the samples with those of the row replaced
 pub row_stands : (g : Grid) (p : Point) (values : List ℤ) (a : Zone) (old new : List ℤ) → IsGrid g → IsPoint g p → p.x + length values ≤ g.nx → AreCopies g old

@@ -16,7 +16,8 @@ ghost use Rattle.brick_store.specs.Kept.{copies_in, kept_width};
 use crate::boxes::Values;
 use crate::{boxes, copies, filling, flat, numbering, rows, taken};
 use iso_base::{CellName, Point, SampleKind, Sizes};
-use packed_samples::{PackedRun, SampleRuns, Width};
+use packed_samples::{PackedRun, Width};
+use samples::Samples;
 use std::alloc::{AllocError, Global};
 use voxel_list::FillBox;
 
@@ -32,7 +33,7 @@ pub enum Kept {
 
 impl Kept {
     /// The copies of the bricks of a volume.
-    pub fn of_samples<S: SampleRuns>(
+    pub fn of_samples<S: Samples>(
         alloc: Global,
         sizes: &Sizes,
         kind: SampleKind,

@@ -19,7 +19,8 @@ use crate::kept::Kept;
 use crate::numbering::{self, BrickId};
 use arrayvec::ArrayVec;
 use iso_base::{CellName, Memory, Point, SampleKind, Sizes};
-use packed_samples::{Packed, PackedRun, SampleRuns};
+use packed_samples::PackedRun;
+use samples::{Packed, Samples};
 use std::alloc::Global;
 use std::marker::Model;
 use voxel_list::{FillBox, VoxelList};
@@ -58,7 +59,7 @@ impl BrickStore {
 
     /// The bricks of the volume of these sizes, kind, pad and samples. Each row of a brick is copied from the list, so that
     /// it may lie in a file.
-    pub fn of_samples<S: SampleRuns>(
+    pub fn of_samples<S: Samples>(
         alloc: Global,
         sizes: Sizes,
         kind: SampleKind,

@@ -7,7 +7,8 @@ use crate::stores::{MIDDLE, dotted, zeros};
 use arrayvec::ArrayVec;
 use brick_store::{BrickId, BrickStore};
 use iso_base::{CellName, Point, SampleKind};
-use packed_samples::{Packed, PackedRun};
+use packed_samples::PackedRun;
+use samples::Packed;
 use std::process::Abort;
 use voxel_list::VoxelList;
 

@@ -5,9 +5,9 @@ ghost use Rattle.nrrd_read.specs.Files.{file_voxels, IsRead};
 ghost use Rattle.nrrd_read.specs.Nrrd.{Fails, nrrd_of};
 
 use brick_store::BrickStore;
-use iso_base::Memory;
+use iso_base::{Level, Memory, Point, Sizes, index};
 use nrrd_read::{FileVolume, NrrdFault, RawVolume, read_file_volume};
-use packed_samples::{Packed, SampleRuns, pack};
+use samples::{Packed, Samples, copy_all, sample_sign};
 use std::alloc::Global;
 use voxel_list::VoxelList;
 
@@ -39,18 +39,33 @@ fn copy_nine<T: Packed>(volume: &RawVolume<'_>, start: u32, into: &mut [T])
 {
     let mut samples = [0; 9];
     volume.copy_run(start, &mut samples);
-    pack(&samples, into);
+    copy_all(&samples, into);
 }
 
-impl<'a> SampleRuns for RawSamples<'a> {
+impl<'a> Samples for RawSamples<'a> {
     ghost list = { λ s. s.volume.now.samples };
 
+    fn at(&self, index: u32) -> i64 {
+        self.volume.at(index)
+    }
+
+    fn at_point(&self, sizes: &Sizes, point: Point) -> i64 {
+        self.volume.at(index(sizes, point))
+    }
+
     #[inline(always)]
-    fn copy_run<T: Packed>(&self, start: u32, into: &mut [T]) {
+    fn copy_row<T: Packed>(&self, sizes: &Sizes, point: Point, into: &mut [T]) {
+        let start = index(sizes, point);
         if into.len() == 9 {
             copy_nine(self.volume, start, into);
         } else {
             copy_each(self.volume, start, into);
+        }
+    }
+
+    fn put_signs(&self, start: u32, level: Level, into: &mut [u8]) {
+        for k in 0..into.len() {
+            into[k] = sample_sign(self.volume.at(start + k as u32), level);
         }
     }
 }

@@ -20,7 +20,8 @@ use mesh_text::Fours;
 use nrrd::{coded_head_bytes, put_coded_head};
 use nrrd_text::{SampleLines, gather_hex, gather_text};
 use number_digits::{Counted, Digits};
-use packed_samples::{Packed, PackedRun};
+use packed_samples::PackedRun;
+use samples::Packed;
 
 /// The most samples in the rows that bricks have of a plane: nine rows of 1,026.
 const MOST: usize = 9_234;

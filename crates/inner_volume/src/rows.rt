@@ -11,7 +11,7 @@ ghost use Rattle.inner_volume.specs.Unpadded.{inner_samples};
 use crate::places::layer_of;
 use brick_store::{BrickId, BrickStore};
 use iso_base::Sizes;
-use packed_samples::Packed;
+use samples::Packed;
 
 /// Rows off the pad's layer that the same bricks have: the number of the first row and how many they are, the first brick
 /// that they go through, and where they begin in it. The offsets across and up are the same in each brick behind.

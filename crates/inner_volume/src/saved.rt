@@ -16,7 +16,8 @@ use brick_store::BrickStore;
 use iso_base::{SampleKind, Sizes};
 use iso_io::{Failed, Shelf, ShelfFile, Sink};
 use nrrd::{put_nrrd_head, put_packed_samples, volume_bytes};
-use packed_samples::{Packed, PackedRun};
+use packed_samples::PackedRun;
+use samples::Packed;
 
 /// So many samples are gathered from rows before they are written.
 const BLOCK: usize = 16_384;

@@ -11,7 +11,7 @@ use byte_streams::{Failed, Sink, write_all_of};
 use byteorder::{ByteOrder, LittleEndian};
 use iso_base::{SampleKind, Sizes, put_number};
 use nrrd_read::Encoding;
-use packed_samples::{Packed, sample_at};
+use samples::{Packed, sample_at};
 
 /// The name of a kind in print.
 #[tactic(auto, unfolding(crate::specs::Writing::kind_text))]

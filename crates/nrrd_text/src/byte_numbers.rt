@@ -8,7 +8,7 @@ ghost use Rattle.nrrd_text.specs.Writing.{next_number};
 
 use crate::numbers::put_next;
 use number_digits::Counted;
-use packed_samples::{Packed, sample_at};
+use samples::{Packed, sample_at};
 use std::marker::Model;
 
 /// The entry of a byte: its number behind a space, and behind these four bytes how many of them count.

@@ -9,7 +9,7 @@ use crate::forms::Form;
 use crate::sample_lines::SampleLines;
 use byte_streams::{Failed, Sink, write_all_of};
 use number_digits::Digits;
-use packed_samples::Packed;
+use samples::Packed;
 
 /// So many samples are put at once: whether there is room is asked for all of them, and not for each.
 const PIECE: usize = 256;

@@ -7,7 +7,7 @@ ghost use Rattle.text_samples.specs.Samples.{bits_of};
 ghost use Rattle.nrrd_text.specs.Writing.{byte_digits, hex_digit, sample_digits, samples_digits};
 
 use iso_base::SampleKind;
-use packed_samples::{Packed, sample_at};
+use samples::{Packed, sample_at};
 use std::marker::Model;
 
 /// A small hex digit.

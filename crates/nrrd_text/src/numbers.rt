@@ -6,7 +6,7 @@ ghost use Rattle.nrrd_text.specs.Writing.{next_number};
 
 use itoa::Buffer;
 use number_digits::Digits;
-use packed_samples::{Packed, sample_at};
+use samples::{Packed, sample_at};
 
 /// The numbers from here on have more digits than those of a volume.
 const LONG: u64 = 100_000_000_000;

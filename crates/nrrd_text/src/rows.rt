@@ -10,7 +10,7 @@ use crate::sample_lines::SampleLines;
 use byte_streams::{Failed, Sink};
 use iso_base::SampleKind;
 use number_digits::{Counted, Digits};
-use packed_samples::Packed;
+use samples::Packed;
 
 /// Puts a line of samples as numbers, one space between two, behind what waits, and says how many bytes it has. What waits is written
 /// where there is no room, and by the caller at the end. After `Failed` the sink has taken a front of what waited and the

@@ -9,7 +9,7 @@ use crate::forms::Form;
 use crate::hex_digits::Pairs;
 use crate::numbers::{put_number, put_others};
 use number_digits::Digits;
-use packed_samples::Packed;
+use samples::Packed;
 use std::marker::Model;
 
 /// So many bytes wait at most: a write of the system costs as much as thousands of bytes.

@@ -2,13 +2,10 @@
 #![tactic(auto)]
 
 mod list;
-mod number;
+mod numbers;
 mod run;
-mod source;
 mod width;
 
 pub use list::PackedList;
-pub use number::{Packed, pack, sample_at};
 pub use run::PackedRun;
-pub use source::SampleRuns;
 pub use width::Width;

@@ -1,10 +1,13 @@
 //! Lists of packed samples.
 ghost use Rattle.std.specs.Prelude.{◌≡◌, ◌+◌, ◌<◌, ◌≤◌, ◌^◌, ◌++◌, ℤ, List, All, OnOk, length, map, pos, drop, take, replicate, slice_set};
+ghost use Rattle.iso_defs.specs.Grid.{point_count};
+ghost use Rattle.iso_base.specs.Points.{IsPoint, index_of};
 ghost use Rattle.iso_base.specs.Volume.{sample};
 ghost use Rattle.packed_samples.specs.Runs.{row_set};
 
-use crate::number::{Packed, pack, sample_at, unpack};
-use crate::source::SampleRuns;
+use crate::numbers::{pack, unpack};
+use iso_base::{Point, Sizes};
+use samples::{Packed, Samples, sample_at};
 use std::alloc::AllocError;
 
 /// A list of samples in one width. Contracts see the samples, and which ones the width has room for.
@@ -41,15 +44,25 @@ pub trait PackedList {
         requires { length (list self.old) + count < 2 ^ 64 }
         ensures { OnOk result (list self.new ≡ list self.old ++ replicate count (pos 0)) };
 
-    /// Copies so many samples of a source from an index on over the samples from a place on.
-    fn take_from<S: SampleRuns>(&mut self, place: usize, samples: &S, start: u32, count: usize)
+    /// Copies so many samples of a row, along x from a point of a grid on, over the samples from a place on.
+    fn take_row<S: Samples>(
+        &mut self,
+        place: usize,
+        samples: &S,
+        sizes: &Sizes,
+        point: Point,
+        count: usize,
+    )
         requires room { place + count ≤ length (list self.old) }
-        requires there { start + count ≤ length (S.list samples.now) }
+        requires count { length (S.list samples.now) ≡ point_count sizes.now }
+        requires point { IsPoint sizes.now point }
+        requires row { point.x + count ≤ sizes.now.nx }
         requires fits { All Fits (S.list samples.now) }
-        ensures { list self.new ≡ row_set place (take count (drop start (S.list samples.now))) (list self.old) };
+        ensures { list self.new ≡ row_set place (take count (drop (index_of sizes.now point) (S.list samples.now))) (list self.old) };
 }
 
-// Nine samples, as many as a whole row of a brick has, are copied without a loop or a call, since their number is known.
+// Nine samples, as many as a whole row of a brick has, are copied without a loop or a call, since their number is known; so are
+// eight, which stand beside the pad, and where a grid ends.
 impl<T: Packed + Drop> PackedList for Vec<T> {
     ghost list = { λ v. map T.value v.items };
 
@@ -84,11 +97,18 @@ impl<T: Packed + Drop> PackedList for Vec<T> {
     }
 
     #[inline(always)]
-    fn take_from<S: SampleRuns>(&mut self, place: usize, samples: &S, start: u32, count: usize) {
-        if count == 9 {
-            samples.copy_run(start, &mut self[place..place + 9]);
-        } else {
-            samples.copy_run(start, &mut self[place..place + count]);
+    fn take_row<S: Samples>(
+        &mut self,
+        place: usize,
+        samples: &S,
+        sizes: &Sizes,
+        point: Point,
+        count: usize,
+    ) {
+        match count {
+            9 => samples.copy_row(sizes, point, &mut self[place..place + 9]),
+            8 => samples.copy_row(sizes, point, &mut self[place..place + 8]),
+            _ => samples.copy_row(sizes, point, &mut self[place..place + count]),
         }
     }
 }

@@ -3,7 +3,8 @@ ghost use Rattle.std.specs.Prelude.{◌≡◌, ◌+◌, ◌<◌, ◌≤◌, drop
 ghost use Rattle.iso_base.specs.Volume.{sample};
 ghost use Rattle.packed_samples.specs.Runs.{samples_in};
 
-use crate::number::{sample_at, unpack};
+use crate::numbers::unpack;
+use samples::sample_at;
 
 /// Samples one behind the other where they lie in memory, in the width that they are kept in.
 #[derive(Clone, Copy, Debug)]

@@ -26,7 +26,8 @@ use crossing_edges::begin_none;
 use edge_points::{RowRanks, place};
 use flat_mesh::Heights;
 use iso_base::Point;
-use packed_samples::{Packed, PackedRun};
+use packed_samples::PackedRun;
+use samples::Packed;
 use stitch_rows::{
     ActiveRow, Field, PointRuns, ROW, Rows, count_along, flag_row, point_runs, rows_at,
 };

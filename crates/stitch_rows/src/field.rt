@@ -19,7 +19,8 @@ use crate::bricks::BrickRow;
 use brick_store::{BrickId, BrickStore};
 use flat_mesh::{Cell, Heights};
 use iso_base::{Level, Sizes};
-use packed_samples::{Packed, PackedRun};
+use packed_samples::PackedRun;
+use samples::Packed;
 use span_tree::SpanTree;
 use std::marker::Model;
 

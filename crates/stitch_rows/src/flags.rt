@@ -5,7 +5,7 @@ ghost use Rattle.crossing_edges.specs.Signs.{flag_of};
 ghost use Rattle.stitch_rows.specs.Rows.{AreZerosFrom, run_flags};
 
 use crate::lanes::flag_bytes;
-use packed_samples::Packed;
+use samples::Packed;
 
 /// Numbers that samples are kept as, of which the flags of points are taken eight at a time.
 pub(crate) trait Flagged: Packed {

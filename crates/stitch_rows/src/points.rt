@@ -15,7 +15,8 @@ use crate::field::Field;
 use crate::flags::{Flagged, put_eight, put_last, put_zeros};
 use flat_mesh::{Heights, rank_points};
 use iso_base::Sizes;
-use packed_samples::{Packed, PackedRun};
+use packed_samples::PackedRun;
+use samples::Packed;
 
 /// The most points of a row.
 pub const ROW: usize = 1026;

@@ -32,7 +32,7 @@ of-requires-clause-least g c =
     let value = g.T.Packed.value in
     let numbers = c.args.numbers.now in
     let cast : to_z w64 (of_z w64 c.sample.result) ≡ c.sample.result = search (rules, to_z-of_z) in
-    subst IsSample (sym (cast ∙ (c.sample.ensures ∙ (c.loop-k.invariant.least
+    subst IsSample (sym (cast ∙ (c.sample.ensures.value ∙ (c.loop-k.invariant.least
     ∙ ap (fold int_min (value c.index-numbers-0.result)) (all_seen value numbers c.loop-k.k c.loop-k-test.false)))))
     (least_of (value c.index-numbers-0.result) (map value numbers) (omega (arith, c.requires.some, length-map numbers value)) c.requires.range
     (item_value value numbers 0 c.index-numbers-0.result c.requires.some c.index-numbers-0.is)).1
@@ -42,7 +42,7 @@ of-requires-clause-greatest g c =
     let value = g.T.Packed.value in
     let numbers = c.args.numbers.now in
     let cast : to_z w64 (of_z w64 c.sample-2.result) ≡ c.sample-2.result = search (rules, to_z-of_z) in
-    subst IsSample (sym (cast ∙ (c.sample-2.ensures ∙ (c.loop-k.invariant.greatest
+    subst IsSample (sym (cast ∙ (c.sample-2.ensures.value ∙ (c.loop-k.invariant.greatest
     ∙ ap (fold int_max (value c.index-numbers-0-2.result)) (all_seen value numbers c.loop-k.k c.loop-k-test.false)))))
     (greatest_of (value c.index-numbers-0-2.result) (map value numbers) (omega (arith, c.requires.some, length-map numbers value)) c.requires.range
     (item_value value numbers 0 c.index-numbers-0-2.result c.requires.some c.index-numbers-0-2.is)).1
@@ -55,11 +55,11 @@ returns g c =
     let high : to_z w64 (of_z w64 c.sample-2.result) ≡ c.sample-2.result = search (rules, to_z-of_z) in
     let some : 0 < length (map value numbers) = omega (arith, c.requires.some, length-map numbers value) in
     c.of.ensures ∙ ap₂ (λ (l h : ℤ). record { least = l; greatest = h })
-    (low ∙ (c.sample.ensures ∙ (c.loop-k.invariant.least
+    (low ∙ (c.sample.ensures.value ∙ (c.loop-k.invariant.least
     ∙ (ap (fold int_min (value c.index-numbers-0.result)) (all_seen value numbers c.loop-k.k c.loop-k-test.false)
     ∙ (least_of (value c.index-numbers-0.result) (map value numbers) some c.requires.range
     (item_value value numbers 0 c.index-numbers-0.result c.requires.some c.index-numbers-0.is)).0))))
-    (high ∙ (c.sample-2.ensures ∙ (c.loop-k.invariant.greatest
+    (high ∙ (c.sample-2.ensures.value ∙ (c.loop-k.invariant.greatest
     ∙ (ap (fold int_max (value c.index-numbers-0-2.result)) (all_seen value numbers c.loop-k.k c.loop-k-test.false)
     ∙ (greatest_of (value c.index-numbers-0-2.result) (map value numbers) some c.requires.range
     (item_value value numbers 0 c.index-numbers-0-2.result c.requires.some c.index-numbers-0-2.is)).0))))

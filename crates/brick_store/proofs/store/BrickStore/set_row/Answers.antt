@@ -7,7 +7,7 @@ use Rattle.brick_store.specs.Copies.{volume_of}
 use Rattle.brick_store.specs.Kept.{copies_in}
 use Rattle.brick_store.proofs.Fitting.{room_for_kind}
 use Rattle.brick_store.proofs.RowVolumes.{row_set_at}
-use Rattle.brick_store.proofs.RowWriting.{row_in}
+use Rattle.samples.proofs.Rows.{row_in}
 use Rattle.brick_store.proofs.Keeping.{stored_again}
 use Rattle.brick_store.proofs.store.BrickStore.set_row.Goals as goal
 

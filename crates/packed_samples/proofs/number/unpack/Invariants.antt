@@ -1,6 +1,0 @@
-use Rattle.std.proofs.Common.{◌≡◌, ℕ, ◌<◌, map}
-use Rattle.iso_base.specs.Volume.{sample}
-use Rattle.packed_samples.proofs.number.unpack.Given as goal
-
-abbrev pub invariant-loop-k : goal.invariant-loop-k
-invariant-loop-k g l = (j : ℕ) → j < l.k → sample l.into j ≡ sample (map g.T.Packed.value l.packed) j
