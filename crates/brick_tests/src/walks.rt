@@ -10,7 +10,6 @@ use arrayvec::ArrayVec;
 use brick_mesh::{extract_brick, extract_row};
 use brick_store::{BrickId, BrickStore};
 use byte_streams::{Failed, MemSink};
-use crossing_edges::Numbers;
 use edge_points::RowRanks;
 use flat_mesh::{Mesh, extract_flat};
 use iso_base::{Level, Memory, Point, SampleKind, Sizes, Steps, VoxelData, Written};
@@ -103,11 +102,8 @@ fn listed_text(
     format: TwoWayFormat,
 ) -> Result<Told, Memory> {
     let padded = volume.pad().is_some();
-    let samples = Numbers {
-        numbers: volume.samples(),
-    };
     let mut sink = empty_sink(alloc)?;
-    let mesh = ListMesh::of(alloc, volume.sizes(), &samples, level)?;
+    let mesh = ListMesh::of(alloc, volume.sizes(), volume, level)?;
     let written = mesh.write(Style { format, padded }, &mut sink);
     Ok(Told { sink, written })
 }

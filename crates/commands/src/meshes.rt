@@ -15,20 +15,19 @@ ghost use Rattle.point_command.specs.Volumes.{volume_limit};
 
 use crate::volumes::volume_in;
 use bench_core::watertight;
-use crossing_edges::{Numbers, SampleList};
 use endings::Answer;
-use file_points::{FileBytes, FileSamples};
-use iso_base::{Level, SampleKind, Sizes, Written};
+use iso_base::{Level, Sizes, Written};
 use iso_io::{Failed, Sink, Source};
 use list_stitch::{ListMesh, Style};
 use mesh_text::TwoWayFormat;
-use nrrd_read::{FileVolume, RawVolume, read_file_volume};
+use nrrd_read::{FileVolume, RawVolume, read_file_volume, with_samples};
 use point_command::{NoVolume, bytes_of_input};
+use samples::Samples;
 use std::alloc::Global;
 use voxel_list::VoxelList;
 
 /// Appends the text of a volume's mesh.
-fn put_text<S: SampleList, K: Sink>(
+fn put_text<S: Samples, K: Sink>(
     sink: &mut K,
     mesh: &ListMesh<'_, S>,
     style: Style,
@@ -46,7 +45,7 @@ fn is_padded(volume: &VoxelList) -> bool
 }
 
 /// Writes the mesh of a volume, from its sizes and its samples.
-fn write_mesh<S: SampleList, K: Sink>(
+fn write_mesh<S: Samples, K: Sink>(
     alloc: Global,
     level: Level,
     style: Style,
@@ -82,15 +81,12 @@ fn extract_list<K: Sink>(
 {
     let padded = is_padded(volume);
     watertight(volume, level);
-    let samples = Numbers {
-        numbers: volume.samples(),
-    };
     let style = Style { format, padded };
-    write_mesh(alloc, level, style, volume.sizes(), &samples, output)
+    write_mesh(alloc, level, style, volume.sizes(), volume, output)
 }
 
 /// Writes the mesh of a volume in its file without a pad, from its samples.
-fn extract_samples<S: SampleList, K: Sink>(
+fn extract_samples<S: Samples, K: Sink>(
     alloc: Global,
     level: Level,
     format: TwoWayFormat,
@@ -109,8 +105,7 @@ fn extract_samples<S: SampleList, K: Sink>(
     write_mesh(alloc, level, style, volume.sizes(), samples, output)
 }
 
-/// Writes the mesh of a volume without a pad whose samples stay in its file: bytes as they are, and numbers of other kinds as
-/// they are asked for.
+/// Writes the mesh of a volume without a pad whose samples stay in its file.
 fn extract_raw<K: Sink>(
     alloc: Global,
     level: Level,
@@ -121,18 +116,9 @@ fn extract_raw<K: Sink>(
     ensures text { WritesGiven (Ok (text_of_volume format level (unpadded volume.now))) (K.seen output.old) (K.seen output.new) result }
     ensures surface { IsWatertight (unpadded volume.now) level }
 {
-    match volume.kind() {
-        SampleKind::U8 => {
-            let samples = FileBytes {
-                bytes: volume.bytes(),
-            };
-            extract_samples(alloc, level, format, volume, &samples, output)
-        }
-        _ => {
-            let samples = FileSamples { volume };
-            extract_samples(alloc, level, format, volume, &samples, output)
-        }
-    }
+    with_samples!(volume.samples(), samples => {
+        extract_samples(alloc, level, format, volume, &samples, output)
+    })
 }
 
 /// Writes the mesh of the volume in the bytes of a file.

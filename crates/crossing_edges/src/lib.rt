@@ -5,9 +5,7 @@
 mod counts;
 mod edges;
 mod flags;
-mod samples;
 
 pub use counts::{begin_none, count_all_edges, count_edges};
 pub use edges::{EdgeVertices, crossing_points, edge_vertices, position_on};
 pub use flags::{PointBits, flag_row, point_bits, point_flags, put_flags};
-pub use samples::{Numbers, SampleList, signs_of};

@@ -1,14 +1,13 @@
 //! The crossing edges of a volume in its file.
 ghost use Rattle.std.specs.Prelude.{◌≡◌, IfOk, IfErr};
-ghost use Rattle.iso_base.specs.declared.kind.SampleKind.TheVariants as kinds;
 ghost use Rattle.nrrd_read.specs.Files.{file_voxels};
 ghost use Rattle.nrrd_read.specs.Nrrd.{Fails, nrrd_of};
 ghost use Rattle.file_points.specs.Edges.{AreEdgesOf, AreEdgesOfFile};
 
-use crate::samples::{FileBytes, FileSamples};
-use crossing_edges::{EdgeVertices, Numbers, crossing_points};
-use iso_base::{Level, Memory, SampleKind, Sizes, VoxelData};
-use nrrd_read::{FileVolume, NrrdFault, RawVolume, read_file_volume};
+use crossing_edges::{EdgeVertices, crossing_points};
+use iso_base::{Level, Memory, Sizes, VoxelData};
+use nrrd_read::{FileVolume, NrrdFault, RawVolume, read_file_volume, with_samples};
+use samples::Samples;
 use std::alloc::Global;
 
 /// The crossing edges of a volume, and the sizes of its grid.
@@ -18,49 +17,26 @@ pub struct FileEdges {
     pub edges: EdgeVertices,
 }
 
-/// The crossing edges at a level of a volume whose samples are bytes of its file, each with its place.
-fn edges_in_bytes<'a>(
+/// The crossing edges at a level of a volume in its file, from its samples, each with its place.
+fn edges_from<S: Samples>(
     alloc: Global,
-    volume: &'a RawVolume<'a>,
+    volume: &RawVolume<'_>,
+    samples: &S,
     level: Level,
 ) -> Result<FileEdges, Memory>
-    requires { volume.now.kind ≡ kinds.U8 }
+    requires { S.list samples.now ≡ volume.now.samples }
     ensures { IfOk result (λ e. AreEdgesOf volume.now level e.sizes e.edges.names.items e.edges.places.items) }
 {
     let sizes = volume.sizes();
-    let samples = FileBytes {
-        bytes: volume.bytes(),
-    };
-    let edges = crossing_points(alloc, &sizes, &samples, level)?;
+    let edges = crossing_points(alloc, &sizes, samples, level)?;
     Ok(FileEdges { sizes, edges })
 }
 
 /// The crossing edges at a level of a volume whose samples stay in its file, each with its place.
-fn edges_in_place<'a>(
-    alloc: Global,
-    volume: &'a RawVolume<'a>,
-    level: Level,
-) -> Result<FileEdges, Memory>
+fn edges_of_raw(alloc: Global, volume: &RawVolume<'_>, level: Level) -> Result<FileEdges, Memory>
     ensures { IfOk result (λ e. AreEdgesOf volume.now level e.sizes e.edges.names.items e.edges.places.items) }
 {
-    let sizes = volume.sizes();
-    let samples = FileSamples { volume };
-    let edges = crossing_points(alloc, &sizes, &samples, level)?;
-    Ok(FileEdges { sizes, edges })
-}
-
-/// The same, by the kind of the samples.
-fn edges_of_raw<'a>(
-    alloc: Global,
-    volume: &'a RawVolume<'a>,
-    level: Level,
-) -> Result<FileEdges, Memory>
-    ensures { IfOk result (λ e. AreEdgesOf volume.now level e.sizes e.edges.names.items e.edges.places.items) }
-{
-    match volume.kind() {
-        SampleKind::U8 => edges_in_bytes(alloc, volume, level),
-        _ => edges_in_place(alloc, volume, level),
-    }
+    with_samples!(volume.samples(), samples => edges_from(alloc, volume, &samples, level))
 }
 
 /// The crossing edges at a level of a volume whose samples were read, each with its place.
@@ -68,10 +44,7 @@ fn edges_in_memory(alloc: Global, volume: &VoxelData, level: Level) -> Result<Fi
     ensures { IfOk result (λ e. AreEdgesOf volume.now level e.sizes e.edges.names.items e.edges.places.items) }
 {
     let sizes = volume.sizes();
-    let samples = Numbers {
-        numbers: volume.samples(),
-    };
-    let edges = crossing_points(alloc, &sizes, &samples, level)?;
+    let edges = crossing_points(alloc, &sizes, volume, level)?;
     Ok(FileEdges { sizes, edges })
 }
 

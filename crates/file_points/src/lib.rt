@@ -4,7 +4,5 @@
 #![tactic(auto)]
 
 mod edges;
-mod samples;
 
 pub use edges::{FileEdges, edges_of_file};
-pub use samples::{FileBytes, FileSamples};

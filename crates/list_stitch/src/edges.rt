@@ -14,14 +14,15 @@ ghost use Rattle.list_stitch.specs.Kept.{AreAllFlags};
 use crate::field::ListField;
 use crate::rows::flag_row;
 use byte_streams::{Failed, Sink};
-use crossing_edges::{SampleList, begin_none};
+use crossing_edges::begin_none;
 use edge_points::RowRanks;
 use iso_base::Point;
+use samples::Samples;
 use stitch::{Block, Style, edges_before, put_point, row_at};
 
 /// Puts the lines of the vertices on the edges that begin at a point behind the others, and first makes room for them.
 #[inline(always)]
-fn write_point<S: SampleList, K: Sink>(
+fn write_point<S: Samples, K: Sink>(
     field: &ListField<'_, S>,
     style: Style,
     point: Point,
@@ -46,7 +47,7 @@ fn write_point<S: SampleList, K: Sink>(
 /// Puts the lines of the vertices on the edges that begin at the points of a row from a place to before an end behind the
 /// others.
 #[inline(always)]
-fn write_run<S: SampleList, K: Sink>(
+fn write_run<S: Samples, K: Sink>(
     field: &ListField<'_, S>,
     style: Style,
     y: u32,
@@ -77,7 +78,7 @@ fn write_run<S: SampleList, K: Sink>(
 
 /// The same of eight points: where no crossing edge begins, they are left at once.
 #[inline(always)]
-fn write_eight<S: SampleList, K: Sink>(
+fn write_eight<S: Samples, K: Sink>(
     field: &ListField<'_, S>,
     style: Style,
     y: u32,
@@ -105,7 +106,7 @@ fn write_eight<S: SampleList, K: Sink>(
 }
 
 /// Puts the lines of the vertices on the edges that begin in a row of points behind the others, eight points at a time.
-fn write_points<S: SampleList, K: Sink>(
+fn write_points<S: Samples, K: Sink>(
     field: &ListField<'_, S>,
     style: Style,
     y: u32,
@@ -130,7 +131,7 @@ fn write_points<S: SampleList, K: Sink>(
 }
 
 /// The same, where any begin there.
-fn write_row<S: SampleList, K: Sink>(
+fn write_row<S: Samples, K: Sink>(
     field: &ListField<'_, S>,
     style: Style,
     flags: &[u8],
@@ -163,7 +164,7 @@ fn write_row<S: SampleList, K: Sink>(
 }
 
 /// Puts the lines of the vertices on all crossing edges behind the others.
-pub fn write_edges<S: SampleList, K: Sink>(
+pub fn write_edges<S: Samples, K: Sink>(
     field: &ListField<'_, S>,
     style: Style,
     flags: &[u8],

@@ -1,27 +1,27 @@
 //! A volume in a list at a level: its shifted values.
-ghost use Rattle.std.specs.Prelude.{◌≡◌, ◌+◌, ◌*◌, ◌<◌, ◌^◌, ℤ, All, true, unsigned_abs};
-ghost use Rattle.iso_defs.specs.Grid.{point_count};
+ghost use Rattle.std.specs.Prelude.{◌≡◌, ◌+◌, ◌<◌, ◌≤◌, ◌^◌, ℤ, All, true, unsigned_abs};
+ghost use Rattle.iso_defs.specs.Grid.{index};
 ghost use Rattle.iso_base.specs.Points.{IsPoint, index_of};
-ghost use Rattle.flat_mesh.specs.Centres.{IsCellAt, corner_points};
+ghost use Rattle.flat_mesh.specs.Centres.{IsCellAt};
 ghost use Rattle.flat_mesh.specs.Cases.{values_at};
 ghost use Rattle.flat_mesh.specs.Lattice.{IsLeveled, heights};
 ghost use Rattle.stitch.specs.Ends.{AreEnds};
 
-use crossing_edges::SampleList;
-use flat_mesh::{Cell, Heights, corner_indices};
-use iso_base::{Level, Point, Sizes, index};
+use flat_mesh::{Cell, Heights};
+use iso_base::{Level, Point, Sizes};
+use samples::Samples;
 use std::marker::Model;
 use stitch::Ends;
 
 /// A volume in a list at a level. Contracts see its grid, its samples and the level.
 #[derive(Drop)]
-pub struct ListField<'a, S: SampleList> {
+pub struct ListField<'a, S: Samples> {
     sizes: Sizes,
     level: Level,
     samples: &'a S,
 }
 
-impl<'a, S: SampleList> Model for ListField<'a, S> {
+impl<'a, S: Samples> Model for ListField<'a, S> {
     ghost use Rattle.flat_mesh.specs.Lattice.{IsLeveled, Leveled};
 
     ghost Value = { Leveled };
@@ -31,7 +31,7 @@ impl<'a, S: SampleList> Model for ListField<'a, S> {
     ghost invariant = { λ f. IsLeveled (record { grid = f.sizes; samples = S.list f.samples.now; level = f.level }) };
 }
 
-impl<'a, S: SampleList> ListField<'a, S> {
+impl<'a, S: Samples> ListField<'a, S> {
     /// A volume at a level, from its sizes and its samples.
     pub fn new(sizes: Sizes, samples: &'a S, level: Level) -> ListField<'a, S>
         requires { IsLeveled (record { grid = sizes; samples = S.list samples.now; level = level }) }
@@ -54,22 +54,31 @@ impl<'a, S: SampleList> ListField<'a, S> {
 
     /// The shifted value of a point.
     #[inline(always)]
-    fn height(&self, point: u32) -> i64
-        requires { point < point_count self.now.grid }
-        ensures value { result ≡ heights self.now point }
+    fn height(&self, point: Point) -> i64
+        requires { IsPoint self.now.grid point }
+        ensures value { result ≡ heights self.now (index_of self.now.grid point) }
         ensures bound { unsigned_abs result < 2 ^ 44 }
     {
-        self.level.shifted(self.samples.at(point))
+        self.level
+            .shifted(self.samples.at_point(&self.sizes, point))
     }
 
-    /// The indices of the corners of a cell.
+    /// The shifted value of a point of a cell, so many points on along each axis from its lowest one.
     #[inline(always)]
-    fn corners(&self, cell: Cell) -> [u32; 8]
-        requires { IsCellAt self.now.grid cell }
-        ensures points { result ≡ corner_points self.now.grid cell.index }
-        ensures bound { All (λ p. p < point_count self.now.grid) result }
+    fn corner(&self, cell: Cell, right: u32, up: u32, far: u32) -> i64
+        requires cell { IsCellAt self.now.grid cell }
+        requires right { right ≤ 1 }
+        requires up { up ≤ 1 }
+        requires far { far ≤ 1 }
+        ensures value { result ≡ heights self.now (index self.now.grid (cell.low.x + right) (cell.low.y + up) (cell.low.z + far)) }
+        ensures bound { unsigned_abs result < 2 ^ 44 }
     {
-        corner_indices(&self.sizes(), cell)
+        let _ = self.sizes();
+        self.height(Point {
+            x: cell.low.x + right,
+            y: cell.low.y + up,
+            z: cell.low.z + far,
+        })
     }
 
     /// The shifted values at the corners of a cell.
@@ -78,33 +87,27 @@ impl<'a, S: SampleList> ListField<'a, S> {
         ensures values { result ≡ values_at self.now cell.index }
         ensures bound { All (λ v. unsigned_abs v < 2 ^ 44) result }
     {
-        let [a, b, c, d, e, f, g, h] = self.corners(cell);
         [
-            self.height(a),
-            self.height(b),
-            self.height(c),
-            self.height(d),
-            self.height(e),
-            self.height(f),
-            self.height(g),
-            self.height(h),
+            self.corner(cell, 0, 0, 0),
+            self.corner(cell, 1, 0, 0),
+            self.corner(cell, 0, 1, 0),
+            self.corner(cell, 1, 1, 0),
+            self.corner(cell, 0, 0, 1),
+            self.corner(cell, 1, 0, 1),
+            self.corner(cell, 0, 1, 1),
+            self.corner(cell, 1, 1, 1),
         ]
     }
 
-    /// The shifted value of the point so many indices on, where it is there, or of the point itself.
+    /// The shifted value of a point where it is in the grid, else the other one.
     #[inline(always)]
-    fn height_on(&self, point: u32, step: u32, there: bool) -> i64
-        requires point { point < point_count self.now.grid }
-        requires next { there ≡ true → point + step < point_count self.now.grid }
-        ensures value { there ≡ true → result ≡ heights self.now (point + step) }
+    fn height_or(&self, other: i64, there: bool, point: Point) -> i64
+        requires there { there ≡ true → IsPoint self.now.grid point }
+        requires other { unsigned_abs other < 2 ^ 44 }
+        ensures value { there ≡ true → result ≡ heights self.now (index_of self.now.grid point) }
         ensures bound { unsigned_abs result < 2 ^ 44 }
     {
-        let _ = self.sizes();
-        if there {
-            self.height(point + step)
-        } else {
-            self.height(point)
-        }
+        if there { self.height(point) } else { other }
     }
 
     /// The shifted values at a point and at the next ones.
@@ -113,18 +116,18 @@ impl<'a, S: SampleList> ListField<'a, S> {
         ensures { AreEnds self.now point.x point.y point.z result }
     {
         let sizes = self.sizes();
-        let (nx, ny, nz) = (sizes.nx(), sizes.ny(), sizes.nz());
-        let at = index(&sizes, point);
+        let here = self.height(point);
+        let Point { x, y, z } = point;
         Ends {
-            here: self.height(at),
-            right: self.height_on(at, 1, point.x + 1 < nx),
-            up: self.height_on(at, nx, point.y + 1 < ny),
-            far: self.height_on(at, nx * ny, point.z + 1 < nz),
+            here,
+            right: self.height_or(here, x + 1 < sizes.nx(), Point { x: x + 1, y, z }),
+            up: self.height_or(here, y + 1 < sizes.ny(), Point { x, y: y + 1, z }),
+            far: self.height_or(here, z + 1 < sizes.nz(), Point { x, y, z: z + 1 }),
         }
     }
 }
 
-impl<'a, S: SampleList> Heights for ListField<'a, S> {
+impl<'a, S: Samples> Heights for ListField<'a, S> {
     ghost leveled = { λ f. f };
 
     fn sizes(&self) -> Sizes {

@@ -13,9 +13,10 @@ use crate::field::ListField;
 use crate::ranks::rank_rows;
 use crate::write::write_mesh;
 use byte_streams::{Failed, Sink};
-use crossing_edges::{SampleList, put_flags};
+use crossing_edges::put_flags;
 use edge_points::RowRanks;
 use iso_base::{Level, Memory, Sizes, Written};
+use samples::{Samples, all_signs};
 use std::alloc::Global;
 use std::marker::Model;
 use stitch::{Counts, Style};
@@ -23,7 +24,7 @@ use stitch::{Counts, Style};
 /// The mesh of a volume at a level that is never held: the volume, the flags of its points, the cases of its cells, and how
 /// many crossing edges begin before each row. Contracts see the grid, the samples and the level.
 #[derive(Drop)]
-pub struct ListMesh<'a, S: SampleList> {
+pub struct ListMesh<'a, S: Samples> {
     field: ListField<'a, S>,
     flags: Vec<u8>,
     cases: CellCases,
@@ -32,7 +33,7 @@ pub struct ListMesh<'a, S: SampleList> {
     counts: Counts,
 }
 
-impl<'a, S: SampleList> Model for ListMesh<'a, S> {
+impl<'a, S: Samples> Model for ListMesh<'a, S> {
     ghost use Rattle.flat_mesh.specs.Lattice.{Leveled};
     ghost use Rattle.list_stitch.specs.Kept.{AreKept};
 
@@ -43,7 +44,7 @@ impl<'a, S: SampleList> Model for ListMesh<'a, S> {
     ghost invariant = { λ m. AreKept m.field m.flags.items m.cases m.ranks m.total m.counts };
 }
 
-impl<'a, S: SampleList> ListMesh<'a, S> {
+impl<'a, S: Samples> ListMesh<'a, S> {
     /// The mesh of a volume at a level, from its sizes and its samples.
     pub fn of(
         alloc: Global,
@@ -57,7 +58,7 @@ impl<'a, S: SampleList> ListMesh<'a, S> {
     {
         let _ = sizes.count();
         let mut ranks = RowRanks::new(alloc, &sizes)?;
-        let mut bits = samples.signs(alloc, level)?;
+        let mut bits = all_signs(alloc, &sizes, samples, level)?;
         let field = ListField::new(sizes, samples, level);
         let cases = all_cases(alloc, &field, &bits)?;
         // No sign is asked for from here on: the flags take their place.

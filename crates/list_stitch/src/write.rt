@@ -15,13 +15,13 @@ use crate::edges::write_edges;
 use crate::faces::write_faces;
 use crate::field::ListField;
 use byte_streams::{Failed, Sink};
-use crossing_edges::SampleList;
 use edge_points::RowRanks;
 use iso_base::Written;
+use samples::Samples;
 use stitch::{Block, Counts, Style, put_head};
 
 /// Puts the lines of all vertices and of all triangles behind the others.
-fn write_lines<S: SampleList, K: Sink>(
+fn write_lines<S: Samples, K: Sink>(
     field: &ListField<'_, S>,
     style: Style,
     flags: &[u8],
@@ -44,7 +44,7 @@ fn write_lines<S: SampleList, K: Sink>(
 }
 
 /// Appends the text of the mesh, and says how many vertices, faces and bytes were written.
-pub fn write_mesh<S: SampleList, K: Sink>(
+pub fn write_mesh<S: Samples, K: Sink>(
     field: &ListField<'_, S>,
     style: Style,
     flags: &[u8],

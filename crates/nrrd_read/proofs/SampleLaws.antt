@@ -48,7 +48,7 @@ one_byte : (big : Bool) (bytes : List ℕ) → number_in big 1 bytes ≡ get_or 
 one_byte true bytes = omega arith
 one_byte false bytes = omega arith
 
-byte_at : (big : Bool) (bytes : List ℕ) (i : ℕ) → number_in big 1 (drop (1 * i) bytes) ≡ get_or bytes i 0
+pub byte_at : (big : Bool) (bytes : List ℕ) (i : ℕ) → number_in big 1 (drop (1 * i) bytes) ≡ get_or bytes i 0
 byte_at big bytes i =
     let k : 1 * i + 0 ≡ i = omega arith in
     one_byte big (drop (1 * i) bytes) ∙ get_or-drop (1 * i) bytes 0 0 ∙ ap (λ (j : ℕ). get_or bytes j 0) k

@@ -7,3 +7,4 @@ pub mod Checks
 pub mod Nrrd
 pub mod Raw
 pub mod Files
+pub mod RawKinds

@@ -5,9 +5,12 @@ ghost use Rattle.iso_base.specs.Samples.{width_of};
 ghost use Rattle.iso_base.specs.Volume.{IsVoxels, sample};
 ghost use Rattle.iso_base.specs.declared.kind.SampleKind.TheVariants as kinds;
 ghost use Rattle.nrrd_read.specs.Raw.{voxels_in};
+ghost use Rattle.nrrd_read.specs.RawKinds.{raw_list};
 
+use crate::in_bytes::InBytes;
+use crate::kinds::RawSamples;
+use crate::numbers::{sample_at, samples_of};
 use crate::runs::read_run;
-use crate::samples::{sample_at, samples_of};
 use iso_base::{SampleKind, Sizes};
 use std::alloc::{AllocError, Global};
 use std::marker::Model;
@@ -71,6 +74,25 @@ impl<'a> RawVolume<'a> {
     {
         let count = self.sizes.count() as usize;
         &self.bytes[..count]
+    }
+
+    /// The samples, in the type of their kind and byte order.
+    pub fn samples(&self) -> RawSamples<'a>
+        ensures { raw_list result ≡ self.now.samples }
+    {
+        let (bytes, count) = (self.bytes, self.sizes.count());
+        match (self.kind, self.big) {
+            (SampleKind::U8, _) => RawSamples::Unsigned8(InBytes::new(bytes, count)),
+            (SampleKind::I8, _) => RawSamples::Signed8(InBytes::new(bytes, count)),
+            (SampleKind::U16, false) => RawSamples::Unsigned16Little(InBytes::new(bytes, count)),
+            (SampleKind::U16, true) => RawSamples::Unsigned16Big(InBytes::new(bytes, count)),
+            (SampleKind::I16, false) => RawSamples::Signed16Little(InBytes::new(bytes, count)),
+            (SampleKind::I16, true) => RawSamples::Signed16Big(InBytes::new(bytes, count)),
+            (SampleKind::U32, false) => RawSamples::Unsigned32Little(InBytes::new(bytes, count)),
+            (SampleKind::U32, true) => RawSamples::Unsigned32Big(InBytes::new(bytes, count)),
+            (SampleKind::I32, false) => RawSamples::Signed32Little(InBytes::new(bytes, count)),
+            (SampleKind::I32, true) => RawSamples::Signed32Big(InBytes::new(bytes, count)),
+        }
     }
 
     /// The sample of an index.

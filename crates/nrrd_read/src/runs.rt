@@ -4,7 +4,7 @@ ghost use Rattle.std.specs.List.{range_with_len};
 ghost use Rattle.iso_base.specs.Samples.{width_of};
 ghost use Rattle.text_samples.specs.Samples.{sample_of};
 
-use crate::samples::sample_at;
+use crate::numbers::sample_at;
 use iso_base::SampleKind;
 
 /// Reads nine samples of a kind and an order from an index on: as many as a row of a brick has, and as their number is

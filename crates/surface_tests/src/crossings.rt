@@ -2,18 +2,16 @@
 
 use crate::grids::three_a_side;
 use crate::volumes::one_above;
-use crossing_edges::{EdgeVertices, Numbers, crossing_points, flag_row, position_on, signs_of};
+use crossing_edges::{EdgeVertices, crossing_points, flag_row, position_on};
 use iso_base::{Level, Memory};
+use samples::put_signs;
 use std::alloc::Global;
 use std::process::Abort;
 use std::test::Fail;
 use voxel_list::VoxelList;
 
 fn points_of(alloc: Global, volume: &VoxelList, level: Level) -> Result<EdgeVertices, Memory> {
-    let numbers = Numbers {
-        numbers: volume.samples(),
-    };
-    crossing_points(alloc, &volume.sizes(), &numbers, level)
+    crossing_points(alloc, &volume.sizes(), volume, level)
 }
 
 /// The edges at level 9 round the middle of three points a side.
@@ -46,8 +44,9 @@ fn positions_on_edges(rt: HostRuntime) -> Result<(), Fail> {
 #[test]
 fn signs_of_a_row(rt: HostRuntime) -> Result<(), Fail> {
     let level = Level::new(5_000).ok_or("5 is a level")?;
-    let signs = signs_of(rt.alloc(), &[4, 5, 6], level)?;
-    assert!(rt; signs.as_slice() == [0, 1, 1].as_slice());
+    let mut signs = [2; 3];
+    put_signs([4u16, 5, 6].as_slice(), level, &mut signs);
+    assert!(rt; signs == [0, 1, 1]);
     Ok(())
 }
 

@@ -1,7 +1,7 @@
 use Rattle.std.proofs.Common.{arith}
 use Rattle.std.proofs.lemmas.Result.{IfOk-weaker}
 use Rattle.nrrd_read.proofs.SampleLaws.{each_in_kind}
-use Rattle.nrrd_read.proofs.samples.samples_of.Goals as goal
+use Rattle.nrrd_read.proofs.numbers.samples_of.Goals as goal
 
 pub returns-clause-each : goal.returns-clause-each
 returns-clause-each c =

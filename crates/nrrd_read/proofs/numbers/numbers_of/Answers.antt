@@ -1,7 +1,7 @@
 use Rattle.std.proofs.Common.{◌≤◌, ◌*◌, length, ◌∙◌, arith, true, false}
 use Rattle.std.proofs.lemmas.Result.{IfOk-weaker}
 use Rattle.nrrd_read.proofs.SampleLaws as laws
-use Rattle.nrrd_read.proofs.samples.numbers_of.Goals as goal
+use Rattle.nrrd_read.proofs.numbers.numbers_of.Goals as goal
 
 pub returns-in-U8-default : goal.returns-in-U8-default
 returns-in-U8-default c =

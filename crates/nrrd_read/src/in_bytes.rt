@@ -1,0 +1,123 @@
+//! The samples of a volume in the bytes of its file.
+ghost use Rattle.std.specs.Prelude.{◌≡◌, ◌+◌, ◌*◌, ◌<◌, ◌≤◌, ◌^◌, All, length, map};
+ghost use Rattle.std.specs.List.{range_with_len};
+ghost use Rattle.iso_base.specs.Samples.{width_of};
+ghost use Rattle.text_samples.specs.Samples.{sample_of, samples_in};
+ghost use Rattle.samples.specs.Signs.{sign_of};
+
+use crate::lies::Lies;
+use iso_base::{Level, Point, Sizes, index};
+use samples::{Packed, Samples, converted, sign};
+use std::marker::{Model, PhantomData};
+
+/// Samples of one kind and byte order, in bytes: each is read when it is asked for.
+#[derive(Debug, Drop)]
+pub struct InBytes<'a, K: Lies> {
+    bytes: &'a [u8],
+    count: u32,
+    lies: PhantomData<K>,
+}
+
+impl<'a, K: Lies> Model for InBytes<'a, K> {
+    ghost use Rattle.std.specs.Prelude.{◌*◌, ◌≤◌, List, ℤ, length};
+    ghost use Rattle.iso_base.specs.Samples.{width_of};
+    ghost use Rattle.text_samples.specs.Samples.{samples_in};
+
+    ghost Value = { List ℤ };
+
+    ghost view = { λ r. samples_in K.kind K.big r.bytes.now r.count };
+
+    ghost invariant = { λ r. width_of K.kind * r.count ≤ length r.bytes.now };
+}
+
+impl<'a, K: Lies> InBytes<'a, K> {
+    /// So many samples, with which the bytes begin.
+    pub(crate) fn new(bytes: &'a [u8], count: u32) -> InBytes<'a, K>
+        requires { width_of K.kind * count ≤ length bytes.now }
+        ensures { result ≡ samples_in K.kind K.big bytes.now count }
+    {
+        InBytes {
+            bytes,
+            count,
+            lies: PhantomData,
+        }
+    }
+}
+
+/// Reads samples from an index on over the numbers of a list, as many as it has.
+#[inline(always)]
+fn read_each<K: Lies, T: Packed>(bytes: &[u8], start: usize, into: &mut [T])
+    requires room { width_of K.kind * (start + length into.old) ≤ length bytes.now }
+    requires few { start + length into.old < 2 ^ 32 }
+    requires fits { All T.Fits (map (λ k. sample_of K.kind K.big bytes.now (start + k)) (range_with_len 0 (length into.old))) }
+    ensures { map T.value into.new ≡ map (λ k. sample_of K.kind K.big bytes.now (start + k)) (range_with_len 0 (length into.old)) }
+{
+    for k in 0..into.len() {
+        into[k] = converted(K::read(bytes, start + k));
+    }
+}
+
+/// Reads as many samples from an index on as are known before the program runs, so that this takes no loop.
+#[inline(always)]
+fn read_known<const N: usize, K: Lies, T: Packed>(bytes: &[u8], start: usize, into: &mut [T])
+    requires known { length into.old ≡ N }
+    requires room { width_of K.kind * (start + length into.old) ≤ length bytes.now }
+    requires few { start + length into.old < 2 ^ 32 }
+    requires fits { All T.Fits (map (λ k. sample_of K.kind K.big bytes.now (start + k)) (range_with_len 0 (length into.old))) }
+    ensures { map T.value into.new ≡ map (λ k. sample_of K.kind K.big bytes.now (start + k)) (range_with_len 0 (length into.old)) }
+{
+    for k in 0..N {
+        into[k] = converted(K::read(bytes, start + k));
+    }
+}
+
+/// Reads samples from an index on over the numbers of a list, as many as it has: nine, as a whole row of a brick has, and eight,
+/// as a row at the end of a grid often has, without a loop.
+#[inline(always)]
+fn read_run<K: Lies, T: Packed>(bytes: &[u8], start: usize, into: &mut [T])
+    requires room { width_of K.kind * (start + length into.old) ≤ length bytes.now }
+    requires few { start + length into.old < 2 ^ 32 }
+    requires fits { All T.Fits (map (λ k. sample_of K.kind K.big bytes.now (start + k)) (range_with_len 0 (length into.old))) }
+    ensures { map T.value into.new ≡ map (λ k. sample_of K.kind K.big bytes.now (start + k)) (range_with_len 0 (length into.old)) }
+{
+    match into.len() {
+        9 => read_known::<9, K, T>(bytes, start, into),
+        8 => read_known::<8, K, T>(bytes, start, into),
+        _ => read_each::<K, T>(bytes, start, into),
+    }
+}
+
+/// Writes the signs of samples from an index on, as many as there is room for.
+fn put_run_signs<K: Lies>(bytes: &[u8], start: usize, level: Level, into: &mut [u8])
+    requires room { width_of K.kind * (start + length into.old) ≤ length bytes.now }
+    requires few { start + length into.old < 2 ^ 32 }
+    ensures { into.new ≡ map (λ k. sign_of level (sample_of K.kind K.big bytes.now (start + k))) (range_with_len 0 (length into.old)) }
+{
+    let bound = K::Number::at_least(level.least_above());
+    for k in 0..into.len() {
+        into[k] = sign(K::read(bytes, start + k), bound);
+    }
+}
+
+impl<'a, K: Lies> Samples for InBytes<'a, K> {
+    ghost list = { λ r. r };
+
+    #[inline(always)]
+    fn at(&self, index: u32) -> i64 {
+        K::read(self.bytes, index as usize).sample()
+    }
+
+    #[inline(always)]
+    fn at_point(&self, sizes: &Sizes, point: Point) -> i64 {
+        self.at(index(sizes, point))
+    }
+
+    #[inline(always)]
+    fn copy_row<T: Packed>(&self, sizes: &Sizes, point: Point, into: &mut [T]) {
+        read_run::<K, T>(self.bytes, index(sizes, point) as usize, into);
+    }
+
+    fn put_signs(&self, start: u32, level: Level, into: &mut [u8]) {
+        put_run_signs::<K>(self.bytes, start as usize, level, into);
+    }
+}
