@@ -3,7 +3,7 @@ use Rattle.std.specs.Prelude.{ℕ, List, [], Option, Result, ℤ}
 use Rattle.iso_base.specs.Volume.{Volume}
 use Rattle.bench_core.specs.Texts as benches
 use Rattle.point_command.specs.Meaning.{text_by}
-use Rattle.point_command.specs.Volumes.{volume_of}
+use Rattle.point_command.specs.Volumes.{volume_of, with_pad}
 use Rattle.endings.specs.declared.answer.VolumeFault.{VolumeFault}
 use Rattle.mesh_text.specs.declared.format.TwoWayFormat.{TwoWayFormat}
 
@@ -14,3 +14,7 @@ text_of_volume format level v = benches.text_of_state format (record { volume = 
 -- what `extract` gives
 abbrev pub mesh_given : ℤ → Option ℤ → TwoWayFormat → List ℕ → Result (List ℕ) VolumeFault
 mesh_given level pad format bytes = text_by (text_of_volume format level) (volume_of pad level bytes)
+
+-- what it gives for a volume that was read
+abbrev pub mesh_in : ℤ → Option ℤ → TwoWayFormat → Volume → Result (List ℕ) VolumeFault
+mesh_in level pad format v = text_by (text_of_volume format level) (with_pad pad level v)

@@ -1,5 +1,5 @@
 -- The volume that a command works on: in its pad, in the input, and in a file of the shelf.
-use Rattle.std.specs.Prelude.{◌≡◌, ◌⊎◌, ℕ, ◌<◌, ◌≤◌, List, length, Option, Some, Err, IfSome, ℤ}
+use Rattle.std.specs.Prelude.{◌≡◌, ◌⊎◌, ℕ, ◌<◌, ◌≤◌, List, length, Option, Err, IfSome, ℤ}
 use Rattle.std.specs.FinMap.{get}
 use Rattle.iso_base.specs.Volume.{Volume}
 use Rattle.byte_streams.specs.Causes.{Rose}
@@ -10,10 +10,10 @@ use Rattle.point_command.specs.declared.reasons.NoVolume.TheVariants as reasons
 use Rattle.endings.specs.declared.answer.Answer.{Answer}
 use Rattle.endings.specs.declared.answer.Answer.TheVariants as answers
 
--- why a volume gets no pad; want of memory says nothing
-abbrev pub IsNotRaised : ℤ → ℤ → Volume → NoVolume → Type 0
-IsNotRaised pad level v (reasons.Refused fault) = with_pad (Some pad) level v ≡ Err fault
-IsNotRaised pad level v reasons.Memory = Unit {0}
+-- why a volume that was read is not taken, in its pad if it is to have one; out of memory says nothing
+abbrev pub IsNotTaken : Option ℤ → ℤ → Volume → NoVolume → Type 0
+IsNotTaken pad level v (reasons.Refused fault) = with_pad pad level v ≡ Err fault
+IsNotTaken pad level v reasons.Memory = Unit {0}
 
 -- told files have one of this name, of at most so many bytes, of which this is true
 abbrev pub FileIs : Store → List ℕ → (List ℕ → Type 0) → Type 0

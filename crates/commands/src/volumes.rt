@@ -1,70 +1,93 @@
 //! Volumes of files, opened for a command.
-ghost use Rattle.std.specs.Prelude.{◌≡◌, ◌≤◌, ℤ, Option, None, Some, Ok, IfOk, IfErr, IfSome};
+ghost use Rattle.std.specs.Prelude.{◌≡◌, ◌≤◌, ℤ, None, Option, Some, Ok, IfOk, IfErr, IfSome, length, true};
+ghost use Rattle.iso_defs.specs.Grid.{point_count};
 ghost use Rattle.iso_base.specs.Samples.{IsSample};
-ghost use Rattle.nrrd_read.specs.Files.{IsRead};
-ghost use Rattle.bench_core.specs.Machine.{begin_fault, IsAbovePad};
+ghost use Rattle.iso_base.specs.Shifted.{is_above_pad};
+ghost use Rattle.iso_base.specs.Volume.{IsVoxels, Volume, unpadded};
+ghost use Rattle.voxel_list.specs.Padding.{padded_volume};
+ghost use Rattle.bench_core.specs.Machine.{begin_fault};
 ghost use Rattle.point_command.specs.Volumes.{IsNoVolume, volume_of, with_pad};
-ghost use Rattle.commands.specs.Volumes.{FileIs, IsNotRaised, LacksVolume};
+ghost use Rattle.commands.specs.Volumes.{FileIs, IsNotTaken, LacksVolume};
 
 use brick_store::BrickStore;
 use endings::{Answer, VolumeFault};
-use file_bricks::bricks_of_file;
-use iso_base::Level;
+use iso_base::{Level, SampleKind, Sizes};
 use iso_io::Shelf;
-use nrrd_read::read_volume;
+use nrrd_read::{FileVolume, RawVolume, read_file_volume, with_samples};
+use padded_samples::Padded;
 use point_command::{NoVolume, VOLUME_LIMIT};
+use samples::Samples;
 use std::alloc::Global;
-use voxel_list::VoxelList;
 
-/// The volume of the bytes of a file, which are let go.
-fn unpadded(alloc: Global, bytes: Vec<u8>) -> Result<VoxelList, NoVolume>
-    ensures volume { IfOk result (λ v. IsRead bytes.items v) }
-    ensures fault { (pad : Option ℤ) (level : ℤ) → IfErr result (IsNoVolume pad level bytes.items) }
+/// The samples of a grid in a pad, above which the level is to be.
+pub fn raised<S: Samples>(
+    samples: &S,
+    sizes: Sizes,
+    pad: i64,
+    level: Level,
+) -> Result<Padded<'_, S>, NoVolume>
+    requires count { length (S.list samples.now) ≡ point_count sizes }
+    requires range { IsSample pad }
+    ensures view { IfOk result (λ p. p ≡ record { grid = sizes; samples = S.list samples.now; pad = pad }) }
+    ensures above { IfOk result (λ _. is_above_pad level pad ≡ true) }
+    ensures volume { (v : Volume) → v.grid ≡ sizes → IfOk result (λ _. with_pad (Some pad) level v ≡ Ok (padded_volume v pad)) }
+    ensures fault { (v : Volume) → v.grid ≡ sizes → IfErr result (IsNotTaken (Some pad) level v) }
 {
-    let (volume, _) = read_volume(alloc, &bytes)?;
-    Ok(VoxelList::of(volume))
-}
-
-/// The volume in its pad, above which the level is to be.
-fn padded(alloc: Global, volume: VoxelList, pad: &i64, level: Level) -> Result<VoxelList, NoVolume>
-    requires unpadded { volume.pad ≡ None }
-    requires range { IsSample pad.now }
-    ensures volume { IfOk result (λ v. with_pad (Some pad.now) level volume ≡ Ok v) }
-    ensures above { IfOk result (λ v. begin_fault v.pad level ≡ None) }
-    ensures raised { IfOk result (λ v. IsAbovePad v.pad level) }
-    ensures fault { IfErr result (IsNotRaised pad.now level volume) }
-{
-    let pad = *pad;
-    let volume = volume.padded(alloc, pad)?;
+    let padded = match Padded::new(samples, sizes, pad) {
+        Ok(padded) => padded,
+        Err(fault) => return Err(NoVolume::Refused(VolumeFault::Pad(fault))),
+    };
     if !level.is_above_pad(pad) {
         let level = level.value();
         return Err(NoVolume::Refused(VolumeFault::LevelNotAbovePad { level, pad }));
     }
-    Ok(volume)
+    Ok(padded)
 }
 
-/// The volume of the bytes of a file, in its pad, above which the level is to be; or the first reason why there is none.
-pub fn volume_in(
+/// The bricks of a volume in its pad, from its samples, wherever they lie: no list of the samples in the pad is made.
+fn bricks_of<S: Samples>(
     alloc: Global,
-    bytes: Vec<u8>,
+    sizes: Sizes,
+    kind: SampleKind,
     pad: Option<i64>,
     level: Level,
-) -> Result<VoxelList, NoVolume>
-    requires { IfSome pad IsSample }
-    ensures volume { IfOk result (λ v. volume_of pad level bytes.items ≡ Ok v) }
-    ensures above { IfOk result (λ v. begin_fault v.pad level ≡ None) }
-    ensures raised { IfOk result (λ v. IsAbovePad v.pad level) }
-    ensures fault { IfErr result (IsNoVolume pad level bytes.items) }
+    samples: &S,
+) -> Result<BrickStore, NoVolume>
+    requires voxels { IsVoxels (record { grid = sizes; kind = kind; samples = S.list samples.now }) }
+    requires range { IfSome pad IsSample }
+    ensures volume { IfOk result (λ b. with_pad pad level (unpadded (record { grid = sizes; kind = kind; samples = S.list samples.now })) ≡ Ok b) }
+    ensures above { IfOk result (λ b. begin_fault b.pad level ≡ None) }
+    ensures fault { IfErr result (IsNotTaken pad level (unpadded (record { grid = sizes; kind = kind; samples = S.list samples.now }))) }
 {
-    let volume = unpadded(alloc, bytes)?;
-    match &pad {
-        Some(pad) => padded(alloc, volume, pad, level),
-        None => Ok(volume),
+    match pad {
+        None => Ok(BrickStore::of_samples(alloc, sizes, kind, None, samples)?),
+        Some(pad) => {
+            let padded = raised(samples, sizes, pad, level)?;
+            let store =
+                BrickStore::of_samples(alloc, padded.sizes(), kind, Some(pad), &padded)?;
+            Ok(store)
+        }
     }
 }
 
-/// The volume of a file in bricks. Where it has no pad, raw samples are read into the bricks out of the file's bytes; a volume
-/// with a pad is made as a list first.
+/// The bricks of a volume in its pad, whose samples stay in the bytes of its file.
+fn bricks_of_raw(
+    alloc: Global,
+    volume: &RawVolume<'_>,
+    pad: Option<i64>,
+    level: Level,
+) -> Result<BrickStore, NoVolume>
+    requires { IfSome pad IsSample }
+    ensures volume { IfOk result (λ b. with_pad pad level (unpadded volume.now) ≡ Ok b) }
+    ensures above { IfOk result (λ b. begin_fault b.pad level ≡ None) }
+    ensures fault { IfErr result (IsNotTaken pad level (unpadded volume.now)) }
+{
+    let (sizes, kind) = (volume.sizes(), volume.kind());
+    with_samples!(volume.samples(), samples => bricks_of(alloc, sizes, kind, pad, level, &samples))
+}
+
+/// The volume of a file in bricks, in its pad, above which the level is to be; or the first reason why there is none. Raw
+/// samples are read into the bricks out of the file's bytes; of samples in print the bytes are let go first.
 pub fn bricks_in(
     alloc: Global,
     bytes: Vec<u8>,
@@ -76,13 +99,13 @@ pub fn bricks_in(
     ensures above { IfOk result (λ v. begin_fault v.pad level ≡ None) }
     ensures fault { IfErr result (IsNoVolume pad level bytes.items) }
 {
-    match pad {
-        None => Ok(bricks_of_file(alloc, &bytes)?),
-        Some(_) => {
-            let volume = volume_in(alloc, bytes, pad, level)?;
-            Ok(BrickStore::of(alloc, volume)?)
-        }
-    }
+    let read = match read_file_volume(alloc, &bytes) {
+        Ok((FileVolume::Raw(raw), _)) => return bricks_of_raw(alloc, &raw, pad, level),
+        Ok((FileVolume::Read(read), _)) => read,
+        Err(fault) => return Err(NoVolume::from(fault)),
+    };
+    drop(bytes);
+    bricks_of(alloc, read.sizes(), read.kind(), pad, level, &read)
 }
 
 /// The volume of a file of the shelf, in bricks.

@@ -1,6 +1,0 @@
-use Rattle.std.proofs.Common.{◌≡◌, ℕ, ◌+◌, ◌<◌, map}
-use Rattle.iso_base.specs.Volume.{sample}
-use Rattle.file_bricks.proofs.bricks.copy_each.Given as goal
-
-abbrev pub invariant-loop-k : goal.invariant-loop-k
-invariant-loop-k g l = (j : ℕ) → j < l.k → sample (map g.T.Packed.value l.into) j ≡ sample l.volume.samples (l.start + j)
