@@ -1,4 +1,4 @@
-pub mod ReadVolumes
+pub mod Taken
 pub mod Texts
 pub mod Generated
 pub mod Few
