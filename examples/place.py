@@ -6,8 +6,8 @@
 
 isobench writes positions in voxels: (0, 0, 0) is the centre of the first sample, and one unit is the distance to the next
 one. HEADER is the NRRD file (or detached header) with the fields `space directions` and `space origin`, or `spacings`. A
-position (x, y, z) becomes origin + x d0 + y d1 + z d2, in the units of the header, millimetres as a rule. Where the three
-directions form a left-handed system, the triangles are turned round, so that they face the same side as before. Headers
+position (x, y, z) becomes origin + x d0 + y d1 + z d2, in the units of the header, usually millimetres. If the three
+directions form a left-handed system, the triangles are reversed, so that they face the same side as before. Headers
 that say `left-posterior-superior` keep that space; with --ras the first two coordinates change their signs.
 """
 import re
@@ -70,7 +70,7 @@ def main():
 
     lines = (line.rstrip("\n") for line in sys.stdin)
     write = sys.stdout.write
-    first = next(lines, "")
+    first = next(lines, None)
     if first == "ply":
         write("ply\n")
         for line in lines:
@@ -85,7 +85,7 @@ def main():
             write("3 " + corners(line.split()[1:]) + "\n")
         return
     while first is not None:
-        word, *numbers = first.split()
+        word, *numbers = first.split() or [""]
         write(f"v {placed(numbers)}\n" if word == "v" else f"f {corners(numbers)}\n" if word == "f" else first + "\n")
         first = next(lines, None)
 

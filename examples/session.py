@@ -3,8 +3,8 @@
 
     python3 session.py PROGRAM
 
-runs PROGRAM (a built isobench) on knot.nrrd, which lies beside this script: it asks for a report, cuts the knot, asks
-again, takes the cut back and writes the mesh. docs/session.md describes the protocol.
+runs PROGRAM (a built isobench) on knot.nrrd, which is beside this script: it asks for a report, cuts the knot, asks
+again, undoes the cut and writes the mesh. docs/session.md describes the protocol.
 
 Use it as a module too:
 
@@ -19,7 +19,7 @@ import tempfile
 
 
 class Refused(Exception):
-    """A line was answered with an error: `code` is its number, `text` all of it. The session goes on."""
+    """The reply was an error: `code` is its number, `text` all of it. The session continues."""
 
     def __init__(self, text):
         super().__init__(text)
@@ -37,8 +37,8 @@ class Session:
 
     def ask(self, line):
         """Sends one command (no comment and no blank line: these have no reply). Returns the lines before the one that
-        begins with `ok`, and what that one says behind it. Raises Refused where the line is answered with an error, and
-        EOFError where the program has ended."""
+        begins with `ok`, and what that one says after `ok`. Raises Refused if the reply is an error, and EOFError if the
+        program has ended."""
         try:
             self.process.stdin.write(line.encode("ascii") + b"\n")
         except BrokenPipeError:
@@ -56,7 +56,7 @@ class Session:
             lines.append(reply.rstrip("\n"))
 
     def ended(self):
-        """Tells by which status the program ended, with its message."""
+        """Raises EOFError with the program's exit status and message."""
         status = self.process.wait()
         raise EOFError(f"the session ended with status {status}: {self.process.stderr.read().decode().strip()}")
 
@@ -80,7 +80,7 @@ def main():
         sys.exit(__doc__)
     volume = pathlib.Path(__file__).resolve().parent / "knot.nrrd"
     with tempfile.TemporaryDirectory() as folder:
-        # NAME in a session may have no spaces, so the volume is lent into the folder under a name of its own.
+        # NAME in a session may have no spaces, so the folder gets a link to the volume.
         (pathlib.Path(folder) / "volume.nrrd").symlink_to(volume)
         with Session(sys.argv[1], "volume.nrrd", "--level=100.5", folder=folder) as session:
             for line in ["report", "fill 50 24 26 62 37 36 0", "report", "undo", "ply knot.ply"]:

@@ -13,7 +13,8 @@ as a comment of the page:
     <!-- not run: WHY -->  it is never run here
 
 Then each link of a page to a file of this repository, with its place in it, is looked up; and so is what guarantees.md names:
-each call `crate::call` and `crate::Type::call`, each clause of `commands::run`, and the number of lines of each file.
+each call `crate::call` and `crate::Type::call`, each clause of `commands::run`, the clauses of the calls of a row, and the
+number of lines of each file.
 """
 import os
 import pathlib
@@ -30,6 +31,7 @@ MARK = re.compile(r"^<!-- (needs|not run:) (.*) -->$")
 LINK = re.compile(r"\]\(([^)\s]+)\)")
 CALL = re.compile(r"`([a-z_]+)((?:::\w+)+)`")
 LINES = re.compile(r"^\| `(crates/\S+)` \| (\d+) \|", re.MULTILINE)
+ROWS = re.compile(r"^\| ((?:`[a-z_]+(?:::\w+)+`(?:, )?)+) \| [^|]* \| ([^|]*) \|$", re.MULTILINE)
 CLAUSES = re.compile(r"^\| [^|]* \| ((?:`[a-z_]+`(?:, )?)+) \|$", re.MULTILINE)
 
 
@@ -121,6 +123,28 @@ def sources_of(crate):
     return "\n".join(file.read_text(encoding="utf-8") for file in sorted((TOP / "crates" / crate / "src").glob("*.rt")))
 
 
+def contracts_of(crate, name):
+    """The contracts of all functions of a crate with this name, from the head to the body."""
+    return "\n".join(re.findall(rf"\bfn {name}\b.*?^\s*\{{", sources_of(crate), re.MULTILINE | re.DOTALL))
+
+
+def head_of(clause):
+    """What a clause begins with; a dash stands for one without a name."""
+    return re.compile(r"\bensures \{" if clause == "-" else rf"\bensures\*? {clause.strip('`')} \{{")
+
+
+def lost_clauses(calls, clauses):
+    """The clauses of a row that none of its calls has, and the calls that have none of them."""
+    heads = {clause: head_of(clause) for clause in clauses.split(", ")}
+    contracts = {f"{crate}{path}": contracts_of(crate, path.split("::")[-1]) for crate, path in CALL.findall(calls)}
+    for clause, head in heads.items():
+        if not any(head.search(contract) for contract in contracts.values()):
+            yield f"no clause {clause} of {calls}"
+    for call, contract in contracts.items():
+        if not any(head.search(contract) for head in heads.values()):
+            yield f"none of the clauses {clauses} in {call}"
+
+
 def lost_names(page):
     """What a page on guarantees names and the code does not have, and files with another number of lines."""
     text = page.read_text(encoding="utf-8")
@@ -134,6 +158,8 @@ def lost_names(page):
         for clause in re.findall(r"`([a-z_]+)`", row):
             if f"ensures {clause} {{" not in run:
                 yield f"no clause {clause}"
+    for calls, clauses in ROWS.findall(text):
+        yield from lost_clauses(calls, clauses)
     for file, count in LINES.findall(text):
         found = (TOP / file).read_text(encoding="utf-8").count("\n") if (TOP / file).exists() else None
         if found != int(count):

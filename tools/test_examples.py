@@ -57,7 +57,7 @@ class Sessions(unittest.TestCase):
             self.assertEqual(opened.ask("report"), before)
             self.assertEqual(opened.close(), 0)
 
-    def test_an_ended_program_is_told(self):
+    def test_an_ended_program_is_reported(self):
         opened = self.opened("--level=x")
         with self.assertRaisesRegex(EOFError, "status 2: isobench: bad words"):
             opened.ask("report")
@@ -87,6 +87,11 @@ class Places(unittest.TestCase):
 
     def test_spacings_and_the_other_space(self):
         self.assertEqual(self.placed("spacings: 0.5 1 2\n", "v 1.000 1.000 1.000\nf 1 2 3\n", "--ras"), "v -0.5000 -1.0000 2.0000\nf 1 2 3\n")
+
+    def test_a_mesh_without_vertices(self):
+        empty_ply = "ply\nformat ascii 1.0\nelement vertex 0\nelement face 0\nend_header\n"
+        self.assertEqual(self.placed("spacings: 2 2 2\n", empty_ply), empty_ply)
+        self.assertEqual(self.placed("spacings: 2 2 2\n", ""), "")
 
     def test_ply_and_obj_are_the_same_mesh(self):
         head = "space directions: (1,0,0) (0,1,0) (0,0,-2)\n"
