@@ -16,7 +16,6 @@ mod slices;
 
 pub use cases::cell_case;
 pub use centres::Cell;
-pub use corners::corner_indices;
 pub use extract::extract_flat;
 pub use heights::Heights;
 pub use mesh::{Mesh, VertexName};

@@ -1,3 +1,3 @@
 pub mod RowSlices
-pub mod NextPoints
+pub mod Corners
 pub mod RowCases

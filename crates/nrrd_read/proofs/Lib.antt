@@ -2,3 +2,4 @@ pub mod HeaderLaws
 pub mod Folding
 pub mod SampleLaws
 pub mod Parts
+pub mod ReadRuns

@@ -1,5 +1,5 @@
 -- Volumes whose samples stay in the bytes of their files.
-use Rattle.std.specs.Prelude.{ℕ, ◌*◌, ◌≤◌, Bool, List, length}
+use Rattle.std.specs.Prelude.{ℕ, ◌*◌, ◌<◌, ◌≤◌, ◌^◌, Bool, List, length}
 use Rattle.iso_defs.specs.Grid.{Grid, point_count}
 use Rattle.iso_base.specs.Samples.{width_of}
 use Rattle.iso_base.specs.Volume.{IsVoxels, Voxels}
@@ -14,3 +14,8 @@ voxels_in e kind big bytes = record { grid = e; kind = kind; samples = samples_i
 pub record IsRaw (e : Grid) (kind : SampleKind) (big : Bool) (bytes : List ℕ) : Type 0 where
   pub room : width_of kind * point_count e ≤ length bytes
   pub voxels : IsVoxels (voxels_in e kind big bytes)
+
+-- bytes begin with so many samples of a width, whose indices have 32 bits
+pub record BeginWith (width count : ℕ) (bytes : List ℕ) : Type 0 where
+  pub room : width * count ≤ length bytes
+  pub few : count < 2 ^ 32

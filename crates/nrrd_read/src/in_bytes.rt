@@ -19,15 +19,16 @@ pub struct InBytes<'a, K: Lies> {
 }
 
 impl<'a, K: Lies> Model for InBytes<'a, K> {
-    ghost use Rattle.std.specs.Prelude.{◌*◌, ◌≤◌, List, ℤ, length};
+    ghost use Rattle.std.specs.Prelude.{List, ℤ};
     ghost use Rattle.iso_base.specs.Samples.{width_of};
     ghost use Rattle.text_samples.specs.Samples.{samples_in};
+    ghost use Rattle.nrrd_read.specs.Raw.{BeginWith};
 
     ghost Value = { List ℤ };
 
     ghost view = { λ r. samples_in K.kind K.big r.bytes.now r.count };
 
-    ghost invariant = { λ r. width_of K.kind * r.count ≤ length r.bytes.now };
+    ghost invariant = { λ r. BeginWith (width_of K.kind) r.count r.bytes.now };
 }
 
 impl<'a, K: Lies> InBytes<'a, K> {

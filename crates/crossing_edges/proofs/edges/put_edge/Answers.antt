@@ -12,21 +12,21 @@ use Rattle.crossing_edges.proofs.edges.put_edge.Goals as goal
 pub upper_end-upper-requires-clause-next : goal.upper_end-upper-requires-clause-next
 upper_end-upper-requires-clause-next g c t =
     let grid = c.args.sizes.now in
-    let s = field (g.S.SampleList.list c.args.samples.now) c.args.level in
+    let s = field (g.S.Samples.list c.args.samples.now) c.args.level in
     let e : Ends grid s c.args.point c.args.axis = ends grid s c.args.point c.args.axis c.requires.axis (sym c.requires.known ∙ t) in
     next_in grid c.args.point c.args.axis c.requires.axis (omega arith) e.next
 
 pub returns-clause-names : goal.returns-clause-names
 returns-clause-names g c =
     let grid = c.args.sizes.now in
-    let s = field (g.S.SampleList.list c.args.samples.now) c.args.level in
+    let s = field (g.S.Samples.list c.args.samples.now) c.args.level in
     name_written grid s (3 * c.args.point + c.args.axis) c.args.crossing c.args.names.now c.args.at _ _ c.requires.known
     (ap (λ a. 3 * c.args.point + a) c.from.ensures) c.count_if.ensures (omega arith)
 
 pub returns-clause-places : goal.returns-clause-places
 returns-clause-places g c =
     let grid = c.args.sizes.now in
-    let s = field (g.S.SampleList.list c.args.samples.now) c.args.level in
+    let s = field (g.S.Samples.list c.args.samples.now) c.args.level in
     let n = 3 * c.args.point + c.args.axis in
     let here : c.args.crossing ≡ true → c.place_or_any.result ≡ edge_place grid s n = λ t.
     (let e : Ends grid s c.args.point c.args.axis = ends grid s c.args.point c.args.axis c.requires.axis (sym c.requires.known ∙ t) in

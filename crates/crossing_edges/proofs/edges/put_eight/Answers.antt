@@ -6,7 +6,7 @@ use Rattle.crossing_edges.proofs.edges.put_eight.Goals as goal
 pub returns-then-begin_none-clause-names : goal.returns-then-begin_none-clause-names
 returns-then-begin_none-clause-names g c =
     let grid = c.args.sizes.now in
-    let s = field (g.S.SampleList.list c.args.samples.now) c.args.level in
+    let s = field (g.S.Samples.list c.args.samples.now) c.args.level in
     let n = length c.args.flags.now in
     nothing_put (take c.args.at c.args.names.now) _ (no_names grid s c.args.start n
     (none_of_eight grid s c.args.start n c.args.flags.now c.requires.flags c.requires.eight (c.begin_none.ensures.0 c.if-begin_none.true)))
@@ -14,7 +14,7 @@ returns-then-begin_none-clause-names g c =
 pub returns-then-begin_none-clause-places : goal.returns-then-begin_none-clause-places
 returns-then-begin_none-clause-places g c =
     let grid = c.args.sizes.now in
-    let s = field (g.S.SampleList.list c.args.samples.now) c.args.level in
+    let s = field (g.S.Samples.list c.args.samples.now) c.args.level in
     let n = length c.args.flags.now in
     nothing_put (take c.args.at c.args.places.now) _ (no_places grid s c.args.start n
     (none_of_eight grid s c.args.start n c.args.flags.now c.requires.flags c.requires.eight (c.begin_none.ensures.0 c.if-begin_none.true)))

@@ -6,24 +6,24 @@ use Rattle.crossing_edges.proofs.FlagParts.{nothing_put}
 use Rattle.crossing_edges.proofs.edges.put_point.Goals as goal
 
 pub put_edge-at-requires-clause-known : goal.put_edge-at-requires-clause-known
-put_edge-at-requires-clause-known g c = rw add-zero (flag_first c.args.sizes.now (field (g.S.SampleList.list c.args.samples.now) c.args.level) c.args.point c.args.flags c.requires.flags)
+put_edge-at-requires-clause-known g c = rw add-zero (flag_first c.args.sizes.now (field (g.S.Samples.list c.args.samples.now) c.args.level) c.args.point c.args.flags c.requires.flags)
 
 pub put_edge-at-requires-2-clause-known : goal.put_edge-at-requires-2-clause-known
-put_edge-at-requires-2-clause-known g c = flag_second c.args.sizes.now (field (g.S.SampleList.list c.args.samples.now) c.args.level) c.args.point c.args.flags c.requires.flags
+put_edge-at-requires-2-clause-known g c = flag_second c.args.sizes.now (field (g.S.Samples.list c.args.samples.now) c.args.level) c.args.point c.args.flags c.requires.flags
 
 pub put_edge-requires-clause-known : goal.put_edge-requires-clause-known
-put_edge-requires-clause-known g c = flag_third c.args.sizes.now (field (g.S.SampleList.list c.args.samples.now) c.args.level) c.args.point c.args.flags c.requires.flags
+put_edge-requires-clause-known g c = flag_third c.args.sizes.now (field (g.S.Samples.list c.args.samples.now) c.args.level) c.args.point c.args.flags c.requires.flags
 
 pub returns-then-flags-eq0-clause-names : goal.returns-then-flags-eq0-clause-names
 returns-then-flags-eq0-clause-names g c =
     let grid = c.args.sizes.now in
-    let s = field (g.S.SampleList.list c.args.samples.now) c.args.level in
+    let s = field (g.S.Samples.list c.args.samples.now) c.args.level in
     nothing_put (take c.args.at c.args.names.now) _ (names_none grid s c.args.point (sym c.requires.flags ∙ c.if-flags-eq0.true))
 
 pub returns-clause-names : goal.returns-clause-names
 returns-clause-names g c =
     let grid = c.args.sizes.now in
-    let s = field (g.S.SampleList.list c.args.samples.now) c.args.level in
+    let s = field (g.S.Samples.list c.args.samples.now) c.args.level in
     put_three (take c.args.at c.args.names.now) (take c.put_edge-at.result c.put_edge-at.new.names)
     (take c.put_edge-at-2.result c.put_edge-at-2.new.names) (take c.put_edge.result c.put_edge.new.names)
     (names_in grid s (3 * c.args.point) 1) (names_in grid s (3 * c.args.point + 1) 1) (names_in grid s (3 * c.args.point + 2) 1) (names_in grid s (3 * c.args.point) 3)
@@ -32,13 +32,13 @@ returns-clause-names g c =
 pub returns-then-flags-eq0-clause-places : goal.returns-then-flags-eq0-clause-places
 returns-then-flags-eq0-clause-places g c =
     let grid = c.args.sizes.now in
-    let s = field (g.S.SampleList.list c.args.samples.now) c.args.level in
+    let s = field (g.S.Samples.list c.args.samples.now) c.args.level in
     nothing_put (take c.args.at c.args.places.now) _ (places_none grid s c.args.point (sym c.requires.flags ∙ c.if-flags-eq0.true))
 
 pub returns-clause-places : goal.returns-clause-places
 returns-clause-places g c =
     let grid = c.args.sizes.now in
-    let s = field (g.S.SampleList.list c.args.samples.now) c.args.level in
+    let s = field (g.S.Samples.list c.args.samples.now) c.args.level in
     put_three (take c.args.at c.args.places.now) (take c.put_edge-at.result c.put_edge-at.new.places)
     (take c.put_edge-at-2.result c.put_edge-at-2.new.places) (take c.put_edge.result c.put_edge.new.places)
     (places_in grid s (3 * c.args.point) 1) (places_in grid s (3 * c.args.point + 1) 1) (places_in grid s (3 * c.args.point + 2) 1) (places_in grid s (3 * c.args.point) 3)

@@ -8,7 +8,7 @@ use Rattle.crossing_edges.proofs.edges.put_points.Goals as goal
 pub loop-i-init : goal.loop-i-init
 loop-i-init g c =
     let grid = c.args.sizes.now in
-    let s = field (g.S.SampleList.list c.args.samples.now) c.args.level in
+    let s = field (g.S.Samples.list c.args.samples.now) c.args.level in
     record {
       names = nothing_put (take c.args.at c.args.names.now) _ (names_empty grid s (3 * c.args.start));
       places = nothing_put (take c.args.at c.args.places.now) _ (places_empty grid s (3 * c.args.start));
@@ -17,12 +17,12 @@ loop-i-init g c =
 
 pub put_point-at-requires-clause-flags : goal.put_point-at-requires-clause-flags
 put_point-at-requires-clause-flags g c =
-    flag_here c.args.sizes.now (field (g.S.SampleList.list c.args.samples.now) c.args.level) c.args.start _ c.loop-i.i c.args.flags.now c.requires.flags (omega arith)
+    flag_here c.args.sizes.now (field (g.S.Samples.list c.args.samples.now) c.args.level) c.args.start _ c.loop-i.i c.args.flags.now c.requires.flags (omega arith)
 
 pub loop-i-preserved : goal.loop-i-preserved
 loop-i-preserved g c =
     let grid = c.args.sizes.now in
-    let s = field (g.S.SampleList.list c.args.samples.now) c.args.level in
+    let s = field (g.S.Samples.list c.args.samples.now) c.args.level in
     let p = c.args.start + c.loop-i.i in
     record {
       names = put_further (take c.args.at c.args.names.now) (take c.loop-i.at c.loop-i.names) (take c.put_point-at.result c.put_point-at.new.names)

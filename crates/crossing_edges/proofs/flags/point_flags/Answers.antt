@@ -11,4 +11,4 @@ returns g c =
     take_at c.put_flags.new.bits _ _ (c.put_flags.auto.bits ∙ c.deref_mut.ensures.len)
     ∙ (c.put_flags.ensures
     ∙ (ap (λ v. map (sign_flags c.args.sizes.now v) (range_with_len 0 (point_count c.args.sizes.now))) (c.deref_mut.ensures.value ∙ c.in_ok-bits.ensures)
-    ∙ all_flags c.args.sizes.now (g.S.SampleList.list c.args.samples.now) c.args.level c.requires))
+    ∙ all_flags c.args.sizes.now (g.S.Samples.list c.args.samples.now) c.args.level c.requires))

@@ -13,7 +13,7 @@ all_cases-requires g c = c.deref.ensures.value ∙ (c.in_ok-bits.ensures ∙ ap 
 
 pub rank_rows-total-requires-clause-flags : goal.rank_rows-total-requires-clause-flags
 rank_rows-total-requires-clause-flags g c =
-    let v : Leveled = record { grid = c.args.sizes; samples = g.S.SampleList.list c.args.samples.now; level = c.args.level } in
+    let v : Leveled = record { grid = c.args.sizes; samples = g.S.Samples.list c.args.samples.now; level = c.args.level } in
     let rest = drop (length c.put_flags.new.bits) c.in_ok-bits.bits.items in
     let flags = flags_kept v c.new-field.result c.deref_mut.result.now c.put_flags.new.bits rest c.in_ok-bits.bits.len c.new-field.ensures c.requires.count (c.deref_mut.ensures.value ∙ c.in_ok-bits.ensures)
     c.put_flags.ensures (c.put_flags.auto.bits ∙ c.deref_mut.ensures.len) in
@@ -25,7 +25,7 @@ rank_rows-total-requires-clause-ranks g c =
 
 pub invariant_of-result : goal.invariant_of-result
 invariant_of-result g c =
-    let v : Leveled = record { grid = c.args.sizes; samples = g.S.SampleList.list c.args.samples.now; level = c.args.level } in
+    let v : Leveled = record { grid = c.args.sizes; samples = g.S.Samples.list c.args.samples.now; level = c.args.level } in
     record {
       flag_list = flags_kept v c.new-field.result c.deref_mut.result.now c.put_flags.new.bits _ _ c.new-field.ensures c.requires.count (c.deref_mut.ensures.value ∙ c.in_ok-bits.ensures)
           c.put_flags.ensures (c.put_flags.auto.bits ∙ c.deref_mut.ensures.len);
