@@ -118,6 +118,22 @@ fn extract_samples<S: Samples, K: Sink>(
     }
 }
 
+/// Writes the mesh of a volume of a file, from its samples.
+fn extract_from<S: Samples, K: Sink>(
+    alloc: Global,
+    asked: Asked,
+    volume: &RawVolume<'_>,
+    samples: &S,
+    output: &mut K,
+) -> Answer
+    requires samples { S.list samples.now ≡ volume.now.samples }
+    requires range { IfSome asked.pad IsSample }
+    ensures text { WritesGiven (mesh_in asked.level asked.pad asked.format (unpadded volume.now)) (K.seen output.old) (K.seen output.new) result }
+    ensures voxels { IsVoxels volume.now }
+{
+    extract_samples(alloc, asked, volume.sizes(), samples, output)
+}
+
 /// Writes the mesh of a volume whose samples stay in the bytes of its file.
 fn extract_raw<K: Sink>(
     alloc: Global,
@@ -129,8 +145,7 @@ fn extract_raw<K: Sink>(
     ensures text { WritesGiven (mesh_in asked.level asked.pad asked.format (unpadded volume.now)) (K.seen output.old) (K.seen output.new) result }
     ensures voxels { IsVoxels volume.now }
 {
-    let sizes = volume.sizes();
-    with_samples!(volume.samples(), samples => extract_samples(alloc, asked, sizes, &samples, output))
+    with_samples!(volume.samples(), samples => extract_from(alloc, asked, volume, &samples, output))
 }
 
 /// Writes the mesh of the volume in the bytes of a file, in its pad where it is to have one.

@@ -70,6 +70,23 @@ fn bricks_of<S: Samples>(
     }
 }
 
+/// The bricks of a volume of a file in its pad, from its samples.
+fn bricks_from<S: Samples>(
+    alloc: Global,
+    volume: &RawVolume<'_>,
+    samples: &S,
+    pad: Option<i64>,
+    level: Level,
+) -> Result<BrickStore, NoVolume>
+    requires samples { S.list samples.now ≡ volume.now.samples }
+    requires range { IfSome pad IsSample }
+    ensures volume { IfOk result (λ b. with_pad pad level (unpadded volume.now) ≡ Ok b) }
+    ensures above { IfOk result (λ b. begin_fault b.pad level ≡ None) }
+    ensures fault { IfErr result (IsNotTaken pad level (unpadded volume.now)) }
+{
+    bricks_of(alloc, volume.sizes(), volume.kind(), pad, level, samples)
+}
+
 /// The bricks of a volume in its pad, whose samples stay in the bytes of its file.
 fn bricks_of_raw(
     alloc: Global,
@@ -82,8 +99,7 @@ fn bricks_of_raw(
     ensures above { IfOk result (λ b. begin_fault b.pad level ≡ None) }
     ensures fault { IfErr result (IsNotTaken pad level (unpadded volume.now)) }
 {
-    let (sizes, kind) = (volume.sizes(), volume.kind());
-    with_samples!(volume.samples(), samples => bricks_of(alloc, sizes, kind, pad, level, &samples))
+    with_samples!(volume.samples(), samples => bricks_from(alloc, volume, &samples, pad, level))
 }
 
 /// The volume of a file in bricks, in its pad, above which the level is to be; or the first reason why there is none. Raw
