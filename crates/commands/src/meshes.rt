@@ -11,7 +11,7 @@ ghost use Rattle.endings.specs.declared.answer.Answer.TheVariants as answers;
 ghost use Rattle.point_command.specs.Outcome.{Converts, WritesGiven, streams_between};
 ghost use Rattle.point_command.specs.Volumes.{volume_limit};
 
-use crate::volumes::raised;
+use crate::volumes::in_pad;
 use endings::Answer;
 use iso_base::{Level, Sizes, Written};
 use iso_io::{Failed, Sink, Source};
@@ -81,7 +81,7 @@ fn extract_padded<S: Samples, K: Sink>(
     ensures { (v : Volume) → v.grid ≡ sizes → v.samples ≡ S.list samples.now
         → WritesGiven (mesh_in asked.level asked.pad asked.format v) (K.seen output.old) (K.seen output.new) result }
 {
-    let padded = match raised(samples, sizes, pad, asked.level) {
+    let padded = match in_pad(samples, sizes, pad, asked.level) {
         Ok(padded) => padded,
         Err(reason) => return Answer::from(reason),
     };

@@ -20,7 +20,7 @@ use samples::Samples;
 use std::alloc::Global;
 
 /// The samples of a grid in a pad, above which the level is to be.
-pub fn raised<S: Samples>(
+pub fn in_pad<S: Samples>(
     samples: &S,
     sizes: Sizes,
     pad: i64,
@@ -62,7 +62,7 @@ fn bricks_of<S: Samples>(
     match pad {
         None => Ok(BrickStore::of_samples(alloc, sizes, kind, None, samples)?),
         Some(pad) => {
-            let padded = raised(samples, sizes, pad, level)?;
+            let padded = in_pad(samples, sizes, pad, level)?;
             let store =
                 BrickStore::of_samples(alloc, padded.sizes(), kind, Some(pad), &padded)?;
             Ok(store)
