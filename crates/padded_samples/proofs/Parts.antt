@@ -76,3 +76,10 @@ along_part g h q x first i same zero some =
   where
     turned : (a : ℕ) → x + (first + i) - 1 + a ≡ x + first - 1 + a + i
     turned a = omega (arith, some)
+
+-- the same from the point itself
+pub along_inner : (g h : Grid) (q : Point) (x i : ℕ) → g ≡ h → q.x ≡ 0 → 0 < x → index_of g q + (x + i - 1) ≡ index h (x - 1) q.y q.z + i
+along_inner g h q x i same zero some = along g h q (x + i - 1) same zero ∙ turned (h.nx * (q.y + h.ny * q.z))
+  where
+    turned : (a : ℕ) → x + i - 1 + a ≡ x - 1 + a + i
+    turned a = omega (arith, some)

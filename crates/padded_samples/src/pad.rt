@@ -8,7 +8,7 @@ ghost use Rattle.iso_base.specs.Volume.{sample};
 ghost use Rattle.iso_base.specs.declared.sizes.SizeFault.{SizeFault};
 ghost use Rattle.voxel_list.specs.Padding.{grown};
 ghost use Rattle.samples.specs.Signs.{sign_of};
-ghost use Rattle.padded_samples.specs.Pads.{InPad, IsInPad, padded_at, padded_list};
+ghost use Rattle.padded_samples.specs.Pads.{InPad, IsInPad, IsInnerRow, padded_at, padded_list};
 
 use crate::rows::{copy_inside, fill_signs, inner_row, points_before, put_inside, put_pad};
 use iso_base::{Level, Point, SizeFault, Sizes, index, point_of};
@@ -109,7 +109,30 @@ impl<'a, S: Samples> Padded<'a, S> {
         self.get(point_of(&sizes, index))
     }
 
-    /// Copies the samples of a row from a point of the grid with the layer on.
+    /// Copies the samples of a row with inner points from a point of the grid with the layer on, where it begins or ends in the
+    /// layer: `row` is the first of those inner points, in the grid without the layer.
+    fn copy_ends<T: Packed>(&self, row: Point, point: Point, into: &mut [T])
+        requires point { IsPoint (grown self.now.grid) point }
+        requires begun { IsPoint self.now.grid row × (row.x ≡ 0) }
+        requires inner { IsInnerRow self.now (point.y + (self.now.grid.ny + 2) * point.z) (index_of self.now.grid row) }
+        requires row { point.x + length into.old ≤ self.now.grid.nx + 2 }
+        requires fits { (i : ℕ) → i < length into.old → T.Fits (padded_at self.now (index_of (grown self.now.grid) point + i)) }
+        ensures { (i : ℕ) → i < length into.old
+            → sample (map T.value into.new) i ≡ padded_at self.now (index_of (grown self.now.grid) point + i) }
+    {
+        let count = into.len();
+        let first = points_before(point.x, count);
+        let last = ((self.sizes.nx() + 1 - point.x) as usize).min(count);
+        put_pad(self.pad, 0, first, into);
+        put_pad(self.pad, last, count, into);
+        if first < last {
+            let x = point.x + first as u32 - 1;
+            let point = Point { x, ..row };
+            copy_inside(self.inner, &self.sizes, point, first, last - first, into);
+        }
+    }
+
+    /// Copies the samples of a row from a point of the grid with the layer on. Most parts of rows have inner points alone.
     #[inline(always)]
     fn copy_part<T: Packed>(&self, point: Point, into: &mut [T])
         requires point { IsPoint (grown self.now.grid) point }
@@ -122,15 +145,15 @@ impl<'a, S: Samples> Padded<'a, S> {
         let Some(row) = inner_row(&self.sizes, point.y, point.z) else {
             return put_pad(self.pad, 0, count, into);
         };
-        let first = points_before(point.x, count);
-        let last = ((self.sizes.nx() + 1 - point.x) as usize).min(count);
-        put_pad(self.pad, 0, first, into);
-        put_pad(self.pad, last, count, into);
-        if first < last {
-            let x = point.x + first as u32 - 1;
-            let point = Point { x, ..row };
-            copy_inside(self.inner, &self.sizes, point, first, last - first, into);
+        if point.x == 0 {
+            return self.copy_ends(row, point, into);
         }
+        if point.x as usize + count.max(1) > self.sizes.nx() as usize + 1 {
+            return self.copy_ends(row, point, into);
+        }
+        let x = point.x - 1;
+        let point = Point { x, ..row };
+        copy_inside(self.inner, &self.sizes, point, 0, count, into);
     }
 
     /// Copies samples from an index of the grid with the layer on, one by one.
