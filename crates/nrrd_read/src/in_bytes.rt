@@ -59,7 +59,7 @@ fn read_each<K: Lies, T: Packed>(bytes: &[u8], start: usize, into: &mut [T])
 }
 
 /// Reads as many samples from an index on as are known before the program runs. They are all read before the first is written,
-/// so that this takes no loop and no test whether the two lots overlap, and two moves where neither width nor order changes.
+/// from where the first lies, so that this takes no loop and no test whether the two lots overlap.
 #[inline(always)]
 fn read_known<const N: usize, K: Lies, T: Packed>(bytes: &[u8], start: usize, into: &mut [T])
     requires known { length into.old ≡ N }
@@ -68,9 +68,10 @@ fn read_known<const N: usize, K: Lies, T: Packed>(bytes: &[u8], start: usize, in
     requires fits { All T.Fits (map (λ k. sample_of K.kind K.big bytes.now (start + k)) (range_with_len 0 (length into.old))) }
     ensures { map T.value into.new ≡ map (λ k. sample_of K.kind K.big bytes.now (start + k)) (range_with_len 0 (length into.old)) }
 {
+    let (_, run) = bytes.split_at(K::width() * start);
     let mut known = [0; N];
     for k in 0..N {
-        known[k] = K::read(bytes, start + k).sample();
+        known[k] = K::read(run, k).sample();
     }
     copy_all(&known, into);
 }
