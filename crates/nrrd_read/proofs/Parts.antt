@@ -18,7 +18,7 @@ pub room_for : (width i count bytes : ℕ) → i ≤ count → width * count ≤
 room_for width i count bytes le room = omega (arith, room, mul-le-mul_left width le)
 
 -- a sample behind a run
-behind : (kind : SampleKind) (big : Bool) (bytes : List ℕ) (a k : ℕ) → sample_of kind big bytes (a + k) ≡ sample_of kind big (drop (width_of kind * a) bytes) k
+pub behind : (kind : SampleKind) (big : Bool) (bytes : List ℕ) (a k : ℕ) → sample_of kind big bytes (a + k) ≡ sample_of kind big (drop (width_of kind * a) bytes) k
 behind kind big bytes a k =
     let e : width_of kind * (a + k) ≡ width_of kind * a + width_of kind * k = omega arith in
     ap (λ (l : List ℕ). as_kind kind (number_in big (width_of kind) l)) (ap (λ n. drop n bytes) e ∙ sym (drop-drop (width_of kind * k) (width_of kind * a) bytes))

@@ -7,7 +7,7 @@ ghost use Rattle.samples.specs.Signs.{sign_of};
 
 use crate::lies::Lies;
 use iso_base::{Level, Point, Sizes, index};
-use samples::{Packed, Samples, converted, sign};
+use samples::{Packed, Samples, converted, copy_all, sign};
 use std::marker::{Model, PhantomData};
 
 /// Samples of one kind and byte order, in bytes: each is read when it is asked for.
@@ -58,7 +58,8 @@ fn read_each<K: Lies, T: Packed>(bytes: &[u8], start: usize, into: &mut [T])
     }
 }
 
-/// Reads as many samples from an index on as are known before the program runs, so that this takes no loop.
+/// Reads as many samples from an index on as are known before the program runs. They are all read before the first is written,
+/// from where the first lies, so that this takes no loop and no test whether the two lots overlap.
 #[inline(always)]
 fn read_known<const N: usize, K: Lies, T: Packed>(bytes: &[u8], start: usize, into: &mut [T])
     requires known { length into.old ≡ N }
@@ -67,9 +68,12 @@ fn read_known<const N: usize, K: Lies, T: Packed>(bytes: &[u8], start: usize, in
     requires fits { All T.Fits (map (λ k. sample_of K.kind K.big bytes.now (start + k)) (range_with_len 0 (length into.old))) }
     ensures { map T.value into.new ≡ map (λ k. sample_of K.kind K.big bytes.now (start + k)) (range_with_len 0 (length into.old)) }
 {
+    let (_, run) = bytes.split_at(K::width() * start);
+    let mut known = [0; N];
     for k in 0..N {
-        into[k] = converted(K::read(bytes, start + k));
+        known[k] = K::read(run, k).sample();
     }
+    copy_all(&known, into);
 }
 
 /// Reads samples from an index on over the numbers of a list, as many as it has: nine, as a whole row of a brick has, and eight,

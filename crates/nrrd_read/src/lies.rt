@@ -17,6 +17,10 @@ pub trait Lies {
 
     ghost big: { Bool };
 
+    /// How many bytes a number has.
+    fn width() -> usize
+        ensures { result ≡ width_of kind };
+
     /// The number of an index.
     fn read(bytes: &[u8], index: usize) -> Self::Number
         requires { width_of kind * (index + 1) ≤ length bytes.now }
@@ -33,6 +37,11 @@ impl Lies for Unsigned8 {
     ghost kind = { kinds.U8 };
 
     ghost big = { false };
+
+    #[inline(always)]
+    fn width() -> usize {
+        1
+    }
 
     #[inline(always)]
     fn read(bytes: &[u8], index: usize) -> u8 {
@@ -52,6 +61,11 @@ impl Lies for Signed8 {
     ghost big = { false };
 
     #[inline(always)]
+    fn width() -> usize {
+        1
+    }
+
+    #[inline(always)]
     fn read(bytes: &[u8], index: usize) -> i8 {
         bytes[index].cast_signed()
     }
@@ -67,6 +81,11 @@ impl Lies for Unsigned16Little {
     ghost kind = { kinds.U16 };
 
     ghost big = { false };
+
+    #[inline(always)]
+    fn width() -> usize {
+        2
+    }
 
     #[inline(always)]
     fn read(bytes: &[u8], index: usize) -> u16 {
@@ -86,6 +105,11 @@ impl Lies for Unsigned16Big {
     ghost big = { true };
 
     #[inline(always)]
+    fn width() -> usize {
+        2
+    }
+
+    #[inline(always)]
     fn read(bytes: &[u8], index: usize) -> u16 {
         BigEndian::read_u16(&bytes[2 * index..])
     }
@@ -101,6 +125,11 @@ impl Lies for Signed16Little {
     ghost kind = { kinds.I16 };
 
     ghost big = { false };
+
+    #[inline(always)]
+    fn width() -> usize {
+        2
+    }
 
     #[inline(always)]
     fn read(bytes: &[u8], index: usize) -> i16 {
@@ -120,6 +149,11 @@ impl Lies for Signed16Big {
     ghost big = { true };
 
     #[inline(always)]
+    fn width() -> usize {
+        2
+    }
+
+    #[inline(always)]
     fn read(bytes: &[u8], index: usize) -> i16 {
         BigEndian::read_i16(&bytes[2 * index..])
     }
@@ -135,6 +169,11 @@ impl Lies for Unsigned32Little {
     ghost kind = { kinds.U32 };
 
     ghost big = { false };
+
+    #[inline(always)]
+    fn width() -> usize {
+        4
+    }
 
     #[inline(always)]
     fn read(bytes: &[u8], index: usize) -> u32 {
@@ -154,6 +193,11 @@ impl Lies for Unsigned32Big {
     ghost big = { true };
 
     #[inline(always)]
+    fn width() -> usize {
+        4
+    }
+
+    #[inline(always)]
     fn read(bytes: &[u8], index: usize) -> u32 {
         BigEndian::read_u32(&bytes[4 * index..])
     }
@@ -171,6 +215,11 @@ impl Lies for Signed32Little {
     ghost big = { false };
 
     #[inline(always)]
+    fn width() -> usize {
+        4
+    }
+
+    #[inline(always)]
     fn read(bytes: &[u8], index: usize) -> i32 {
         LittleEndian::read_i32(&bytes[4 * index..])
     }
@@ -186,6 +235,11 @@ impl Lies for Signed32Big {
     ghost kind = { kinds.I32 };
 
     ghost big = { true };
+
+    #[inline(always)]
+    fn width() -> usize {
+        4
+    }
 
     #[inline(always)]
     fn read(bytes: &[u8], index: usize) -> i32 {

@@ -1,8 +1,8 @@
-use Rattle.std.proofs.Common.{◌≡◌, ℕ, ◌+◌, ◌<◌, map}
+use Rattle.std.proofs.Common.{◌≡◌, ℕ, ◌+◌, ◌<◌, length}
 use Rattle.iso_base.specs.Volume.{sample}
 use Rattle.text_samples.specs.Samples.{sample_of}
 use Rattle.nrrd_read.proofs.in_bytes.read_known.Given as goal
 
--- the first numbers are the samples
+-- so many numbers, of which the first are the samples
 abbrev pub invariant-loop-k : goal.invariant-loop-k
-invariant-loop-k g l = (j : ℕ) → j < l.k → sample (map g.T.Packed.value l.into) j ≡ sample_of g.K.Lies.kind g.K.Lies.big l.bytes (l.start + j)
+invariant-loop-k g l = (length l.known ≡ g.row.N) × ((j : ℕ) → j < l.k → sample l.known j ≡ sample_of g.K.Lies.kind g.K.Lies.big l.bytes (l.start + j))
