@@ -1,27 +1,9 @@
 -- Eight bytes as lanes.
 use Rattle.std.proofs.Common.{◌≡◌, ◌∙◌, ℕ, ◌+◌, ◌-◌, ◌*◌, ◌%◌, ◌<◌, ◌≤◌, ◌^◌, Bool, true, false, cond, leb, All, List, map, length, get_or, take, drop, replicate, ℤ, pos, refl, sym, ap, ap₂, subst, arith, w8, zero-add}
-use Rattle.std.specs.Prelude.{int_le}
-use Rattle.std.specs.Simd.Lanes.{zip2, sel_l, top, chunk}
-use Rattle.std.proofs.lemmas.List.{get_or-drop, get_or-map, get_or-take, length-drop, length-take-le}
-use Rattle.std.proofs.lemmas.Simd.{get_or-chunk, get_or-replicate, get_or-sel_l, get_or-zip2, length-chunk, length-sel_l, length-zip2, tops_compared}
-use Rattle.iso_base.specs.Volume.{sample}
-use Rattle.corner_signs.specs.Rows.{bit_from}
-use Rattle.brick_mesh.specs.Signs.{AreEight, byte_in, pair_from}
-use Rattle.brick_mesh.proofs.RowSigns.{bit_low}
-
--- one of two numbers by a test of lanes
-chosen : (t : ℕ → ℕ → Bool) (xs ys : List ℕ) (a b : ℕ) (number : ℕ → ℕ) → length xs ≡ 8 → length ys ≡ 8
-    → ((i : ℕ) → i < 8 → cond (t (get_or xs i 0) (get_or ys i 0)) a b ≡ number i)
-    → AreEight number (sel_l (map (top 7) (zip2 (λ a b. cond (t a b) 255 0) xs ys)) (replicate 8 a) (replicate 8 b))
-chosen t xs ys a b number lx ly are =
-    let tests : length (zip2 t xs ys) ≡ 8 = length-zip2 t xs ys (lx ∙ sym ly) ∙ lx in
-    subst (λ ms. AreEight number (sel_l ms (replicate 8 a) (replicate 8 b))) (sym (tops_compared w8 t xs ys)) (record {
-      count = length-sel_l (zip2 t xs ys) (replicate 8 a) (replicate 8 b) tests tests ∙ tests;
-      each = λ i low.
-          get_or-sel_l (zip2 t xs ys) (replicate 8 a) (replicate 8 b) i 0 (omega (arith, tests)) low low
-          ∙ (ap₂ (cond (get_or (zip2 t xs ys) i false)) (get_or-replicate 8 i a 0 low) (get_or-replicate 8 i b 0 low)
-          ∙ (ap (λ m. cond m a b) (get_or-zip2 t xs ys i 0 0 false (omega (arith, lx)) (omega (arith, ly))) ∙ are i low));
-    })
+use Rattle.std.specs.Simd.Lanes.{zip2, chunk}
+use Rattle.std.proofs.lemmas.List.{get_or-drop, get_or-take, length-drop, length-take-le}
+use Rattle.std.proofs.lemmas.Simd.{get_or-chunk, get_or-replicate, get_or-zip2, length-chunk, length-zip2}
+use Rattle.brick_mesh.specs.Signs.{AreEight, byte_in, pair_in}
 
 -- the eight bytes from a place on
 abbrev eight_at : List ℕ → ℕ → List ℕ
@@ -32,19 +14,13 @@ eight_long run at room =
     let front : length (take (at + 8 - at) (drop at run)) ≡ at + 8 - at = length-take-le (at + 8 - at) (drop at run) (omega (arith, length-drop at run)) in
     length-chunk 0 8 (take (at + 8 - at) (drop at run)) (omega (arith, front))
 
-as_product : (b : Bool) (number : ℕ) → cond b number 0 ≡ number * cond b 1 0
-as_product true number = omega arith
-as_product false number = omega arith
-
-pub numbers_are : (run : List ℕ) (at least number : ℕ) → at + 8 ≤ length run
-    → AreEight (λ i. number * bit_from (pos least) (sample (map pos run) (at + i)))
-    (sel_l (map (top 7) (zip2 (λ a b. cond (leb a b) 255 0) (replicate 8 least) (eight_at run at))) (replicate 8 number) (replicate 8 0))
-numbers_are run at least number room =
-    chosen leb (replicate 8 least) (eight_at run at) number 0 _ refl (eight_long run at room) (λ i low.
-    ap₂ (λ l s. cond (leb l s) number 0) (get_or-replicate 8 i least 0 low)
-    (get_or-chunk 0 8 (take (at + 8 - at) (drop at run)) i 0 low ∙ (ap (λ k. get_or (take (at + 8 - at) (drop at run)) k 0) (zero-add i) ∙ get_or-take (at + 8 - at) (drop at run) i 0 (omega arith) ∙ get_or-drop at run i 0))
-    ∙ as_product (leb least (get_or run (at + i) 0)) number
-    ∙ ap (λ s. number * bit_from (pos least) s) (sym (get_or-map pos run (at + i) 0 (pos 0) (omega arith))))
+pub eight_are : (run : List ℕ) (at : ℕ) → at + 8 ≤ length run → AreEight (λ i. get_or run (at + i) 0) (eight_at run at)
+eight_are run at room = record {
+  count = eight_long run at room;
+  each = λ i low.
+      get_or-chunk 0 8 (take (at + 8 - at) (drop at run)) i 0 low
+      ∙ (ap (λ k. get_or (take (at + 8 - at) (drop at run)) k 0) (zero-add i) ∙ get_or-take (at + 8 - at) (drop at run) i 0 (omega arith) ∙ get_or-drop at run i 0);
+}
 
 -- the sum and the product of two lanes
 abbrev pub lane_sum : ℕ → ℕ → ℕ
@@ -53,23 +29,7 @@ lane_sum a b = (a + b) % 2 ^ 8
 abbrev pub lane_product : ℕ → ℕ → ℕ
 lane_product a b = a * b % 2 ^ 8
 
-small_pair : (a b : ℕ) → a ≤ 1 → b ≤ 1 → lane_sum (1 * a) (2 * b) ≡ a + 2 * b
-small_pair a b la lb = omega arith
-
-pub pairs_are : (least : ℤ) (copies : List ℤ) (start : ℕ) (first second : List ℕ)
-    → AreEight (λ i. 1 * bit_from least (sample copies (start + i))) first → AreEight (λ i. 2 * bit_from least (sample copies (start + 1 + i))) second
-    → AreEight (λ x. pair_from least copies (start + x)) (zip2 lane_sum first second)
-pairs_are least copies start first second f s = record {
-  count = length-zip2 lane_sum first second (f.count ∙ sym s.count) ∙ f.count;
-  each = λ i low.
-      (let behind : start + 1 + i ≡ start + i + 1 = omega arith in
-      get_or-zip2 lane_sum first second i 0 0 0 (omega (arith, f.count)) (omega (arith, s.count))
-      ∙ ap₂ lane_sum (f.each i low) (s.each i low ∙ ap (λ k. 2 * bit_from least (sample copies k)) behind)
-      ∙ small_pair (bit_from least (sample copies (start + i))) (bit_from least (sample copies (start + i + 1)))
-      (bit_low (int_le least (sample copies (start + i)))) (bit_low (int_le least (sample copies (start + i + 1)))));
-}
-
--- a lane of a row with four times another
+-- a lane with so many times another
 module _ (low high : List ℕ) (long-low : length low ≡ 8) (long-high : length high ≡ 8) (number : ℕ) where
   with_more : (i : ℕ) → i < 8 → get_or (zip2 lane_sum low (zip2 lane_product (replicate 8 number) high)) i 0 ≡ lane_sum (get_or low i 0) (lane_product number (get_or high i 0))
   with_more i h =
@@ -82,6 +42,22 @@ module _ (low high : List ℕ) (long-low : length low ≡ 8) (long-high : length
   long_more =
       let long : length (zip2 lane_product (replicate 8 number) high) ≡ 8 = length-zip2 lane_product (replicate 8 number) high (sym long-high) in
       length-zip2 lane_sum low (zip2 lane_product (replicate 8 number) high) (long-low ∙ sym long) ∙ long-low
+
+small_pair : (a b : ℕ) → a ≤ 1 → b ≤ 1 → lane_sum a (lane_product 2 b) ≡ a + 2 * b
+small_pair a b la lb = omega arith
+
+-- signs with twice those behind them
+pub pairs_are : (signs : List ℕ) (start : ℕ) (first second : List ℕ) → start + 9 ≤ length signs → All (λ s. s ≤ 1) signs
+    → AreEight (λ i. get_or signs (start + i) 0) first → AreEight (λ i. get_or signs (start + 1 + i) 0) second
+    → AreEight (λ x. pair_in signs (start + x)) (zip2 lane_sum first (zip2 lane_product (replicate 8 2) second))
+pairs_are signs start first second room low f s = record {
+  count = long_more first second f.count s.count 2;
+  each = λ i h.
+      (let behind : start + 1 + i ≡ start + i + 1 = omega arith in
+      with_more first second f.count s.count 2 i h
+      ∙ ap₂ (λ a b. lane_sum a (lane_product 2 b)) (f.each i h) (s.each i h ∙ ap (λ k. get_or signs k 0) behind)
+      ∙ small_pair (get_or signs (start + i) 0) (get_or signs (start + i + 1) 0) (low (start + i) 0 (omega arith)) (low (start + i + 1) 0 (omega arith)));
+}
 
 small_byte : (n u f t : ℕ) → n ≤ 3 → u ≤ 3 → f ≤ 3 → t ≤ 3
     → lane_sum (lane_sum n (lane_product 4 u)) (lane_product 16 (lane_sum f (lane_product 4 t))) ≡ n + 4 * (u + 4 * (f + 4 * t))

@@ -1,30 +1,28 @@
 //! The signs of eight neighbours, all at once.
-ghost use Rattle.std.specs.Prelude.{◌≡◌, ℕ, ◌+◌, ◌*◌, ◌<◌, ◌≤◌, All, length, map, pos, slice_index};
-ghost use Rattle.iso_base.specs.Volume.{sample};
-ghost use Rattle.corner_signs.specs.Rows.{bit_from};
-ghost use Rattle.brick_mesh.specs.Signs.{AreEight, byte_in, pair_from};
+ghost use Rattle.std.specs.Prelude.{◌≡◌, ℕ, ◌+◌, ◌<◌, ◌≤◌, All, length, slice_index};
+ghost use Rattle.brick_mesh.specs.Signs.{AreEight, byte_in, pair_in};
 
 use std::simd::prelude::*;
 
-/// This number for each of the eight bytes from a place on that is at least `least`, and 0 for each other.
+/// The eight signs from a place on.
 #[inline(always)]
-fn numbers_at(copies: &[u8], at: usize, least: u8, number: u8) -> u8x8
-    requires { at + 8 ≤ length copies.now }
-    ensures { AreEight (λ i. number * bit_from (pos least) (sample (map pos copies.now) (at + i))) result }
+fn signs_at(signs: &[u8], at: usize) -> u8x8
+    requires { at + 8 ≤ length signs.now }
+    ensures { AreEight (λ i. slice_index signs.now (at + i)) result }
 {
-    let above = u8x8::from_slice(&copies[at..at + 8]).simd_ge(u8x8::splat(least));
-    above.select(u8x8::splat(number), u8x8::splat(0))
+    u8x8::from_slice(&signs[at..at + 8])
 }
 
-/// The signs of nine copies from a place on, two and two, which are compared as bytes.
+/// Nine signs from a place on, two and two.
 #[inline(always)]
-pub(crate) fn pairs_of_bytes(copies: &[u8], start: usize, least: u8) -> [u8; 8]
-    requires { start + 9 ≤ length copies.now }
-    ensures { AreEight (λ x. pair_from (pos least) (map pos copies.now) (start + x)) result }
+pub(crate) fn pairs_at(signs: &[u8], start: usize) -> [u8; 8]
+    requires room { start + 9 ≤ length signs.now }
+    requires signs { All (λ sign. sign ≤ 1) signs.now }
+    ensures { AreEight (λ x. pair_in signs.now (start + x)) result }
 {
-    let first = numbers_at(copies, start, least, 1);
-    let second = numbers_at(copies, start + 1, least, 2);
-    (first + second).to_array()
+    let first = signs_at(signs, start);
+    let second = signs_at(signs, start + 1);
+    (first + u8x8::splat(2) * second).to_array()
 }
 
 /// The sign bytes of the eight cells between four rows.
