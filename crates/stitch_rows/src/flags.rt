@@ -5,7 +5,7 @@ ghost use Rattle.crossing_edges.specs.Signs.{flag_of};
 ghost use Rattle.stitch_rows.specs.Rows.{AreZerosFrom, run_flags};
 
 use crate::lanes::flag_bytes;
-use samples::Packed;
+use samples::{Packed, sign};
 
 /// Numbers that samples are kept as, of which the flags of points are taken eight at a time.
 pub(crate) trait Flagged: Packed {
@@ -26,13 +26,13 @@ fn flags_of(here: bool, right: bool, up: bool, far: bool) -> u8
     u8::from(here != right) + 2 * u8::from(here != up) + 4 * u8::from(here != far)
 }
 
-/// Whether the sample at a place is at least a number.
+/// Whether the sample at a place is at least a number: compared in the width that it is kept in.
 #[inline(always)]
 fn is_from<T: Packed>(run: &[T], place: usize, least: i64) -> bool
     requires { place < length run.now }
     ensures { result ≡ int_le least (sample (map T.value run.now) place) }
 {
-    run[place].sample() >= least
+    sign(run[place], T::at_least(least)) == 1
 }
 
 /// Writes the flags of so many points of a run, behind which another one stands.
