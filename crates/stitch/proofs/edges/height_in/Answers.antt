@@ -10,5 +10,5 @@ height_of-requires g c =
     let run = c.args.run.now in
     let same : to_z w64 (of_z w64 c.sample.result) ≡ c.sample.result = search (rules, to_z-of_z) in
     let here : c.sample.result ≡ get_or (map g.T.Packed.value c.args.run.now) c.args.k (pos 0)
-    = c.sample.ensures ∙ (ap value c.index-run-k.is ∙ sym (get_or-map value run c.args.k c.index-run-k.result (pos 0) c.requires.k)) in
+    = c.sample.ensures.value ∙ (ap value c.index-run-k.is ∙ sym (get_or-map value run c.args.k c.index-run-k.result (pos 0) c.requires.k)) in
     subst IsSample (sym (same ∙ here)) (c.requires.run c.args.k (pos 0) (omega (arith, length-map run value, c.requires.k)))
