@@ -1,5 +1,5 @@
 -- Eight bytes as lanes.
-use Rattle.std.proofs.Common.{◌≡◌, ◌∙◌, ℕ, ◌+◌, ◌-◌, ◌*◌, ◌%◌, ◌<◌, ◌≤◌, ◌^◌, Bool, true, false, cond, leb, All, List, map, length, get_or, take, drop, replicate, ℤ, pos, refl, sym, ap, ap₂, subst, arith, w8, zero-add}
+use Rattle.std.proofs.Common.{◌≡◌, ◌∙◌, ℕ, ◌+◌, ◌-◌, ◌*◌, ◌%◌, ◌<◌, ◌≤◌, ◌^◌, All, List, length, get_or, take, drop, replicate, sym, ap, ap₂, arith, zero-add}
 use Rattle.std.specs.Simd.Lanes.{zip2, chunk}
 use Rattle.std.proofs.lemmas.List.{get_or-drop, get_or-take, length-drop, length-take-le}
 use Rattle.std.proofs.lemmas.Simd.{get_or-chunk, get_or-replicate, get_or-zip2, length-chunk, length-zip2}
