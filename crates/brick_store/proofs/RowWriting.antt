@@ -4,7 +4,7 @@ use Rattle.std.proofs.lemmas.Bool.{cases_lt}
 use Rattle.std.proofs.lemmas.List.{get_or-append_right, get_or_append_left, get_or-take, get_or-drop, drop-drop, length-take-le}
 use Rattle.iso_defs.specs.Grid.{Grid, coordinate, index, point_count}
 use Rattle.iso_defs.specs.Bricks.{bricks_along, brick_count, brick_start, brick_point}
-use Rattle.iso_defs.proofs.Points.{x_index, y_index, z_index, index_in}
+use Rattle.iso_defs.proofs.Points.{x_index, y_index, z_index}
 use Rattle.iso_base.specs.Sizing.{IsGrid}
 use Rattle.iso_base.specs.Points.{IsPoint, index_of}
 use Rattle.iso_base.specs.declared.point.Point.{Point}
