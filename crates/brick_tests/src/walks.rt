@@ -103,6 +103,8 @@ fn listed_text(
 ) -> Result<Told, Memory> {
     let padded = volume.pad().is_some();
     let mut sink = empty_sink(alloc)?;
+    // Reading the samples brings in that they are in the range of samples.
+    let _ = volume.samples();
     let mesh = ListMesh::of(alloc, volume.sizes(), volume, level)?;
     let written = mesh.write(Style { format, padded }, &mut sink);
     Ok(Told { sink, written })

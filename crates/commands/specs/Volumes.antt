@@ -1,5 +1,5 @@
 -- The volume that a command works on: in its pad, in the input, and in a file of the shelf.
-use Rattle.std.specs.Prelude.{◌≡◌, ◌⊎◌, ℕ, ◌<◌, ◌≤◌, List, length, Option, Err, IfSome, ℤ}
+use Rattle.std.specs.Prelude.{◌≡◌, ◌⊎◌, ℕ, ◌<◌, ◌≤◌, List, length, Option, Some, Err, IfSome, ℤ}
 use Rattle.std.specs.FinMap.{get}
 use Rattle.iso_base.specs.Volume.{Volume}
 use Rattle.byte_streams.specs.Causes.{Rose}

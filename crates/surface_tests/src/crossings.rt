@@ -11,6 +11,8 @@ use std::test::Fail;
 use voxel_list::VoxelList;
 
 fn points_of(alloc: Global, volume: &VoxelList, level: Level) -> Result<EdgeVertices, Memory> {
+    // Reading the samples brings in that they are in the range of samples.
+    let _ = volume.samples();
     crossing_points(alloc, &volume.sizes(), volume, level)
 }
 
