@@ -1,6 +1,6 @@
 -- Volumes that were read, taken in their pad.
 use Rattle.std.proofs.Common.{◌≡◌, ℕ, ◌<◌, ◌≤◌, Bool, ltb, Some, None, Ok, Err, true, false, refl, sym, ap, subst, ◌∙◌, ℤ, pos, List, length, get_or, inl, inr, rules}
-use Rattle.std.specs.Prelude.{Option, Result, IfOk, IfErr, IfSome, All}
+use Rattle.std.specs.Prelude.{if◌then◌else◌, Option, Result, IfOk, IfErr, IfSome, All}
 use Rattle.iso_defs.specs.Grid.{Grid, point_count}
 use Rattle.iso_base.specs.Samples.{IsSample}
 use Rattle.iso_base.specs.Shifted.{is_above_pad}
@@ -12,6 +12,7 @@ use Rattle.std.proofs.lemmas.Bool.{ltb-false}
 use Rattle.voxel_list.proofs.Volumes.{padded_is}
 use Rattle.voxel_list.specs.Padding.{first_padded, grown, inner_point, padded_sample, padded_volume}
 use Rattle.iso_defs.specs.Lists.{below}
+use Rattle.padded_samples.specs.Pads.{InPad, padded_list}
 use Rattle.iso_defs.specs.Outside.{is_outer}
 use Rattle.std.proofs.lemmas.Bool.{cases_lt}
 use Rattle.std.proofs.lemmas.List.Elements.{All-from_get_or, All-get_or, All-map}
@@ -96,6 +97,19 @@ taken_watertight (Some pad) level v w is none range e = by (sized (grown v.grid)
         accepted : (f : SizeFault) (g : Grid) → sized (grown v.grid) ≡ Err f → sized (grown v.grid) ≡ Ok g → ⊥
         accepted f g h at = cc
     by (Err fault) at e = absurd cc
+
+-- the volume of samples in a pad
+pub same_padded : (v : Volume) (p : InPad) (r : Grid) (pad : ℤ) → p ≡ record { grid = v.grid; samples = v.samples; pad = pad } → r ≡ grown p.grid
+    → record { grid = r; kind = v.kind; pad = Some pad; samples = padded_list p } ≡ padded_volume v pad
+same_padded v p r pad e f =
+    ap (λ (q : InPad). record { grid = r; kind = v.kind; pad = Some pad; samples = padded_list q }) e
+    ∙ ap (λ (g : Grid). record { grid = g; kind = v.kind; pad = Some pad; samples = first_padded v.grid v.samples pad (point_count (grown v.grid)) })
+    (f ∙ ap (λ (q : InPad). grown q.grid) e)
+
+pub padded_store : (v : Volume) (p : InPad) (r : Grid) (pad : ℤ) → p ≡ record { grid = v.grid; samples = v.samples; pad = pad } → r ≡ grown p.grid
+    → IsVolume v → v.pad ≡ None → IsSample pad → IsGrid (grown p.grid) → IsVolume (record { grid = r; kind = v.kind; pad = Some pad; samples = padded_list p })
+padded_store v p r pad e f is none range fits =
+    subst IsVolume (sym (same_padded v p r pad e f)) (padded_is v pad is none range (subst (λ (q : InPad). IsGrid (grown q.grid)) e fits))
 
 -- what is said of the volume that was read is said of the bytes
 module _ (pad : Option ℤ) (level : ℤ) (bytes : List ℕ) (v : Volume) (read : IsRead bytes v) where

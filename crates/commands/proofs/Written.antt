@@ -1,16 +1,21 @@
 -- What was written, by the answer.
-use Rattle.std.proofs.Common.{◌≡◌, ℕ, ◌≤◌, List, length, Ok, Err, refl, sym, ap, subst, ℤ}
-use Rattle.std.specs.Prelude.{Option, Result}
+use Rattle.std.proofs.Common.{◌≡◌, ℕ, ◌≤◌, List, length, None, Ok, Err, refl, sym, ap, subst, ℤ}
+use Rattle.std.specs.Prelude.{IfSome, Option, Result}
 use Rattle.std.specs.Io.KnownBytes.{Appends}
-use Rattle.iso_base.specs.Volume.{Volume}
+use Rattle.iso_base.specs.Volume.{IsVolume, Volume}
 use Rattle.byte_streams.specs.Seen.{Tape}
 use Rattle.mesh_text.specs.declared.format.TwoWayFormat.{TwoWayFormat}
 use Rattle.point_command.specs.Meaning.{text_by}
 use Rattle.commands.specs.Headline.{IsMeshWatertight, ShowsMesh}
-use Rattle.commands.specs.Meaning.{mesh_given, text_of_volume}
+use Rattle.commands.specs.Meaning.{mesh_given, mesh_in, text_of_volume}
+use Rattle.commands.specs.Volumes.{IsNotTaken}
+use Rattle.commands.proofs.Taken.{given_of, taken_watertight}
+use Rattle.iso_base.specs.Samples.{IsSample}
+use Rattle.nrrd_read.specs.Files.{IsRead}
+use Rattle.point_command.proofs.ReadVolumes.{read_volume}
 use Rattle.point_command.specs.Inputs.{HasRead}
 use Rattle.point_command.specs.Outcome.{Converts, ReadWhole, Streams, WritesGiven}
-use Rattle.point_command.specs.Volumes.{HoldsNone, IsNoVolume, volume_answer, volume_limit, volume_of}
+use Rattle.point_command.specs.Volumes.{HoldsNone, IsNoVolume, volume_answer, volume_limit, volume_of, with_pad}
 use Rattle.point_command.specs.declared.reasons.NoVolume.{NoVolume}
 use Rattle.point_command.specs.declared.reasons.NoVolume.TheVariants as reasons
 use Rattle.point_command.proofs.Told.{if_told, of_whole}
@@ -47,10 +52,25 @@ pub not_done : (reason : NoVolume) → volume_answer reason ≡ answers.Done →
 not_done (reasons.Refused fault) e = absurd cc
 not_done reasons.Memory e = absurd cc
 
--- what is written of a volume is what its bytes give
-pub of_volume : (level : ℤ) (pad : Option ℤ) (format : TwoWayFormat) (bytes : List ℕ) (v : Volume) (old new : Tape) (a : Answer)
-    → volume_of pad level bytes ≡ Ok v → WritesGiven (Ok (text_of_volume format level v)) old new a → WritesGiven (mesh_given level pad format bytes) old new a
-of_volume level pad format bytes v old new a e h = subst (λ given. WritesGiven given old new a) (sym (ap (text_by (text_of_volume format level)) e)) h
+-- nor does a refusal of a volume that was read
+pub refused_in : (level : ℤ) (pad : Option ℤ) (format : TwoWayFormat) (v : Volume) (tape : Tape) (reason : NoVolume) → IsNotTaken pad level v reason
+    → WritesGiven (mesh_in level pad format v) tape tape (volume_answer reason)
+refused_in level pad format v tape (reasons.Refused fault) h = (ap (text_by (text_of_volume format level)) h, refl)
+refused_in level pad format v tape reasons.Memory h = refl
+
+-- what is written of a volume that was read is what its bytes give
+pub of_read : (level : ℤ) (pad : Option ℤ) (format : TwoWayFormat) (bytes : List ℕ) (v : Volume) (old new : Tape) (a : Answer)
+    → IsRead bytes v → WritesGiven (mesh_in level pad format v) old new a → WritesGiven (mesh_given level pad format bytes) old new a
+of_read level pad format bytes v old new a read h =
+    subst (λ given. WritesGiven given old new a) (sym (ap (text_by (text_of_volume format level)) (read_volume pad level bytes v (with_pad pad level v) read refl))) h
+
+-- and its mesh is watertight, where it was written
+pub done_watertight : (level : ℤ) (pad : Option ℤ) (format : TwoWayFormat) (bytes : List ℕ) (v : Volume) (old new : Tape) (a : Answer)
+    → IsRead bytes v → IsVolume v → v.pad ≡ None → IfSome pad IsSample → WritesGiven (mesh_in level pad format v) old new a → a ≡ answers.Done → IsMeshWatertight level pad bytes
+done_watertight level pad format bytes v old new a read is none range h done =
+    let w = subst (WritesGiven (mesh_in level pad format v) old new) done h in
+    let m = given_of (text_of_volume format level) (with_pad pad level v) w.0 w.1 in
+    (m.0, read_volume pad level bytes v (Ok m.0) read m.1, taken_watertight pad level v m.0 is none range m.1)
 
 -- where there is no volume in the input nothing is written
 pub not_held : (level : ℤ) (pad : Option ℤ) (format : TwoWayFormat) (call : Streams) (a : Answer) → call.output_after ≡ call.output
