@@ -1,5 +1,5 @@
 -- Rows of samples in a pad: the pad, a row and the pad, or all pad.
-use Rattle.std.proofs.Common.{◌≡◌, ℕ, ◌+◌, ◌-◌, ◌*◌, ◌/◌, ◌%◌, ◌<◌, ◌≤◌, ◌⊎◌, inl, inr, min, eq-zero-or-pos, ℤ, pos, List, length, take, drop, get_or, map, set, ltb, refl, sym, ap, ◌∙◌, subst, arith, true}
+use Rattle.std.proofs.Common.{◌≡◌, ℕ, ◌+◌, ◌-◌, ◌*◌, ◌<◌, ◌≤◌, ◌⊎◌, inl, inr, min, eq-zero-or-pos, ℤ, pos, List, length, take, drop, get_or, map, set, ltb, refl, sym, ap, ◌∙◌, subst, arith, true}
 use Rattle.std.proofs.lemmas.Bool.{ltb-true, ltb-false}
 use Rattle.std.proofs.lemmas.Grind.{get_or-set_at}
 use Rattle.std.proofs.lemmas.List.{ext_get_or, get_or-drop, get_or-map, get_or-set_other, get_or-take, length-drop, length-map, length-set, length-take-le}

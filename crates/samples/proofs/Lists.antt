@@ -1,5 +1,5 @@
 -- Lists of numbers as the samples that they are.
-use Rattle.std.proofs.Common.{◌≡◌, ℕ, ◌+◌, ◌-◌, ◌*◌, ◌<◌, ◌≤◌, ◌++◌, ◌∙◌, sym, ap, arith, List, length, map, take, drop, ℤ, pos, get_or, set, below_more, Bool, true, false, refl, ltb, suc}
+use Rattle.std.proofs.Common.{◌≡◌, ℕ, ◌+◌, ◌-◌, ◌*◌, ◌<◌, ◌≤◌, ◌++◌, ◌∙◌, sym, ap, arith, List, length, map, take, drop, ℤ, pos, get_or, set, below_more, Bool, true, false, refl, ltb}
 use Rattle.std.proofs.lemmas.List.{get_or-append_right, get_or_append_left, get_or-drop, get_or-map, get_or-set_same, get_or-set_other, get_or-take, length-drop, length-map, length-set, length-take-le}
 use Rattle.std.proofs.lemmas.Bool.{ltb-true, ltb-false}
 use Rattle.std.specs.List.{drop-map, take-map}

@@ -1,4 +1,4 @@
-use Rattle.std.proofs.Common.{arith, ◌+◌, ◌-◌, ◌≡◌, ◌∙◌, length, take, drop}
+use Rattle.std.proofs.Common.{arith, ◌+◌, ◌-◌, ◌≡◌, drop}
 use Rattle.std.proofs.lemmas.List.{length-drop, length-take-le}
 use Rattle.padded_samples.proofs.Parts.{part_others}
 use Rattle.padded_samples.proofs.rows.copy_inside.Goals as goal

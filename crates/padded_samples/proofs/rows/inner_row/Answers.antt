@@ -1,4 +1,4 @@
-use Rattle.std.proofs.Common.{◌<◌, arith, inl, inr}
+use Rattle.std.proofs.Common.{arith, inl, inr}
 use Rattle.padded_samples.proofs.PadRows.{pad_row_by_y, pad_row_by_z, inner_row_by}
 use Rattle.padded_samples.proofs.rows.inner_row.Goals as goal
 

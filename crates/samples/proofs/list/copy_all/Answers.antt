@@ -1,4 +1,4 @@
-use Rattle.std.proofs.Common.{arith, pos, map, length, ◌∙◌, sym, ap, subst, get_or, ◌<◌, ◌≡◌, ℤ}
+use Rattle.std.proofs.Common.{arith, pos, map, length, ◌∙◌, sym, ap, subst, ◌<◌}
 use Rattle.std.proofs.lemmas.List.{ext_get_or, length-map, get_or-map}
 use Rattle.samples.proofs.Lists.{more_mapped}
 use Rattle.samples.proofs.list.copy_all.Goals as goal

@@ -1,4 +1,4 @@
-use Rattle.std.proofs.Common.{arith, pos, map, length, ◌∙◌, sym, ap, get_or, ◌<◌}
+use Rattle.std.proofs.Common.{arith, pos, map, length, ◌∙◌, sym, ◌<◌}
 use Rattle.std.proofs.lemmas.List.{ext_get_or, length-map, get_or-map}
 use Rattle.samples.specs.Signs.{sign_of}
 use Rattle.samples.proofs.signs.put_signs.Goals as goal

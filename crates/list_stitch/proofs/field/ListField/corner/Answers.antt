@@ -1,4 +1,4 @@
-use Rattle.std.proofs.Common.{◌+◌, arith}
+use Rattle.std.proofs.Common.{arith}
 use Rattle.list_stitch.proofs.field.ListField.corner.Goals as goal
 
 pub height-requires : goal.height-requires

@@ -1,4 +1,4 @@
-use Rattle.std.proofs.Common.{arith, rules, ◌≡◌, ◌∙◌, ◌+◌, ◌<◌, sym, subst, to_z, of_z, w64}
+use Rattle.std.proofs.Common.{arith, rules, ◌≡◌, ◌∙◌, ◌+◌, sym, subst, to_z, of_z, w64}
 use Rattle.std.proofs.lemmas.Int.{to_z-of_z}
 use Rattle.padded_samples.specs.Pads.{padded_at}
 use Rattle.padded_samples.proofs.Parts.{more_numbers}

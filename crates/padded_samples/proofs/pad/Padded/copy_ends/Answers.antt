@@ -1,10 +1,10 @@
-use Rattle.std.proofs.Common.{arith, rules, inl, inr, min, eq-zero-or-pos, ◌≡◌, ◌∙◌, ◌+◌, ◌-◌, ◌*◌, ◌<◌, ◌≤◌, ℕ, ℤ, IfSome, length, map, sym, ap, subst, to_z, of_z, w64}
+use Rattle.std.proofs.Common.{arith, rules, inl, inr, min, eq-zero-or-pos, ◌≡◌, ◌∙◌, ◌+◌, ◌-◌, ◌*◌, ◌<◌, ℕ, length, map, sym, ap, subst, to_z, of_z, w64}
 use Rattle.std.proofs.lemmas.Bool.{cases_lt}
 use Rattle.std.proofs.lemmas.Int.{to_z-of_z}
-use Rattle.iso_defs.specs.Grid.{index, point_count}
-use Rattle.iso_base.specs.Points.{IsPoint, index_of}
+use Rattle.iso_defs.specs.Grid.{index}
+use Rattle.iso_base.specs.Points.{index_of}
 use Rattle.iso_base.specs.Volume.{sample}
-use Rattle.padded_samples.specs.Pads.{InPad, IsInnerRow, IsPadRow}
+use Rattle.padded_samples.specs.Pads.{InPad, IsInnerRow}
 use Rattle.padded_samples.proofs.PadRows.{after_part, before_part, inner_part}
 use Rattle.padded_samples.proofs.Parts.{along_part}
 use Rattle.padded_samples.proofs.pad.Padded.copy_ends.Goals as goal
@@ -82,19 +82,19 @@ returns-then-first-last g c = λ i low.
           ∙ c.put_pad.ensures.inside i (omega arith) before ∙ pad_is
           ∙ sym (before_part p x y z (index_of p.grid q) n first last i is c.requires.row low c.points_before-first.ensures.first c.points_before-first.ensures.none ends before)
       | inr from ↦ elim (cases_lt i last) [
-          | inl inside ↦ (
-              let k : ℕ = i - first in
-              let at : first + k ≡ i = omega (arith, from) in
-              let some : 0 < x + first = elim (eq-zero-or-pos x) [
-                | inl e ↦ omega (arith, c.points_before-first.ensures.first e (omega (arith, low)))
-                | inr s ↦ omega (arith, s)
-              ] in
-              ap (λ (j : ℕ). sample (map g.T.Packed.value c.copy_inside.new.into) j) (sym at)
-              ∙ c.copy_inside.ensures.inside k (omega (arith, from, inside))
-              ∙ ap (λ (r : InPad). sample r.samples (index c.self.inside.sizes (x + first - 1) q.y q.z + k)) c.self.view_is
-              ∙ ap (sample p.samples) (sym (along_part p.grid c.self.inside.sizes q x first k same begun.1 some) ∙ ap (λ (j : ℕ). index_of p.grid q + (x + j - 1)) at)
-              ∙ sym (inner_part p x y z (index_of p.grid q) n first last i is c.requires.row low c.points_before-first.ensures.first c.points_before-first.ensures.none ends from inside))
-          | inr after ↦ c.copy_inside.ensures.others i (inr (omega (arith, after, c.if-first-last.true))) ∙ c.put_pad-2.ensures.inside i after low ∙ pad_is
-              ∙ sym (after_part p x y z (index_of p.grid q) n first last i is c.requires.row low c.points_before-first.ensures.first c.points_before-first.ensures.none ends after)
-        ]
+        | inl inside ↦ (
+            let k : ℕ = i - first in
+            let at : first + k ≡ i = omega (arith, from) in
+            let some : 0 < x + first = elim (eq-zero-or-pos x) [
+              | inl e ↦ omega (arith, c.points_before-first.ensures.first e (omega (arith, low)))
+              | inr s ↦ omega (arith, s)
+            ] in
+            ap (λ (j : ℕ). sample (map g.T.Packed.value c.copy_inside.new.into) j) (sym at)
+            ∙ c.copy_inside.ensures.inside k (omega (arith, from, inside))
+            ∙ ap (λ (r : InPad). sample r.samples (index c.self.inside.sizes (x + first - 1) q.y q.z + k)) c.self.view_is
+            ∙ ap (sample p.samples) (sym (along_part p.grid c.self.inside.sizes q x first k same begun.1 some) ∙ ap (λ (j : ℕ). index_of p.grid q + (x + j - 1)) at)
+            ∙ sym (inner_part p x y z (index_of p.grid q) n first last i is c.requires.row low c.points_before-first.ensures.first c.points_before-first.ensures.none ends from inside))
+        | inr after ↦ c.copy_inside.ensures.others i (inr (omega (arith, after, c.if-first-last.true))) ∙ c.put_pad-2.ensures.inside i after low ∙ pad_is
+            ∙ sym (after_part p x y z (index_of p.grid q) n first last i is c.requires.row low c.points_before-first.ensures.first c.points_before-first.ensures.none ends after)
+      ]
     ]

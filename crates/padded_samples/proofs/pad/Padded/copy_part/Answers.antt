@@ -1,4 +1,4 @@
-use Rattle.std.proofs.Common.{arith, rules, refl, ◌≡◌, ◌∙◌, ◌+◌, ◌-◌, ◌*◌, ◌<◌, ◌≤◌, ℕ, ℤ, IfSome, length, map, sym, ap, subst, to_z, of_z, w64}
+use Rattle.std.proofs.Common.{arith, rules, refl, ◌≡◌, ◌∙◌, ◌+◌, ◌-◌, ◌*◌, ◌<◌, ℕ, IfSome, length, map, sym, ap, subst, to_z, of_z, w64}
 use Rattle.std.proofs.lemmas.Int.{to_z-of_z}
 use Rattle.iso_defs.specs.Grid.{index, point_count}
 use Rattle.iso_base.specs.Points.{IsPoint, index_of}

@@ -1,4 +1,4 @@
-use Rattle.std.proofs.Common.{arith, ◌≡◌, ◌∙◌, ◌+◌, ◌*◌, ◌≤◌, ℕ, ap, length, subst}
+use Rattle.std.proofs.Common.{arith, ◌≡◌, ◌∙◌, ◌+◌, ◌≤◌, ℕ, ap, length, subst}
 use Rattle.padded_samples.specs.Pads.{padded_at}
 use Rattle.samples.specs.Signs.{sign_of}
 use Rattle.padded_samples.proofs.PadRows.{padded_length, signs_are}
