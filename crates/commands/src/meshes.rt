@@ -149,12 +149,7 @@ fn extract_raw<K: Sink>(
 }
 
 /// Writes the mesh of the volume in the bytes of a file, in its pad where it is to have one.
-fn extract_bytes<K: Sink>(
-    alloc: Global,
-    asked: Asked,
-    bytes: Vec<u8>,
-    output: &mut K,
-) -> Answer
+fn extract_bytes<K: Sink>(alloc: Global, asked: Asked, bytes: Vec<u8>, output: &mut K) -> Answer
     requires { IfSome asked.pad IsSample }
     ensures text { WritesGiven (mesh_given asked.level asked.pad asked.format bytes.items) (K.seen output.old) (K.seen output.new) result }
     ensures surface { result ≡ answers.Done → IsMeshWatertight asked.level asked.pad bytes.items }

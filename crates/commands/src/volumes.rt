@@ -63,8 +63,7 @@ fn bricks_of<S: Samples>(
         None => Ok(BrickStore::of_samples(alloc, sizes, kind, None, samples)?),
         Some(pad) => {
             let padded = in_pad(samples, sizes, pad, level)?;
-            let store =
-                BrickStore::of_samples(alloc, padded.sizes(), kind, Some(pad), &padded)?;
+            let store = BrickStore::of_samples(alloc, padded.sizes(), kind, Some(pad), &padded)?;
             Ok(store)
         }
     }

@@ -184,7 +184,14 @@ impl<'a, S: Samples> Padded<'a, S> {
         let Some(row) = inner_row(&self.sizes, y, z) else {
             return fill_signs(sign, from, count + 2, into);
         };
-        put_inside(self.inner, index(&self.sizes, row), level, from + 1, count, into);
+        put_inside(
+            self.inner,
+            index(&self.sizes, row),
+            level,
+            from + 1,
+            count,
+            into,
+        );
         into[from] = sign;
         into[from + 1 + count] = sign;
     }
@@ -198,7 +205,13 @@ impl<'a, S: Samples> Padded<'a, S> {
         let width = self.sizes.nx() as usize + 2;
         let height = self.sizes.ny() + 2;
         for row in 0..rows {
-            self.put_row(row % height, row / height, level, width * row as usize, into);
+            self.put_row(
+                row % height,
+                row / height,
+                level,
+                width * row as usize,
+                into,
+            );
         }
     }
 
