@@ -1,0 +1,16 @@
+//! The numbers and the measures of the mesh of a volume and of its components, told by one walk over the rows of its cells: no mesh, and no
+//! list of vertices or of triangles, is made.
+#![tactic(auto)]
+
+mod borders;
+mod labels;
+mod loops;
+mod measured;
+mod numbers;
+mod positions;
+mod slab;
+mod tally;
+mod walk;
+
+pub use measured::measured;
+pub use numbers::numbered;
