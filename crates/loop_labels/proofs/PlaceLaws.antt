@@ -1,5 +1,5 @@
 -- Where the labels of the edges of a cell stand.
-use Rattle.std.proofs.Common.{◌≡◌, ◌∙◌, ℕ, suc, List, [], ◌∷◌, slice_index, ◌+◌, ◌*◌, ◌/◌, ◌%◌, ◌<◌, ◌≤◌, ap, sym, arith}
+use Rattle.std.proofs.Common.{◌≡◌, ◌∙◌, ℕ, zero, suc, List, [], ◌∷◌, slice_index, ◌+◌, ◌*◌, ◌/◌, ◌%◌, ◌<◌, ◌≤◌, ap, sym, arith}
 use Rattle.iso_defs.specs.Grid.{Grid}
 use Rattle.iso_defs.specs.Cell.{cell_edge}
 use Rattle.loop_labels.specs.Fronts.{room, row_name}
@@ -90,17 +90,17 @@ module _ (g : Grid) (row x near up far both : ℕ) (wide : x + 1 < g.nx) (some :
 
   -- edge by edge
   pub place_of_edge : (e : ℕ) → e < 12
-      → slice_index (near ∷ up ∷ far ∷ both ∷ near + 1 ∷ near + 4 ∷ far + 1 ∷ far + 4 ∷ near + 2 ∷ near + 5 ∷ up + 2 ∷ up + 5 ∷ []) e + 3 * x ≡ cell_edge g q e % room g
-  place_of_edge 0 l = in_near (3 * x) (cell_edge g q 0) (omega arith) (omega arith)
-  place_of_edge 1 l = in_up (3 * x) (cell_edge g q 1) (omega arith) (omega arith)
-  place_of_edge 2 l = in_far (3 * x) (cell_edge g q 2) (omega arith) (omega arith)
-  place_of_edge 3 l = in_both (3 * x) (cell_edge g q 3) (omega arith) (omega arith)
-  place_of_edge 4 l = (let s : near + 1 + 3 * x ≡ near + (3 * x + 1) = omega arith in s ∙ in_near (3 * x + 1) (cell_edge g q 4) (omega arith) (omega arith))
-  place_of_edge 5 l = (let s : near + 4 + 3 * x ≡ near + (3 * x + 4) = omega arith in s ∙ in_near (3 * x + 4) (cell_edge g q 5) (omega arith) (omega arith))
-  place_of_edge 6 l = (let s : far + 1 + 3 * x ≡ far + (3 * x + 1) = omega arith in s ∙ in_far (3 * x + 1) (cell_edge g q 6) (omega arith) (omega arith))
-  place_of_edge 7 l = (let s : far + 4 + 3 * x ≡ far + (3 * x + 4) = omega arith in s ∙ in_far (3 * x + 4) (cell_edge g q 7) (omega arith) (omega arith))
-  place_of_edge 8 l = (let s : near + 2 + 3 * x ≡ near + (3 * x + 2) = omega arith in s ∙ in_near (3 * x + 2) (cell_edge g q 8) (omega arith) (omega arith))
-  place_of_edge 9 l = (let s : near + 5 + 3 * x ≡ near + (3 * x + 5) = omega arith in s ∙ in_near (3 * x + 5) (cell_edge g q 9) (omega arith) (omega arith))
-  place_of_edge 10 l = (let s : up + 2 + 3 * x ≡ up + (3 * x + 2) = omega arith in s ∙ in_up (3 * x + 2) (cell_edge g q 10) (omega arith) (omega arith))
-  place_of_edge 11 l = (let s : up + 5 + 3 * x ≡ up + (3 * x + 5) = omega arith in s ∙ in_up (3 * x + 5) (cell_edge g q 11) (omega arith) (omega arith))
+      → slice_index (near ∷ up ∷ far ∷ both ∷ (near + 1) ∷ (near + 4) ∷ (far + 1) ∷ (far + 4) ∷ (near + 2) ∷ (near + 5) ∷ (up + 2) ∷ (up + 5) ∷ []) e + 3 * x ≡ cell_edge g q e % room g
+  place_of_edge zero l = in_near (3 * x) (cell_edge g q 0) (omega arith) (omega arith)
+  place_of_edge (suc zero) l = in_up (3 * x) (cell_edge g q 1) (omega arith) (omega arith)
+  place_of_edge (suc (suc zero)) l = in_far (3 * x) (cell_edge g q 2) (omega arith) (omega arith)
+  place_of_edge (suc (suc (suc zero))) l = in_both (3 * x) (cell_edge g q 3) (omega arith) (omega arith)
+  place_of_edge (suc (suc (suc (suc zero)))) l = (let s : near + 1 + 3 * x ≡ near + (3 * x + 1) = omega arith in s ∙ in_near (3 * x + 1) (cell_edge g q 4) (omega arith) (omega arith))
+  place_of_edge (suc (suc (suc (suc (suc zero))))) l = (let s : near + 4 + 3 * x ≡ near + (3 * x + 4) = omega arith in s ∙ in_near (3 * x + 4) (cell_edge g q 5) (omega arith) (omega arith))
+  place_of_edge (suc (suc (suc (suc (suc (suc zero)))))) l = (let s : far + 1 + 3 * x ≡ far + (3 * x + 1) = omega arith in s ∙ in_far (3 * x + 1) (cell_edge g q 6) (omega arith) (omega arith))
+  place_of_edge (suc (suc (suc (suc (suc (suc (suc zero))))))) l = (let s : far + 4 + 3 * x ≡ far + (3 * x + 4) = omega arith in s ∙ in_far (3 * x + 4) (cell_edge g q 7) (omega arith) (omega arith))
+  place_of_edge (suc (suc (suc (suc (suc (suc (suc (suc zero)))))))) l = (let s : near + 2 + 3 * x ≡ near + (3 * x + 2) = omega arith in s ∙ in_near (3 * x + 2) (cell_edge g q 8) (omega arith) (omega arith))
+  place_of_edge (suc (suc (suc (suc (suc (suc (suc (suc (suc zero))))))))) l = (let s : near + 5 + 3 * x ≡ near + (3 * x + 5) = omega arith in s ∙ in_near (3 * x + 5) (cell_edge g q 9) (omega arith) (omega arith))
+  place_of_edge (suc (suc (suc (suc (suc (suc (suc (suc (suc (suc zero)))))))))) l = (let s : up + 2 + 3 * x ≡ up + (3 * x + 2) = omega arith in s ∙ in_up (3 * x + 2) (cell_edge g q 10) (omega arith) (omega arith))
+  place_of_edge (suc (suc (suc (suc (suc (suc (suc (suc (suc (suc (suc zero))))))))))) l = (let s : up + 5 + 3 * x ≡ up + (3 * x + 5) = omega arith in s ∙ in_up (3 * x + 5) (cell_edge g q 11) (omega arith) (omega arith))
   place_of_edge (suc (suc (suc (suc (suc (suc (suc (suc (suc (suc (suc (suc e)))))))))))) l = absurd (omega arith)

@@ -1,6 +1,6 @@
 //! The loops of the components.
 
-use crate::labels::Labels;
+use crate::labels::Walked;
 use crate::tally::Tally;
 use iso_base::Memory;
 use label_joins::least_joined;
@@ -16,17 +16,17 @@ pub struct Component<T> {
 }
 
 /// The components in the order of their least vertices.
-pub fn components<T: Tally>(alloc: Global, labels: &Labels<T>) -> Result<Vec<Component<T>>, Memory> {
-    let count = labels.labels.len();
-    let joined = least_joined(alloc, count as u32, labels.pairs.as_slice())?;
+pub fn components<T: Tally>(alloc: Global, walked: &Walked<T>) -> Result<Vec<Component<T>>, Memory> {
+    let count = walked.known.len();
+    let joined = least_joined(alloc, count as u32, walked.labels.pairs())?;
     let mut places = vec![in alloc; NONE; count]?;
     let mut components = Vec::new(alloc);
-    for &label in labels.order.as_slice() {
+    for &label in walked.order.as_slice() {
         let name = joined[label as usize] as usize;
         if places[name] == NONE {
             places[name] = components.len() as u32;
             components.push(Component {
-                least: labels.labels[label as usize].least,
+                least: walked.known[label as usize].least,
                 crossings: 0,
                 tally: T::none(),
             })?;
@@ -35,7 +35,7 @@ pub fn components<T: Tally>(alloc: Global, labels: &Labels<T>) -> Result<Vec<Com
     for label in 0..count {
         let place = places[joined[label] as usize] as usize;
         let component = &mut components[place];
-        let known = &labels.labels[label];
+        let known = &walked.known[label];
         component.crossings += known.crossings;
         component.tally.add(&known.tally);
     }

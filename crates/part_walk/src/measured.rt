@@ -95,10 +95,10 @@ pub fn measured<L: Ledger>(
     requires { IsRightFor tree.now store.now }
     ensures { IfOk result (λ m. m ≡ measures_at store.now level) }
 {
-    let labels = walk::<Swept, L>(alloc, store, tree, level, steps)?;
+    let walked = walk::<Swept, L>(alloc, store, tree, level, steps)?;
     let layer = if store.pad().is_some() { 1000 } else { 0 };
     let mut shares = Vec::new(alloc);
-    for component in components(alloc, &labels)?.as_slice() {
+    for component in components(alloc, &walked)?.as_slice() {
         let Swept { six, area, border } = component.tally;
         shares.push(Share {
             least: component.least,

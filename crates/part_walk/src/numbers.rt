@@ -45,13 +45,13 @@ pub fn numbered<L: Ledger>(
     ensures { IfOk result (λ r. r ≡ summary_of
         (length (vertices store.now.grid (field store.now.samples level))) (triangles store.now.grid (field store.now.samples level))) }
 {
-    let labels = walk(alloc, store, tree, level, steps)?;
+    let walked = walk(alloc, store, tree, level, steps)?;
     let mut all = Counts::none();
     let mut parts = IndexMap::new(alloc);
-    for component in components(alloc, &labels)?.as_slice() {
+    for component in components(alloc, &walked)?.as_slice() {
         all.add(&component.tally);
         let part = part_of(component.least, component.crossings, &component.tally);
         parts.insert(part.least, part)?;
     }
-    Ok(Report::new(part_of(0, labels.passed, &all), parts))
+    Ok(Report::new(part_of(0, walked.passed, &all), parts))
 }

@@ -1,7 +1,7 @@
 //! The walk over the rows of cells.
 
 use crate::borders::{border_faces, steps_in};
-use crate::labels::Labels;
+use crate::labels::Walked;
 use crate::slab::Slab;
 use crate::tally::Tally;
 use case_table::CaseRow;
@@ -19,15 +19,15 @@ use stitch_rows::{ActiveRow, Field, count_along};
 #[inline(always)]
 fn add_loop<T: Tally, H: Heights>(
     field: &H,
-    labels: &mut Labels<T>,
+    walked: &mut Walked<T>,
     places: &[u32; 12],
     cell: Cell,
     faces: u8,
     edges: &[u8],
 ) -> Result<(), Memory> {
-    let label = labels.add_loop(places, 3 * cell.low.x, edges)?;
     let border = if faces == 0 { 0 } else { steps_in(&field.sizes(), cell, edges, faces) };
-    labels.labels[label as usize].tally.add_loop(field, cell, edges, border);
+    let tally = walked.add_loop(places, 3 * cell.low.x, edges)?;
+    tally.add_loop(field, cell, edges, border);
     Ok(())
 }
 
@@ -35,7 +35,7 @@ fn add_loop<T: Tally, H: Heights>(
 #[inline(always)]
 fn add_cell<T: Tally, H: Heights>(
     field: &H,
-    labels: &mut Labels<T>,
+    walked: &mut Walked<T>,
     places: &[u32; 12],
     cell: Cell,
     case: u16,
@@ -49,7 +49,7 @@ fn add_cell<T: Tally, H: Heights>(
     let faces = border_faces(&sizes, cell);
     for turn in 0..count {
         let edges = loop_edges(case, turn);
-        add_loop(field, labels, places, cell, faces, edges)?;
+        add_loop(field, walked, places, cell, faces, edges)?;
     }
     Ok(())
 }
@@ -68,7 +68,7 @@ fn have_no_loops(cases: &[u16], from: usize) -> bool {
 #[inline(always)]
 fn add_run<T: Tally>(
     field: &Field,
-    labels: &mut Labels<T>,
+    walked: &mut Walked<T>,
     places: &[u32; 12],
     start: u32,
     y: u32,
@@ -85,7 +85,7 @@ fn add_run<T: Tally>(
             index: start + x,
             low: Point { x, y, z },
         };
-        add_cell(field, labels, places, cell, cases[x as usize])?;
+        add_cell(field, walked, places, cell, cases[x as usize])?;
     }
     Ok(())
 }
@@ -94,21 +94,21 @@ fn add_run<T: Tally>(
 fn add_row<T: Tally>(
     field: &Field,
     active: &ActiveRow,
-    labels: &mut Labels<T>,
+    walked: &mut Walked<T>,
     y: u32,
     z: u32,
     cases: &[u16],
 ) -> Result<(), Memory> {
     let sizes = field.sizes();
     let row = y + sizes.ny() * z;
-    let places = labels.front.places(row);
+    let places = walked.labels.places(row);
     let start = sizes.nx() * row;
     let last = sizes.nx() - 1;
     let count = count_along(sizes.nx());
     let mut x = active.next_from(field, 0, y, z);
     while x < count {
         let end = (8 * x + 8).min(last);
-        add_run(field, labels, &places, start, y, z, 8 * x, end, cases)?;
+        add_run(field, walked, &places, start, y, z, 8 * x, end, cases)?;
         x = active.next_from(field, x + 1, y, z);
     }
     Ok(())
@@ -120,7 +120,7 @@ fn walk_row<T: Tally>(
     field: &Field,
     active: &mut ActiveRow,
     slab: &Slab,
-    labels: &mut Labels<T>,
+    walked: &mut Walked<T>,
     y: u32,
     z: u32,
 ) -> Result<(), Memory> {
@@ -130,10 +130,10 @@ fn walk_row<T: Tally>(
         return Ok(());
     }
     if y + 1 < sizes.ny() && z + 1 < sizes.nz() {
-        add_row(field, active, labels, y, z, slab.row(y, z))?;
+        add_row(field, active, walked, y, z, slab.row(y, z))?;
     }
-    let start = labels.front.row_place(y + sizes.ny() * z);
-    labels.leave_row(start, 3 * sizes.nx())
+    let start = walked.labels.row_place(y + sizes.ny() * z);
+    walked.leave_row(start, 3 * sizes.nx())
 }
 
 /// Labels the loops of all cells.
@@ -143,10 +143,10 @@ pub fn walk<T: Tally, L: Ledger>(
     tree: &SpanTree,
     level: Level,
     steps: &mut Steps<L>,
-) -> Result<Labels<T>, Memory> {
+) -> Result<Walked<T>, Memory> {
     let sizes = store.sizes();
     let field = Field::new(store, tree, level);
-    let mut labels = Labels::new(alloc, sizes)?;
+    let mut walked = Walked::new(alloc, sizes)?;
     let mut slab = Slab::new(alloc, sizes)?;
     let mut active = ActiveRow::new();
     for z in 0..sizes.nz() {
@@ -154,8 +154,8 @@ pub fn walk<T: Tally, L: Ledger>(
             slab.put_layer(store, &field, level, z, steps);
         }
         for y in 0..sizes.ny() {
-            walk_row(&field, &mut active, &slab, &mut labels, y, z)?;
+            walk_row(&field, &mut active, &slab, &mut walked, y, z)?;
         }
     }
-    Ok(labels)
+    Ok(walked)
 }
