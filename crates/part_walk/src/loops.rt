@@ -16,7 +16,10 @@ pub struct Component<T> {
 }
 
 /// The components in the order of their least vertices.
-pub fn components<T: Tally>(alloc: Global, walked: &Walked<T>) -> Result<Vec<Component<T>>, Memory> {
+pub fn components<T: Tally>(
+    alloc: Global,
+    walked: &Walked<T>,
+) -> Result<Vec<Component<T>>, Memory> {
     let count = walked.known.len();
     let joined = least_joined(alloc, count as u32, walked.labels.pairs())?;
     let mut places = vec![in alloc; NONE; count]?;

@@ -8,12 +8,12 @@ use crate::loops::components;
 use crate::positions::{cell_position, local_position};
 use crate::tally::Tally;
 use crate::walk::walk;
+use brick_store::BrickStore;
 use edge_points::rounded_mean;
 use flat_mesh::{Cell, Heights};
-use brick_store::BrickStore;
 use iso_base::{Level, Memory, Steps};
-use span_tree::SpanTree;
 use measure::{Measures, Share};
+use span_tree::SpanTree;
 use std::alloc::Global;
 use std::sync::ledger::Ledger;
 

@@ -9,11 +9,11 @@ ghost use Rattle.span_tree.specs.Spans.{IsRightFor};
 use crate::loops::{Component, components};
 use crate::tally::{Counts, Tally};
 use crate::walk::walk;
-use indexmap::IndexMap;
 use brick_store::BrickStore;
+use indexmap::IndexMap;
 use iso_base::{Level, Memory, Steps};
-use span_tree::SpanTree;
 use mesh_report::{Part, Report};
+use span_tree::SpanTree;
 use std::alloc::Global;
 use std::sync::ledger::Ledger;
 

@@ -88,7 +88,14 @@ impl Slab {
         let mut entries = ArrayVec::new();
         let mut brick = field.next_active(first);
         while brick < first + count {
-            self.put_brick(store, level, BrickId(brick), brick - first, &mut entries, steps);
+            self.put_brick(
+                store,
+                level,
+                BrickId(brick),
+                brick - first,
+                &mut entries,
+                steps,
+            );
             brick = field.next_active(brick + 1);
         }
     }

@@ -4,10 +4,10 @@ use crate::borders::{border_faces, steps_in};
 use crate::labels::Walked;
 use crate::slab::Slab;
 use crate::tally::Tally;
+use brick_store::BrickStore;
 use case_table::CaseRow;
 use cell_loops::{loop_count, loop_edges};
 use flat_mesh::{Cell, Heights};
-use brick_store::BrickStore;
 use iso_base::{Level, Memory, Point, Steps};
 use span_tree::SpanTree;
 use std::alloc::Global;
@@ -25,7 +25,11 @@ fn add_loop<T: Tally, H: Heights>(
     faces: u8,
     edges: &[u8],
 ) -> Result<(), Memory> {
-    let border = if faces == 0 { 0 } else { steps_in(&field.sizes(), cell, edges, faces) };
+    let border = if faces == 0 {
+        0
+    } else {
+        steps_in(&field.sizes(), cell, edges, faces)
+    };
     let tally = walked.add_loop(places, 3 * cell.low.x, edges)?;
     tally.add_loop(field, cell, edges, border);
     Ok(())
