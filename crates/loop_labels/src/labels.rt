@@ -1,0 +1,130 @@
+//! Labels of loops, and which of them meet.
+
+ghost use Rattle.std.specs.Prelude.{◌≡◌, ℕ, ◌+◌, ◌<◌, ◌≤◌, IfOk, OnOk, [], length, slice_index};
+ghost use Rattle.part_laws.specs.Meets.{least_joined};
+ghost use Rattle.label_joins.specs.Chains.{ArePaired};
+ghost use Rattle.loop_labels.specs.Fronts.{none, room};
+ghost use Rattle.loop_labels.specs.Labelling.{Adds, AreMet, IsOneOf};
+
+use crate::front::Front;
+use iso_base::{Memory, Sizes};
+use std::alloc::Global;
+use std::marker::Model;
+
+/// Where so many pairs or labels are there, no more are made, since the place of each is a number of 32 bits. It takes 30 gigabytes to come
+/// there.
+const MOST: usize = 4_294_967_292;
+
+/// Labels of loops, and the pairs of them that met, each in both orders. For each label the lesser one is kept that it was noted with last, so
+/// that a pair is not noted again and again where two labels run side by side.
+#[derive(Drop)]
+pub struct Labels {
+    front: Front,
+    met: Vec<u32>,
+    pairs: Vec<(u32, u32)>,
+}
+
+impl Model for Labels {
+    ghost use Rattle.std.specs.Prelude.{length};
+    ghost use Rattle.label_joins.specs.Chains.{ArePaired};
+ghost use Rattle.loop_labels.specs.Fronts.{none, room};
+ghost use Rattle.loop_labels.specs.Labelling.{AreKnown, AreMet, Known};
+
+    ghost Value = { Known };
+
+    ghost view = { λ l. record { marks = l.front; count = length l.met.items; pairs = l.pairs.items } };
+
+    ghost invariant = { λ l. AreMet l.pairs.items l.met.items × AreKnown l.front (length l.met.items) };
+}
+
+/// Notes a pair of labels that meet, the lesser first, unless the greater one was noted with the lesser one last.
+fn note(
+    met: &mut Vec<u32>,
+    pairs: &mut Vec<(u32, u32)>,
+    low: u32,
+    high: u32,
+) -> Result<(), Memory>
+    requires known { AreMet pairs.old.items met.old.items }
+    requires low { low < length met.old.items }
+    requires high { high < length met.old.items }
+    ensures known { AreMet pairs.new.items met.new.items }
+    ensures count { length met.new.items ≡ length met.old.items }
+    ensures pairs { OnOk result (Adds (IsOneOf low high) pairs.old.items pairs.new.items) }
+    ensures joined { OnOk result (least_joined pairs.new.items low ≡ least_joined pairs.new.items high) }
+{
+    if met[high as usize] == low {
+        return Ok(());
+    }
+    if pairs.len() > MOST {
+        return Err(Memory);
+    }
+    pairs.extend_from_slice(&[(low, high), (high, low)])?;
+    met[high as usize] = low;
+    Ok(())
+}
+
+impl Labels {
+    /// No loop has a label.
+    pub fn new(alloc: Global, sizes: Sizes) -> Result<Labels, Memory>
+        ensures grid { IfOk result (λ l. l.marks.grid ≡ sizes) }
+        ensures none { IfOk result (λ l. (k : ℕ) → k < room sizes → slice_index l.marks.labels k ≡ none) }
+        ensures count { IfOk result (λ l. l.count ≡ 0) }
+        ensures pairs { IfOk result (λ l. l.pairs ≡ []) }
+    {
+        let front = Front::new(alloc, sizes)?;
+        Ok(Labels {
+            front,
+            met: Vec::new(alloc),
+            pairs: Vec::new(alloc),
+        })
+    }
+
+    /// How many labels there are.
+    pub fn count(&self) -> u32
+        ensures { result ≡ self.now.count }
+    {
+        self.met.len() as u32
+    }
+
+    /// The pairs of labels that met, each in both orders.
+    pub fn pairs(&self) -> &[(u32, u32)]
+        ensures value { result.now ≡ self.now.pairs }
+        ensures few { length result.now < 4294967296 }
+        ensures paired { ArePaired self.now.count result.now }
+    {
+        &self.pairs
+    }
+
+    /// A new label.
+    fn start(&mut self) -> Result<u32, Memory>
+        ensures marks { OnOk result (self.new.marks ≡ self.old.marks) }
+        ensures count { OnOk result (self.new.count ≡ self.old.count + 1) }
+        ensures pairs { OnOk result (self.new.pairs ≡ self.old.pairs) }
+        ensures value { IfOk result (λ label. label ≡ self.old.count) }
+    {
+        if self.met.len() > MOST {
+            return Err(Memory);
+        }
+        let label = self.met.len() as u32;
+        self.met.push(label)?;
+        Ok(label)
+    }
+
+    /// Which of two labels that meet the loop goes on with: the lesser one.
+    fn meet(&mut self, a: u32, b: u32) -> Result<u32, Memory>
+        requires a { a < self.old.count }
+        requires b { b < self.old.count }
+        ensures marks { OnOk result (self.new.marks ≡ self.old.marks) }
+        ensures count { OnOk result (self.new.count ≡ self.old.count) }
+        ensures pairs { OnOk result (Adds (IsOneOf a b) self.old.pairs self.new.pairs) }
+        ensures joined { OnOk result (least_joined self.new.pairs a ≡ least_joined self.new.pairs b) }
+        ensures value { IfOk result (IsOneOf a b) }
+    {
+        if a < b {
+            note(&mut self.met, &mut self.pairs, a, b)?;
+            return Ok(a);
+        }
+        note(&mut self.met, &mut self.pairs, b, a)?;
+        Ok(b)
+    }
+}

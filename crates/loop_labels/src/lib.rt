@@ -1,0 +1,8 @@
+//! Loops get labels row by row, and the labels that meet are noted: of the lattice edges only those of two slices have their labels at hand.
+#![tactic(auto)]
+
+mod front;
+mod labels;
+
+pub use front::{Front, NONE};
+pub use labels::Labels;
