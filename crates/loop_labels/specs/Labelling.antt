@@ -1,5 +1,5 @@
 -- Labels of loops, and which of them met.
-use Rattle.std.specs.Prelude.{◌≡◌, ◌≢◌, ◌⊎◌, ℕ, ◌<◌, ◌≤◌, List, ◌++◌, length, slice_index}
+use Rattle.std.specs.Prelude.{◌≡◌, ◌≢◌, ◌⊎◌, ℕ, ◌+◌, ◌<◌, ◌≤◌, List, ◌++◌, length, slice_index}
 use Rattle.std.specs.List.{AllByRecursion}
 use Rattle.part_laws.specs.Meets.{least_joined}
 use Rattle.label_joins.specs.Chains.{ArePaired}
@@ -33,3 +33,32 @@ pub record Adds (P : ℕ → Type 0) (ps ps' : List (ℕ × ℕ)) : Type 0 where
 -- one of two
 abbrev pub IsOneOf : ℕ → ℕ → ℕ → Type 0
 IsOneOf a b c = (c ≡ a) ⊎ (c ≡ b)
+
+-- the label stands at one of the first n edges of a loop
+pub record Stands (stand : ℕ → ℕ) (n c : ℕ) : Type 0 where
+  pub at : ℕ
+  pub inside : at < n
+  pub is : stand at ≡ c
+  pub some : c ≢ none
+
+-- where the label of the i-th edge of a loop stands
+abbrev pub stand_of : Marks → List ℕ → ℕ → List ℕ → ℕ → ℕ
+stand_of marks places shift edges i = slice_index marks.labels (slice_index places (slice_index edges i) + shift)
+
+-- a label for the first n edges of a loop, or none where none of them has one: pairs join it with theirs
+pub record IsSoFar (base now : Known) (stand : ℕ → ℕ) (n label : ℕ) : Type 0 where
+  pub marks : now.marks ≡ base.marks
+  pub count : now.count ≡ base.count
+  pub pairs : Adds (Stands stand n) base.pairs now.pairs
+  pub joined : (i : ℕ) → i < n → stand i ≢ none → least_joined now.pairs (stand i) ≡ least_joined now.pairs label
+  pub no_own : label ≡ none → (i : ℕ) → i < n → stand i ≡ none
+  pub own : label ≢ none → Stands stand n label
+
+-- a label for a loop of n edges: one that they have, or a new one
+pub record IsLabelFor (base now : Known) (stand : ℕ → ℕ) (n label : ℕ) : Type 0 where
+  pub marks : now.marks ≡ base.marks
+  pub count : base.count ≤ now.count
+  pub low : label < now.count
+  pub pairs : Adds (Stands stand n) base.pairs now.pairs
+  pub joined : (i : ℕ) → i < n → stand i ≢ none → least_joined now.pairs (stand i) ≡ least_joined now.pairs label
+  pub own : Stands stand n label ⊎ (((i : ℕ) → i < n → stand i ≡ none) × (label ≡ base.count))

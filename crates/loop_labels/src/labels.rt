@@ -1,12 +1,12 @@
 //! Labels of loops, and which of them meet.
 
-ghost use Rattle.std.specs.Prelude.{◌≡◌, ℕ, ◌+◌, ◌<◌, ◌≤◌, IfOk, OnOk, [], length, slice_index};
+ghost use Rattle.std.specs.Prelude.{◌≡◌, ◌≢◌, ℕ, ◌+◌, ◌<◌, ◌≤◌, All, IfOk, OnOk, [], length, slice_index};
 ghost use Rattle.part_laws.specs.Meets.{least_joined};
 ghost use Rattle.label_joins.specs.Chains.{ArePaired};
 ghost use Rattle.loop_labels.specs.Fronts.{none, room};
-ghost use Rattle.loop_labels.specs.Labelling.{Adds, AreMet, IsOneOf};
+ghost use Rattle.loop_labels.specs.Labelling.{Adds, AreMet, IsLabelFor, IsOneOf, IsSoFar, Known, stand_of};
 
-use crate::front::Front;
+use crate::front::{Front, NONE};
 use iso_base::{Memory, Sizes};
 use std::alloc::Global;
 use std::marker::Model;
@@ -126,5 +126,52 @@ impl Labels {
         }
         note(&mut self.met, &mut self.pairs, b, a)?;
         Ok(b)
+    }
+
+    /// The label that a loop goes on with behind an edge that has this one, or none.
+    #[inline(always)]
+    fn go_on(&mut self, label: u32, other: u32) -> Result<u32, Memory>
+        requires label { label ≢ none → label < self.old.count }
+        requires other { other ≢ none → other < self.old.count }
+        ensures low { IfOk result (λ next. next ≢ none → next < self.new.count) }
+        ensures so_far { IfOk result (λ next. (base : Known) (stand : ℕ → ℕ) (n : ℕ) → IsSoFar base self.old stand n label → stand n ≡ other → IsSoFar base self.new stand (n + 1) next) }
+    {
+        if other == NONE || other == label {
+            return Ok(label);
+        }
+        if label == NONE {
+            return Ok(other);
+        }
+        let next = self.meet(label, other)?;
+        Ok(next)
+    }
+
+    /// The label at a place.
+    #[inline(always)]
+    fn label_at(&self, place: u32) -> u32
+        requires { place < room self.now.marks.grid }
+        ensures value { result ≡ slice_index self.now.marks.labels place }
+        ensures low { result ≢ none → result < self.now.count }
+    {
+        self.front.label(place)
+    }
+
+    /// The label that a loop gets whose edges have their labels at some places: one that they have, else a new one.
+    fn label_of(&mut self, places: &[u32; 12], shift: u32, edges: &[u8]) -> Result<u32, Memory>
+        requires edges { All (λ e. e < 12) edges.now }
+        requires inside { (e : ℕ) → e < 12 → slice_index places.now e + shift < room self.old.marks.grid }
+        requires fits { (e : ℕ) → e < 12 → slice_index places.now e + shift < 4294967296 }
+        ensures { IfOk result (λ label. IsLabelFor self.old self.new (stand_of self.old.marks places.now shift edges.now) (length edges.now) label) }
+    {
+        let mut label = NONE;
+        for edge in edges {
+            let other = self.label_at(places[*edge as usize] + shift);
+            label = self.go_on(label, other)?;
+        }
+        if label == NONE {
+            let new = self.start()?;
+            return Ok(new);
+        }
+        Ok(label)
     }
 }
