@@ -22,3 +22,7 @@ row_name g row = 3 * (g.nx * row)
 -- the labels of the edges of two slices, from a row on
 pub record AreLabels (g : Grid) (row : ℕ) (label : ℕ → ℕ) (labels : List ℕ) : Type 0 where
   pub each : (n : ℕ) → row_name g row ≤ n → n < row_name g row + room g → slice_index labels (n % room g) ≡ label n
+
+-- where the label of the i-th edge of a loop stands, by the places of the edges of a cell
+abbrev pub slot_of : List ℕ → ℕ → List ℕ → ℕ → ℕ
+slot_of places shift edges i = slice_index places (slice_index edges i) + shift

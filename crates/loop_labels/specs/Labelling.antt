@@ -3,7 +3,7 @@ use Rattle.std.specs.Prelude.{◌≡◌, ◌≢◌, ◌⊎◌, ℕ, ◌+◌, ◌
 use Rattle.std.specs.List.{AllByRecursion}
 use Rattle.part_laws.specs.Meets.{least_joined}
 use Rattle.label_joins.specs.Chains.{ArePaired}
-use Rattle.loop_labels.specs.Fronts.{Marks, none, room}
+use Rattle.loop_labels.specs.Fronts.{Marks, none, room, slot_of}
 
 -- the labels that stand, how many there are, and the pairs of them that met, each in both orders
 pub record Known : Type 0 where
@@ -43,7 +43,7 @@ pub record Stands (stand : ℕ → ℕ) (n c : ℕ) : Type 0 where
 
 -- where the label of the i-th edge of a loop stands
 abbrev pub stand_of : Marks → List ℕ → ℕ → List ℕ → ℕ → ℕ
-stand_of marks places shift edges i = slice_index marks.labels (slice_index places (slice_index edges i) + shift)
+stand_of marks places shift edges i = slice_index marks.labels (slot_of places shift edges i)
 
 -- a label for the first n edges of a loop, or none where none of them has one: pairs join it with theirs
 pub record IsSoFar (base now : Known) (stand : ℕ → ℕ) (n label : ℕ) : Type 0 where
@@ -62,3 +62,14 @@ pub record IsLabelFor (base now : Known) (stand : ℕ → ℕ) (n label : ℕ) :
   pub pairs : Adds (Stands stand n) base.pairs now.pairs
   pub joined : (i : ℕ) → i < n → stand i ≢ none → least_joined now.pairs (stand i) ≡ least_joined now.pairs label
   pub own : Stands stand n label ⊎ (((i : ℕ) → i < n → stand i ≡ none) × (label ≡ base.count))
+
+-- A loop got a label: it is a label for the loop, and stands at the loop's edges from now on. All others stand as before.
+pub record IsAdded (old new : Known) (slot : ℕ → ℕ) (n label : ℕ) : Type 0 where
+  pub grid : new.marks.grid ≡ old.marks.grid
+  pub count : old.count ≤ new.count
+  pub low : label < new.count
+  pub pairs : Adds (Stands (λ i. slice_index old.marks.labels (slot i)) n) old.pairs new.pairs
+  pub joined : (i : ℕ) → i < n → slice_index old.marks.labels (slot i) ≢ none → least_joined new.pairs (slice_index old.marks.labels (slot i)) ≡ least_joined new.pairs label
+  pub own : Stands (λ i. slice_index old.marks.labels (slot i)) n label ⊎ (((i : ℕ) → i < n → slice_index old.marks.labels (slot i) ≡ none) × (label ≡ old.count))
+  pub set : (i : ℕ) → i < n → slice_index new.marks.labels (slot i) ≡ label
+  pub others : (k : ℕ) → ((i : ℕ) → i < n → slot i ≢ k) → slice_index new.marks.labels k ≡ slice_index old.marks.labels k

@@ -1,8 +1,8 @@
 //! The labels of the lattice edges round the row of cells at hand.
 
-ghost use Rattle.std.specs.Prelude.{◌≡◌, ℕ, ◌+◌, ◌*◌, ◌%◌, ◌<◌, ◌≤◌, IfOk, IsTrue, if◌then◌else◌, length, slice_index, slice_set};
+ghost use Rattle.std.specs.Prelude.{◌≡◌, ◌≢◌, ◌⊎◌, ℕ, ◌+◌, ◌*◌, ◌%◌, ◌<◌, ◌≤◌, All, IfOk, IsTrue, length, slice_index, slice_set};
 ghost use Rattle.iso_defs.specs.Cell.{cell_edge};
-ghost use Rattle.loop_labels.specs.Fronts.{none, room, row_name};
+ghost use Rattle.loop_labels.specs.Fronts.{none, room, row_name, slot_of};
 
 use iso_base::{Memory, Sizes};
 use std::alloc::Global;
@@ -120,5 +120,22 @@ impl Front {
         ensures { IsTrue result → (k : ℕ) → k < 8 → slice_index self.now.labels (place + k) ≡ none }
     {
         are_none(&self.labels, place as usize)
+    }
+}
+
+/// Gives the edges of a loop a label, which have their labels at some places.
+pub(crate) fn set_all(front: &mut Front, places: &[u32; 12], shift: u32, edges: &[u8], label: u32)
+    requires edges { All (λ e. e < 12) edges.now }
+    requires inside { (e : ℕ) → e < 12 → slice_index places.now e + shift < room front.old.grid }
+    requires fits { (e : ℕ) → e < 12 → slice_index places.now e + shift < 4294967296 }
+    ensures grid { front.new.grid ≡ front.old.grid }
+    ensures size { length front.new.labels ≡ room front.new.grid }
+    ensures set { (i : ℕ) → i < length edges.now → slice_index front.new.labels (slot_of places.now shift edges.now i) ≡ label }
+    ensures others { (k : ℕ) → ((i : ℕ) → i < length edges.now → slot_of places.now shift edges.now i ≢ k) → slice_index front.new.labels k ≡ slice_index front.old.labels k }
+    ensures either { (k : ℕ) → (slice_index front.new.labels k ≡ label) ⊎ (slice_index front.new.labels k ≡ slice_index front.old.labels k) }
+{
+    let _ = front.sizes();
+    for edge in edges {
+        front.set(places[*edge as usize] + shift, label);
     }
 }

@@ -3,10 +3,10 @@
 ghost use Rattle.std.specs.Prelude.{◌≡◌, ◌≢◌, ℕ, ◌+◌, ◌<◌, ◌≤◌, All, IfOk, OnOk, [], length, slice_index};
 ghost use Rattle.part_laws.specs.Meets.{least_joined};
 ghost use Rattle.label_joins.specs.Chains.{ArePaired};
-ghost use Rattle.loop_labels.specs.Fronts.{none, room};
-ghost use Rattle.loop_labels.specs.Labelling.{Adds, AreMet, IsLabelFor, IsOneOf, IsSoFar, Known, stand_of};
+ghost use Rattle.loop_labels.specs.Fronts.{none, room, slot_of};
+ghost use Rattle.loop_labels.specs.Labelling.{Adds, AreMet, IsAdded, IsLabelFor, IsOneOf, IsSoFar, Known, stand_of};
 
-use crate::front::{Front, NONE};
+use crate::front::{Front, NONE, set_all};
 use iso_base::{Memory, Sizes};
 use std::alloc::Global;
 use std::marker::Model;
@@ -27,7 +27,7 @@ pub struct Labels {
 impl Model for Labels {
     ghost use Rattle.std.specs.Prelude.{length};
     ghost use Rattle.label_joins.specs.Chains.{ArePaired};
-ghost use Rattle.loop_labels.specs.Fronts.{none, room};
+ghost use Rattle.loop_labels.specs.Fronts.{none, room, slot_of};
 ghost use Rattle.loop_labels.specs.Labelling.{AreKnown, AreMet, Known};
 
     ghost Value = { Known };
@@ -172,6 +172,18 @@ impl Labels {
             let new = self.start()?;
             return Ok(new);
         }
+        Ok(label)
+    }
+
+    /// Gives a loop a label whose edges have their labels at some places: the loop's edges have it from then on.
+    pub fn add_loop(&mut self, places: &[u32; 12], shift: u32, edges: &[u8]) -> Result<u32, Memory>
+        requires edges { All (λ e. e < 12) edges.now }
+        requires inside { (e : ℕ) → e < 12 → slice_index places.now e + shift < room self.old.marks.grid }
+        requires fits { (e : ℕ) → e < 12 → slice_index places.now e + shift < 4294967296 }
+        ensures { IfOk result (λ label. IsAdded self.old self.new (slot_of places.now shift edges.now) (length edges.now) label) }
+    {
+        let label = self.label_of(places, shift, edges)?;
+        set_all(&mut self.front, places, shift, edges, label);
         Ok(label)
     }
 }

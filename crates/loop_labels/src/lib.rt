@@ -3,6 +3,8 @@
 
 mod front;
 mod labels;
+mod laws;
 
 pub use front::{Front, NONE};
 pub use labels::Labels;
+pub use laws::loop_is_labelled;
