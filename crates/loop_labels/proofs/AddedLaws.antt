@@ -1,8 +1,8 @@
 -- A loop that got a label, by the names of its vertices.
-use Rattle.std.proofs.Common.{◌≡◌, ◌≢◌, ◌⊎◌, ℕ, zero, suc, ◌+◌, ◌*◌, ◌/◌, ◌%◌, ◌<◌, ◌≤◌, Bool, true, false, ◌||◌, cond, List, [], ◌∷◌, ◌++◌, length, slice_index, get_or, refl, sym, ap, ◌∙◌, subst, inl, inr, arith}
+use Rattle.std.proofs.Common.{◌≡◌, ◌≢◌, ◌⊎◌, ℕ, zero, suc, ◌+◌, ◌-◌, ◌*◌, ◌/◌, ◌%◌, ◌<◌, ◌≤◌, Bool, true, false, ◌||◌, cond, List, [], ◌∷◌, ◌++◌, length, slice_index, get_or, refl, sym, ap, ◌∙◌, subst, inl, inr, arith}
 use Rattle.std.specs.List.{AllByRecursion}
 use Rattle.std.proofs.lemmas.Bool.{both_ways, cases_Bool, cases_eq, cases_lt, false_from_ne_true}
-use Rattle.std.proofs.Math.Nat.{mod-add-div, mul-add, mul-le-mul_left}
+use Rattle.std.proofs.Math.Nat.{mod-add-div, mul-add, mul-add-mod_self_left, mul-le-mul_left}
 use Rattle.iso_defs.specs.Grid.{Grid}
 use Rattle.iso_defs.specs.Lists.{is_in}
 use Rattle.verdict_laws.proofs.Lists.{In}
@@ -144,4 +144,35 @@ module _ (g : Grid) (row : ℕ) (xs : List (ℕ × Loop)) (label : ℕ → ℕ) 
                 let same : slice_index l.1 i ≡ v = one_in_window (room g) (row_name g row) (slice_index l.1 i) v r.0 r.1 lo hi (sym (at i k) ∙ q) in
                 both_ways (is_in v l.1) e (is_in_from v l.1 (subst (λ z. In z l.1) same w))))
                 ∙ (h.standing.each v lo hi ∙ ap (λ b. cond b a (label v)) (sym e))
+          ]
+
+-- the labels of a row are given up: those of the next row and the slices behind it stand
+module _ (g : Grid) (row : ℕ) (xs : List (ℕ × Loop)) (label : ℕ → ℕ) (old new : Known) (h : IsLabelled g row xs label old) (grid : new.marks.grid ≡ old.marks.grid)
+    (count : new.count ≡ old.count) (pairs : new.pairs ≡ old.pairs) (cleared : (k : ℕ) → k < 3 * g.nx → slice_index new.marks.labels ((row_name g row + k) % room g) ≡ none)
+    (others : (n : ℕ) → row_name g (row + 1) ≤ n → n < row_name g row + room g → slice_index new.marks.labels (n % room g) ≡ slice_index old.marks.labels (n % room g))
+    (beyond : (n : ℕ) → row_name g row + room g ≤ n → is_met xs n ≡ false) where
+  next_row : row_name g (row + 1) ≡ row_name g row + 3 * g.nx
+  next_row = (let e : g.nx * (row + 1) ≡ g.nx * row + g.nx * 1 = mul-add g.nx row 1 in omega arith)
+
+  pub row_left : IsLabelled g (row + 1) xs label new
+  row_left = record {
+    grid = grid ∙ h.grid;
+    standing = record { each = each };
+    met = λ v m. omega (arith, h.met v m, count);
+    unmet = h.unmet;
+    few = omega (arith, h.few, count);
+    low = subst (λ n. AllByRecursion (λ (x : ℕ × Loop). x.0 < n) xs) (sym count) h.low;
+    paired = subst (λ n. ArePaired n new.pairs) (sym count) (subst (ArePaired old.count) (sym pairs) h.paired);
+    labelling = subst (λ ps. IsLabelling xs ps label) (sym pairs) h.labelling;
+  }
+    where
+      each : (n : ℕ) → row_name g (row + 1) ≤ n → n < row_name g (row + 1) + room g → slice_index new.marks.labels (n % room g) ≡ label n
+      each n lo hi =
+          elim (cases_lt n (row_name g row + room g)) [
+            | inl l ↦ others n lo l ∙ h.standing.each n (omega (arith, next_row)) l
+            | inr l ↦ (
+                let k : ℕ = n - (row_name g row + room g) in
+                let low : k < 3 * g.nx = omega (arith, next_row) in
+                let e : n ≡ room g * 1 + (row_name g row + k) = omega arith in
+                ap (λ z. slice_index new.marks.labels (z % room g)) e ∙ (ap (slice_index new.marks.labels) (mul-add-mod_self_left (room g) 1 (row_name g row + k)) ∙ (cleared k low ∙ sym (h.unmet n (beyond n l)))))
           ]

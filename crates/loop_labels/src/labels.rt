@@ -1,9 +1,10 @@
 //! Labels of loops, and which of them meet.
 
-ghost use Rattle.std.specs.Prelude.{◌≡◌, ◌≢◌, ℕ, ◌+◌, ◌<◌, ◌≤◌, All, IfOk, OnOk, [], length, slice_index};
+ghost use Rattle.std.specs.Prelude.{◌≡◌, ◌≢◌, ℕ, ◌+◌, ◌*◌, ◌%◌, ◌<◌, ◌≤◌, All, IfOk, IsTrue, OnOk, [], length, slice_index, slice_set};
+ghost use Rattle.iso_defs.specs.Cell.{cell_edge};
 ghost use Rattle.part_laws.specs.Meets.{least_joined};
 ghost use Rattle.label_joins.specs.Chains.{ArePaired};
-ghost use Rattle.loop_labels.specs.Fronts.{none, room, slot_of};
+ghost use Rattle.loop_labels.specs.Fronts.{none, room, row_name, slot_of};
 ghost use Rattle.loop_labels.specs.Labelling.{Adds, AreMet, IsAdded, IsLabelFor, IsOneOf, IsSoFar, Known, stand_of};
 
 use crate::front::{Front, NONE, set_all};
@@ -27,7 +28,7 @@ pub struct Labels {
 impl Model for Labels {
     ghost use Rattle.std.specs.Prelude.{length};
     ghost use Rattle.label_joins.specs.Chains.{ArePaired};
-ghost use Rattle.loop_labels.specs.Fronts.{none, room, slot_of};
+ghost use Rattle.loop_labels.specs.Fronts.{none, room, row_name, slot_of};
 ghost use Rattle.loop_labels.specs.Labelling.{AreKnown, AreMet, Known};
 
     ghost Value = { Known };
@@ -185,5 +186,47 @@ impl Labels {
         let label = self.label_of(places, shift, edges)?;
         set_all(&mut self.front, places, shift, edges, label);
         Ok(label)
+    }
+
+    /// Where the labels of the edges of the first cell of a row stand.
+    pub fn places(&self, row: u32) -> [u32; 12]
+        requires { row < 1026 * 1026 }
+        ensures { (e x : ℕ) → e < 12 → x + 1 < self.now.marks.grid.nx →
+            slice_index result e + 3 * x ≡ cell_edge self.now.marks.grid (self.now.marks.grid.nx * row + x) e % room self.now.marks.grid }
+    {
+        self.front.places(row)
+    }
+
+    /// Where the labels of the edges stand that begin in a row of points.
+    pub fn row_place(&self, row: u32) -> u32
+        ensures value { result ≡ row_name self.now.marks.grid row % room self.now.marks.grid }
+        ensures bound { result + 3 * self.now.marks.grid.nx ≤ room self.now.marks.grid }
+    {
+        self.front.row_place(row)
+    }
+
+    /// Whether none of the eight edges from a place on has a label.
+    #[inline(always)]
+    pub fn eight_have_none(&self, place: u32) -> bool
+        requires { place + 8 ≤ room self.now.marks.grid }
+        ensures { IsTrue result → (k : ℕ) → k < 8 → slice_index self.now.marks.labels (place + k) ≡ none }
+    {
+        self.front.eight_have_none(place)
+    }
+
+    /// The label at a place, which is given up.
+    #[inline(always)]
+    pub fn leave(&mut self, place: u32) -> u32
+        requires { place < room self.old.marks.grid }
+        ensures label { result ≡ slice_index self.old.marks.labels place }
+        ensures low { result ≢ none → result < self.old.count }
+        ensures grid { self.new.marks.grid ≡ self.old.marks.grid }
+        ensures labels { self.new.marks.labels ≡ slice_set self.old.marks.labels place none }
+        ensures count { self.new.count ≡ self.old.count }
+        ensures pairs { self.new.pairs ≡ self.old.pairs }
+    {
+        let label = self.front.label(place);
+        self.front.set(place, NONE);
+        label
     }
 }

@@ -7,4 +7,4 @@ mod laws;
 
 pub use front::{Front, NONE};
 pub use labels::Labels;
-pub use laws::loop_is_labelled;
+pub use laws::{loop_is_labelled, row_is_left};
