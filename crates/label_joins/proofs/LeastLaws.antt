@@ -1,5 +1,5 @@
 -- At the end of the walk the starts are the least joined labels.
-use Rattle.std.proofs.Common.{◌≡◌, ◌≢◌, ℕ, zero, suc, ◌+◌, ◌<◌, ◌≤◌, List, [], ◌∷◌, cond, length, map, get_or, ltb, refl, sym, ap, ◌∙◌, subst, inl, inr, arith}
+use Rattle.std.proofs.Common.{◌≡◌, ℕ, zero, suc, ◌<◌, ◌≤◌, List, [], ◌∷◌, cond, length, map, get_or, ltb, refl, sym, ap, ◌∙◌, subst, inl, inr, arith}
 use Rattle.std.proofs.lemmas.Bool.{cases_lt, lt-ltb, le-ltb}
 use Rattle.verdict_laws.proofs.Lists.{In, In-map}
 use Rattle.part_laws.specs.Loops.{Loop}
@@ -7,7 +7,7 @@ use Rattle.part_laws.specs.Classes.{class_of}
 use Rattle.part_laws.specs.Meets.{least_joined, pair_loop}
 use Rattle.part_laws.proofs.ClassLaws.{class_told, one_class}
 use Rattle.label_joins.specs.Chains.{ArePaired, begins_at, ends_at}
-use Rattle.label_joins.specs.Walks.{AreClosed, IsClosedAt, IsLeast, IsSpread, none}
+use Rattle.label_joins.specs.Walks.{AreClosed, IsLeast, IsSpread}
 use Rattle.label_joins.proofs.WalkLaws.{seen_closed}
 
 pub place_of : (p : ℕ × ℕ) (ps : List (ℕ × ℕ)) → In p ps → (i : ℕ) × (i < length ps) × (get_or ps i (0, 0) ≡ p)

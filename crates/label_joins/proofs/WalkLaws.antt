@@ -1,13 +1,13 @@
 -- What a step of the walk keeps.
-use Rattle.std.proofs.Common.{◌≡◌, ◌≢◌, ℕ, ◌+◌, ◌<◌, ◌≤◌, List, [], ◌∷◌, ◌++◌, cond, length, get_or, set, eqb, true, false, refl, sym, ap, ◌∙◌, subst, inl, inr, arith, length-append}
-use Rattle.std.proofs.lemmas.Bool.{cases_eq, cases_lt, eq-eqb, ne_eqb}
+use Rattle.std.proofs.Common.{◌≡◌, ◌≢◌, ℕ, ◌+◌, ◌<◌, ◌≤◌, List, [], ◌∷◌, ◌++◌, cond, length, get_or, set, eqb, refl, sym, ap, ◌∙◌, subst, inl, inr, arith, length-append}
+use Rattle.std.proofs.lemmas.Bool.{cases_eq, cases_lt, ne_eqb}
 use Rattle.std.proofs.lemmas.List.{get_or-set_same, get_or-set_other, length-set}
 use Rattle.std.proofs.Math.ListN.{get_or-append}
 use Rattle.std.proofs.Math.Seq.{get_or-append_seam}
 use Rattle.std.proofs.lemmas.List.Sums.{sum_by-set}
 use Rattle.part_laws.specs.Meets.{least_joined}
 use Rattle.label_joins.specs.Chains.{ArePaired, begins_at, ends_at}
-use Rattle.label_joins.specs.Walks.{AreClosed, IsClosedAt, IsLeast, IsSpread, Keeps, none, unseen}
+use Rattle.label_joins.specs.Walks.{AreClosed, IsClosedAt, IsSpread, Keeps, none, unseen}
 
 pub keeps_itself : (s : ℕ) (least queue : List ℕ) → Keeps s least queue least queue
 keeps_itself s least queue = record {

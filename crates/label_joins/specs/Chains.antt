@@ -1,5 +1,5 @@
 -- Pairs of labels, chained by the label where they begin.
-use Rattle.std.specs.Prelude.{◌≡◌, ◌≢◌, ℕ, ◌+◌, ◌-◌, ◌<◌, ◌≤◌, List, length, slice_index, slice_index_or}
+use Rattle.std.specs.Prelude.{◌≡◌, ◌≢◌, ℕ, ◌-◌, ◌<◌, ◌≤◌, List, length, slice_index, slice_index_or}
 
 -- where a pair begins, and where it ends
 abbrev pub begins_at : List (ℕ × ℕ) → ℕ → ℕ

@@ -1,7 +1,7 @@
 -- A loop that got a label, by the names of its vertices.
-use Rattle.std.proofs.Common.{◌≡◌, ◌≢◌, ◌⊎◌, ℕ, zero, suc, ◌+◌, ◌-◌, ◌*◌, ◌/◌, ◌%◌, ◌<◌, ◌≤◌, Bool, true, false, ◌||◌, cond, List, [], ◌∷◌, ◌++◌, length, slice_index, get_or, refl, sym, ap, ◌∙◌, subst, inl, inr, arith}
+use Rattle.std.proofs.Common.{◌≡◌, ◌≢◌, ℕ, zero, suc, ◌+◌, ◌-◌, ◌*◌, ◌/◌, ◌%◌, ◌<◌, ◌≤◌, Bool, true, false, ◌||◌, cond, List, [], ◌∷◌, ◌++◌, length, slice_index, get_or, refl, sym, ap, ◌∙◌, subst, inl, inr, arith}
 use Rattle.std.specs.List.{AllByRecursion}
-use Rattle.std.proofs.lemmas.Bool.{both_ways, cases_Bool, cases_eq, cases_lt, false_from_ne_true}
+use Rattle.std.proofs.lemmas.Bool.{both_ways, cases_Bool, cases_lt, false_from_ne_true}
 use Rattle.std.proofs.Math.Nat.{mod-add-div, mul-add, mul-add-mod_self_left, mul-le-mul_left}
 use Rattle.iso_defs.specs.Grid.{Grid}
 use Rattle.iso_defs.specs.Lists.{is_in}
@@ -11,9 +11,9 @@ use Rattle.part_laws.specs.Loops.{Loop}
 use Rattle.part_laws.specs.Meets.{HasLabel, IsLabelling, IsNew, IsNext, is_met, least_joined, relabelled}
 use Rattle.part_laws.proofs.ClassLaws.{is_in_from}
 use Rattle.part_laws.proofs.LabelLaws.{more_labelled}
-use Rattle.label_joins.specs.Chains.{ArePaired, begins_at, ends_at}
-use Rattle.loop_labels.specs.Fronts.{AreLabels, none, room, row_name}
-use Rattle.loop_labels.specs.Labelling.{Adds, IsAdded, Known, Stands}
+use Rattle.label_joins.specs.Chains.{ArePaired}
+use Rattle.loop_labels.specs.Fronts.{none, room, row_name}
+use Rattle.loop_labels.specs.Labelling.{IsAdded, Known, Stands}
 use Rattle.loop_labels.specs.Walked.{IsLabelled}
 
 at_index : (vs : List ℕ) (i : ℕ) → i < length vs → In (slice_index vs i) vs

@@ -1,12 +1,12 @@
 -- A pair more is noted.
-use Rattle.std.proofs.Common.{◌≡◌, ◌≢◌, ◌⊎◌, ℕ, ◌+◌, ◌<◌, ◌≤◌, List, [], ◌∷◌, ◌++◌, length, get_or, set, refl, sym, ap, ◌∙◌, subst, inl, inr, arith, length-append}
+use Rattle.std.proofs.Common.{◌≡◌, ◌⊎◌, ℕ, ◌+◌, ◌<◌, ◌≤◌, List, [], ◌∷◌, ◌++◌, length, get_or, set, refl, sym, ap, ◌∙◌, subst, inl, inr, arith, length-append}
 use Rattle.std.proofs.lemmas.Bool.{cases_eq, cases_lt}
 use Rattle.std.proofs.lemmas.List.{append_assoc, get_or-set_same, get_or-set_other, length-set}
 use Rattle.std.proofs.Math.ListN.{get_or-append}
 use Rattle.std.proofs.Math.Seq.{get_or-append_seam}
 use Rattle.part_laws.specs.Meets.{least_joined}
 use Rattle.part_laws.proofs.LabelLaws.{joined_grows}
-use Rattle.label_joins.specs.Chains.{ArePaired, begins_at, ends_at}
+use Rattle.label_joins.specs.Chains.{begins_at, ends_at}
 use Rattle.label_joins.proofs.LeastLaws.{ends_joined}
 use Rattle.loop_labels.specs.Labelling.{Adds, AreKnown, AreMet, IsOneOf}
 use Rattle.loop_labels.specs.Fronts.{Marks}
@@ -66,13 +66,24 @@ module _ (ps : List (ℕ × ℕ)) (met : List ℕ) (low high : ℕ) (h : AreMet 
       ]);
       back = λ i l. elim (which i l) [
         | inl k ↦ (
-            let t = h.paired.back i k in
-            (t.0, omega (arith, t.1, long), ap (λ (p : ℕ × ℕ). p.0) (old t.0 t.1) ∙ (t.2 ∙ ap (λ (p : ℕ × ℕ). p.1) (sym (old i k))),
-              ap (λ (p : ℕ × ℕ). p.1) (old t.0 t.1) ∙ (t.3 ∙ ap (λ (p : ℕ × ℕ). p.0) (sym (old i k)))))
-        | inr (inl e) ↦ (length ps + 1, omega (arith, long), ap (λ (p : ℕ × ℕ). p.0) (second (length ps + 1) refl) ∙ ap (λ (p : ℕ × ℕ). p.1) (sym (first i e)),
-              ap (λ (p : ℕ × ℕ). p.1) (second (length ps + 1) refl) ∙ ap (λ (p : ℕ × ℕ). p.0) (sym (first i e)))
-        | inr (inr e) ↦ (length ps, omega (arith, long), ap (λ (p : ℕ × ℕ). p.0) (first (length ps) refl) ∙ ap (λ (p : ℕ × ℕ). p.1) (sym (second i e)),
-              ap (λ (p : ℕ × ℕ). p.1) (first (length ps) refl) ∙ ap (λ (p : ℕ × ℕ). p.0) (sym (second i e)))
+            let t = h.paired.back i k in (
+              t.0,
+              omega (arith, t.1, long),
+              ap (λ (p : ℕ × ℕ). p.0) (old t.0 t.1) ∙ (t.2 ∙ ap (λ (p : ℕ × ℕ). p.1) (sym (old i k))),
+              ap (λ (p : ℕ × ℕ). p.1) (old t.0 t.1) ∙ (t.3 ∙ ap (λ (p : ℕ × ℕ). p.0) (sym (old i k))),
+            ))
+        | inr (inl e) ↦ (
+          length ps + 1,
+          omega (arith, long),
+          ap (λ (p : ℕ × ℕ). p.0) (second (length ps + 1) refl) ∙ ap (λ (p : ℕ × ℕ). p.1) (sym (first i e)),
+          ap (λ (p : ℕ × ℕ). p.1) (second (length ps + 1) refl) ∙ ap (λ (p : ℕ × ℕ). p.0) (sym (first i e)),
+        )
+        | inr (inr e) ↦ (
+          length ps,
+          omega (arith, long),
+          ap (λ (p : ℕ × ℕ). p.0) (first (length ps) refl) ∙ ap (λ (p : ℕ × ℕ). p.1) (sym (second i e)),
+          ap (λ (p : ℕ × ℕ). p.1) (first (length ps) refl) ∙ ap (λ (p : ℕ × ℕ). p.0) (sym (second i e)),
+        )
       ];
     };
     low = λ k l.

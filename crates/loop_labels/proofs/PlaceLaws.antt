@@ -1,5 +1,5 @@
 -- Where the labels of the edges of a cell stand.
-use Rattle.std.proofs.Common.{◌≡◌, ◌∙◌, ℕ, zero, suc, List, [], ◌∷◌, slice_index, ◌+◌, ◌*◌, ◌/◌, ◌%◌, ◌<◌, ◌≤◌, ap, sym, arith}
+use Rattle.std.proofs.Common.{◌≡◌, ◌∙◌, ℕ, zero, suc, [], ◌∷◌, slice_index, ◌+◌, ◌*◌, ◌/◌, ◌%◌, ◌<◌, ◌≤◌, ap, sym, arith}
 use Rattle.iso_defs.specs.Grid.{Grid}
 use Rattle.iso_defs.specs.Cell.{cell_edge}
 use Rattle.loop_labels.specs.Fronts.{room, row_name}
@@ -62,6 +62,7 @@ at_row g r k name place x y low e p =
     let b : row_name g r % room g ≡ 3 * g.nx * (r % (2 * g.ny)) = sym (first_of_row g r x y) in
     let d : name % room g ≡ (row_name g r + k) % room g = ap (λ z. z % room g) e in
     omega (p, a, b, d, arith)
+
 module _ (g : Grid) (row x near up far both : ℕ) (wide : x + 1 < g.nx) (some : 0 < g.ny) (n : near ≡ row_name g row % room g) (u : up ≡ row_name g (row + 1) % room g)
     (f : far ≡ row_name g (row + g.ny) % room g) (b : both ≡ row_name g (row + g.ny + 1) % room g) where
   abbrev q : ℕ

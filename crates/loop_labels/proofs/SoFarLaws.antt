@@ -1,12 +1,12 @@
 -- One edge of a loop more.
-use Rattle.std.proofs.Common.{◌≡◌, ◌≢◌, ◌⊎◌, ℕ, ◌+◌, ◌<◌, ◌≤◌, List, [], ◌∷◌, ◌++◌, refl, sym, ap, ◌∙◌, subst, inl, inr, arith}
+use Rattle.std.proofs.Common.{◌≡◌, ◌≢◌, ℕ, ◌+◌, List, [], ◌∷◌, ◌++◌, refl, sym, ap, ◌∙◌, subst, inl, inr, arith}
 use Rattle.std.specs.List.{AllByRecursion}
 use Rattle.std.proofs.lemmas.Bool.{cases_eq}
 use Rattle.std.proofs.lemmas.List.{append_assoc}
 use Rattle.part_laws.specs.Meets.{least_joined}
 use Rattle.part_laws.proofs.LabelLaws.{joined_grows}
 use Rattle.loop_labels.specs.Fronts.{none}
-use Rattle.loop_labels.specs.Labelling.{Adds, IsLabelFor, IsOneOf, IsSoFar, Known, Stands}
+use Rattle.loop_labels.specs.Labelling.{Adds, IsOneOf, IsSoFar, Known, Stands}
 
 stands_on : (stand : ℕ → ℕ) (n c : ℕ) → Stands stand n c → Stands stand (n + 1) c
 stands_on stand n c h = record { at = h.at; inside = omega (arith, h.inside); is = h.is; some = h.some }

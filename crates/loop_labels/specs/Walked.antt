@@ -1,5 +1,5 @@
 -- What is known of labels by the names of lattice edges.
-use Rattle.std.specs.Prelude.{◌≡◌, ◌≢◌, ℕ, ◌<◌, Bool, true, false, List}
+use Rattle.std.specs.Prelude.{◌≡◌, ℕ, ◌<◌, true, false, List}
 use Rattle.iso_defs.specs.Grid.{Grid}
 use Rattle.part_laws.specs.Loops.{Loop}
 use Rattle.part_laws.specs.Labels.{AreLabelled}

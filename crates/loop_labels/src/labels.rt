@@ -28,8 +28,8 @@ pub struct Labels {
 impl Model for Labels {
     ghost use Rattle.std.specs.Prelude.{length};
     ghost use Rattle.label_joins.specs.Chains.{ArePaired};
-ghost use Rattle.loop_labels.specs.Fronts.{none, room, row_name, slot_of};
-ghost use Rattle.loop_labels.specs.Labelling.{AreKnown, AreMet, Known};
+    ghost use Rattle.loop_labels.specs.Fronts.{none, room, row_name, slot_of};
+    ghost use Rattle.loop_labels.specs.Labelling.{AreKnown, AreMet, Known};
 
     ghost Value = { Known };
 
@@ -39,12 +39,7 @@ ghost use Rattle.loop_labels.specs.Labelling.{AreKnown, AreMet, Known};
 }
 
 /// Notes a pair of labels that meet, the lesser first, unless the greater one was noted with the lesser one last.
-fn note(
-    met: &mut Vec<u32>,
-    pairs: &mut Vec<(u32, u32)>,
-    low: u32,
-    high: u32,
-) -> Result<(), Memory>
+fn note(met: &mut Vec<u32>, pairs: &mut Vec<(u32, u32)>, low: u32, high: u32) -> Result<(), Memory>
     requires known { AreMet pairs.old.items met.old.items }
     requires low { low < length met.old.items }
     requires high { high < length met.old.items }

@@ -1,15 +1,15 @@
 -- What labels tell of classes, and one loop more that gets a label.
-use Rattle.std.proofs.Common.{◌≡◌, ◌≢◌, ◌⊎◌, ℕ, ◌≤◌, Bool, true, false, cond, List, [], ◌∷◌, ◌++◌, map, length, slice_index, refl, sym, ◌∙◌, ap, subst, inl, inr, arith, eqb}
-use Rattle.std.specs.List.{AllByRecursion, list_any}
-use Rattle.std.proofs.lemmas.Bool.{cases_Bool, cases_eq, both_ways, eq-eqb, ne_eqb}
+use Rattle.std.proofs.Common.{◌≡◌, ◌≢◌, ℕ, ◌≤◌, true, false, cond, List, [], ◌∷◌, ◌++◌, map, length, slice_index, refl, sym, ◌∙◌, ap, subst, inl, inr, arith, eqb}
+use Rattle.std.specs.List.{AllByRecursion}
+use Rattle.std.proofs.lemmas.Bool.{cases_Bool, both_ways, eq-eqb, ne_eqb}
 use Rattle.std.proofs.lemmas.List.{map-append}
 use Rattle.iso_defs.specs.Lists.{is_in}
-use Rattle.verdict_laws.proofs.Lists.{In, In-append, In-left, In-right, In-map, in_map, any_in, in_any}
+use Rattle.verdict_laws.proofs.Lists.{In, In-append, In-right, In-map, in_map, any_in, in_any}
 use Rattle.verdict_laws.proofs.Fans.{in_is_in}
 use Rattle.part_laws.specs.Loops.{AreLong, Loop}
 use Rattle.part_laws.specs.Classes.{class_of}
 use Rattle.part_laws.specs.Labels.{IsRooted, unlabelled}
-use Rattle.part_laws.specs.Meets.{HasLabel, IsLabelling, IsNew, IsNext, is_met, least_joined, pair_loop, relabelled}
+use Rattle.part_laws.specs.Meets.{HasLabel, IsLabelling, IsNext, is_met, least_joined, pair_loop, relabelled}
 use Rattle.part_laws.proofs.ClassLaws.{class_alike, class_grows, is_in_from, one_class}
 use Rattle.part_laws.proofs.Edges.{at_in}
 

@@ -1,14 +1,14 @@
 -- The report and the measures, by labels.
-use Rattle.std.proofs.Common.{◌≡◌, ◌≢◌, ◌⊎◌, ℕ, zero, suc, ◌+◌, ◌<◌, ◌≤◌, ℤ, Bool, true, false, cond, ◌||◌, not, List, [], ◌∷◌, ◌++◌, map, length, slice_index, refl, sym, ◌∙◌, ap, ap₂, subst, inl, inr, arith, eqb}
+use Rattle.std.proofs.Common.{◌≡◌, ◌⊎◌, ℕ, zero, suc, ◌+◌, ◌<◌, ◌≤◌, ℤ, Bool, true, false, cond, ◌||◌, not, List, [], ◌∷◌, map, length, slice_index, refl, sym, ◌∙◌, ap, ap₂, subst, inl, inr, arith, eqb}
 use Rattle.std.specs.List.{filter, list_any, count_by, range_with_len}
-use Rattle.std.proofs.lemmas.Bool.{cases_Bool, cases_eq, both_ways, eq-eqb, eqb-true, ne_eqb, not_from_false}
+use Rattle.std.proofs.lemmas.Bool.{cases_Bool, cases_eq, both_ways, eq-eqb, eqb-true, ne_eqb}
 use Rattle.iso_defs.specs.Grid.{Grid, name_bound}
 use Rattle.iso_defs.specs.Lists.{below, is_in, least_of}
 use Rattle.iso_defs.specs.Outside.{IsThick}
 use Rattle.iso_defs.specs.Scratch.{crossing_edges, number_of, triangles, vertices}
 use Rattle.iso_defs.specs.Signs.{is_crossing}
 use Rattle.iso_defs.specs.Surface.{is_border}
-use Rattle.verdict_laws.proofs.Lists.{In, In-append, In-filter, In-left, In-map, In-right, any_in, in_any, in_map}
+use Rattle.verdict_laws.proofs.Lists.{In, In-filter, In-map, any_in, in_any, in_map}
 use Rattle.verdict_laws.proofs.Counts.{count_agree}
 use Rattle.verdict_laws.proofs.Fans.{in_is_in}
 use Rattle.mesh_laws.proofs.Cells.{range_at_least}
@@ -18,7 +18,7 @@ use Rattle.mesh_report.specs.Report.{summary_of}
 use Rattle.measure.specs.Measures.{measures_of}
 use Rattle.part_laws.specs.Loops.{AreLong, Loop, mesh_loops}
 use Rattle.part_laws.specs.Classes.{class_of}
-use Rattle.part_laws.specs.Labels.{labelled, unlabelled}
+use Rattle.part_laws.specs.Labels.{unlabelled}
 use Rattle.part_laws.specs.Parts.{class_loops, classes, class_part, part_by}
 use Rattle.part_laws.specs.Swept.{share_round}
 use Rattle.part_laws.specs.Meets.{IsLabelling, is_met, least_joined}

@@ -1,4 +1,3 @@
-use Rattle.std.proofs.Common.{ℕ}
 use Rattle.label_joins.specs.Chains.{AreChained}
 use Rattle.label_joins.proofs.chains.chain_all.Given as goal
 

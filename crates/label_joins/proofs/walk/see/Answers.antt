@@ -1,4 +1,3 @@
-use Rattle.std.proofs.Common.{rules}
 use Rattle.label_joins.proofs.WalkLaws.{keeps_more}
 use Rattle.label_joins.proofs.walk.see.Goals as goal
 

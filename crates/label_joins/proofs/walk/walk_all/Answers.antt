@@ -1,4 +1,4 @@
-use Rattle.std.proofs.Common.{◌≡◌, ◌≢◌, ◌∙◌, ◌+◌, ◌<◌, ℕ, sym, subst, length, get_or, arith}
+use Rattle.std.proofs.Common.{◌≡◌, ◌≢◌, ◌∙◌, ◌<◌, ℕ, sym, subst, length, get_or, arith}
 use Rattle.label_joins.specs.Chains.{ArePaired}
 use Rattle.label_joins.specs.Walks.{AreClosed, IsSpread, none}
 use Rattle.label_joins.proofs.LeastLaws.{least_is}

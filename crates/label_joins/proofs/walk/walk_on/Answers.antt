@@ -1,4 +1,4 @@
-use Rattle.std.proofs.Common.{◌≡◌, ◌∙◌, ◌<◌, ℕ, arith, ap, sym, subst, get_or, length}
+use Rattle.std.proofs.Common.{◌≡◌, ◌∙◌, ◌<◌, arith, sym, subst, get_or, length}
 use Rattle.std.proofs.lemmas.List.{get_or_default}
 use Rattle.label_joins.specs.Chains.{ArePaired}
 use Rattle.label_joins.proofs.WalkLaws.{closed_step, keeps_on}

@@ -1,4 +1,4 @@
-use Rattle.std.proofs.Common.{ℕ, ◌+◌, ◌-◌, length}
+use Rattle.std.proofs.Common.{◌+◌, ◌-◌, length}
 use Rattle.label_joins.specs.Walks.{AreClosed, IsSpread, Keeps, unseen}
 use Rattle.label_joins.proofs.walk.walk_on.Given as goal
 

@@ -1,4 +1,4 @@
-use Rattle.std.proofs.Common.{rules, ◌≡◌, ◌∙◌, ◌++◌, ◌∷◌, [], ◌+◌, ◌≤◌, List, ℕ, length, set, sym, subst, ap, arith}
+use Rattle.std.proofs.Common.{◌≡◌, ◌++◌, ◌∷◌, [], ◌+◌, ◌≤◌, List, ℕ, length, set, sym, subst, arith}
 use Rattle.std.proofs.lemmas.List.{length-set}
 use Rattle.part_laws.specs.Meets.{least_joined}
 use Rattle.loop_labels.specs.Labelling.{Adds, AreMet, IsOneOf}

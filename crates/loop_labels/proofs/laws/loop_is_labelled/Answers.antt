@@ -1,4 +1,4 @@
-use Rattle.std.proofs.Common.{◌≡◌, ◌≤◌, length, subst}
+use Rattle.std.proofs.Common.{◌≤◌, subst}
 use Rattle.part_laws.proofs.ClassLaws.{is_in_from}
 use Rattle.loop_labels.proofs.AddedLaws.{loop_labelled}
 use Rattle.loop_labels.proofs.laws.loop_is_labelled.Goals as goal

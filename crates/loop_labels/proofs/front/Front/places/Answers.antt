@@ -1,4 +1,4 @@
-use Rattle.std.proofs.Common.{◌≡◌, ◌∙◌, ℕ, ◌+◌, ◌*◌, ◌%◌, ◌<◌, ap, sym, subst, arith}
+use Rattle.std.proofs.Common.{◌≡◌, ◌∙◌, ◌+◌, ◌%◌, ◌<◌, ap, arith}
 use Rattle.iso_defs.specs.Grid.{Grid}
 use Rattle.loop_labels.specs.Fronts.{Marks, room, row_name}
 use Rattle.loop_labels.proofs.PlaceLaws.{place_of_edge}
@@ -12,4 +12,3 @@ returns c = λ e x low wide.
     place_of_edge g c.args.row x c.row_place-near.result c.row_place-up.result c.row_place-far.result c.row_place-both.result wide some c.row_place-near.ensures.value
     c.row_place-up.ensures.value (c.row_place-far.ensures.value ∙ ap (λ y. row_name g (c.args.row + y) % room g) is)
     (c.row_place-both.ensures.value ∙ ap (λ y. row_name g (c.args.row + y + 1) % room g) is) e low)
-

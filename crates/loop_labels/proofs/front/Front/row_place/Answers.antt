@@ -1,4 +1,4 @@
-use Rattle.std.proofs.Common.{◌≡◌, ◌∙◌, ℕ, ◌+◌, ◌*◌, ◌%◌, ◌<◌, ◌≤◌, ap, ap₂, sym, subst, arith}
+use Rattle.std.proofs.Common.{◌≡◌, ◌∙◌, ◌+◌, ◌*◌, ◌%◌, ◌≤◌, ap, ap₂, sym, subst, arith}
 use Rattle.iso_defs.specs.Grid.{Grid}
 use Rattle.loop_labels.specs.Fronts.{Marks, room, row_name}
 use Rattle.loop_labels.proofs.PlaceLaws.{first_of_row, row_fits}

@@ -1,14 +1,13 @@
-use Rattle.std.proofs.Common.{◌≡◌, ◌≢◌, ◌⊎◌, ◌∙◌, ◌<◌, ℕ, length, slice_index, ap, sym, subst, inl, inr, arith}
+use Rattle.std.proofs.Common.{◌≡◌, ◌≢◌, ◌<◌, length, ap, sym, subst, inl, inr, arith}
 use Rattle.loop_labels.specs.Fronts.{none, room}
-use Rattle.loop_labels.specs.Labelling.{AreKnown, Known}
+use Rattle.loop_labels.specs.Labelling.{Known}
 use Rattle.loop_labels.proofs.labels.Labels.add_loop.Goals as goal
 
 pub invariant_of-self : goal.invariant_of-self
 invariant_of-self c =
     let e = c.set_all.ensures in
     let count : length c.self.inside.met.items ≡ c.label_of.new.self.count = ap (λ (k : Known). k.count) c.self.view_is in
-    let low : c.in_ok-label.label < length c.self.inside.met.items = omega (arith, c.in_ok-label.ensures.low, count) in
-    (
+    let low : c.in_ok-label.label < length c.self.inside.met.items = omega (arith, c.in_ok-label.ensures.low, count) in (
       c.self.invariant.0,
       record {
         size = e.size;

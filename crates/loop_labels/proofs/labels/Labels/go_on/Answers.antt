@@ -1,4 +1,3 @@
-use Rattle.std.proofs.Common.{◌≡◌, ℕ}
 use Rattle.loop_labels.proofs.SoFarLaws.{meet_on}
 use Rattle.loop_labels.proofs.labels.Labels.go_on.Goals as goal
 

@@ -1,4 +1,4 @@
-use Rattle.std.proofs.Common.{◌≡◌, ◌∙◌, ◌+◌, ℕ, slice_index, ap, sym, subst}
+use Rattle.std.proofs.Common.{◌≡◌, ◌∙◌, ◌+◌, ℕ, slice_index, ap, sym}
 use Rattle.loop_labels.specs.Fronts.{Marks}
 use Rattle.loop_labels.specs.Labelling.{stand_of}
 use Rattle.loop_labels.proofs.labels.Labels.label_of.Goals as goal

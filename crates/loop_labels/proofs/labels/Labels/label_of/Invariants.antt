@@ -1,4 +1,4 @@
-use Rattle.std.proofs.Common.{◌≢◌, ◌<◌, ℕ}
+use Rattle.std.proofs.Common.{◌≢◌, ◌<◌}
 use Rattle.loop_labels.specs.Fronts.{none}
 use Rattle.loop_labels.specs.Labelling.{IsSoFar, stand_of}
 use Rattle.loop_labels.proofs.labels.Labels.label_of.Given as goal

@@ -1,4 +1,4 @@
-use Rattle.std.proofs.Common.{◌≡◌, ℕ, List, subst}
+use Rattle.std.proofs.Common.{subst}
 use Rattle.loop_labels.specs.Labelling.{Adds, IsOneOf, Known}
 use Rattle.loop_labels.proofs.MeetLaws.{added_other}
 use Rattle.loop_labels.proofs.labels.Labels.meet.Goals as goal
