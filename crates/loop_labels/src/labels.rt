@@ -217,6 +217,7 @@ impl Labels {
         ensures low { result ≢ none → result < self.old.count }
         ensures grid { self.new.marks.grid ≡ self.old.marks.grid }
         ensures labels { self.new.marks.labels ≡ slice_set self.old.marks.labels place none }
+        ensures gone { slice_index self.new.marks.labels place ≡ none }
         ensures count { self.new.count ≡ self.old.count }
         ensures pairs { self.new.pairs ≡ self.old.pairs }
     {

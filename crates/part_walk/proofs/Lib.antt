@@ -1,0 +1,2 @@
+pub mod BorderSteps
+pub mod CountLaws

@@ -1,2 +1,2 @@
-pub mod Slabs
 pub mod Sums
+pub mod Counts

@@ -3,14 +3,5 @@
 #![tactic(auto)]
 
 mod borders;
-mod labels;
-mod loops;
-mod measured;
-mod numbers;
 mod positions;
-mod slab;
 mod tally;
-mod walk;
-
-pub use measured::measured;
-pub use numbers::numbered;
