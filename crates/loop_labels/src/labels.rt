@@ -77,7 +77,8 @@ impl Labels {
 
     /// How many labels there are.
     pub fn count(&self) -> u32
-        ensures { result ≡ self.now.count }
+        ensures value { result ≡ self.now.count }
+        ensures few { result < none }
     {
         self.met.len() as u32
     }

@@ -131,10 +131,6 @@ inner_is g cell at a b ha hb x0 y0 z0 x1 y1 z1 =
     ∙ (ap (λ t. t || (share_side 1 g.ny cell.low.y a b || share_side 2 g.nz cell.low.z a b)) sx
     ∙ (ap (λ t. t || share_side 2 g.nz cell.low.z a b) sy ∙ sz))
 
-pub one_low : (b : Bool) → cond b 1 0 ≤ 1
-one_low true = omega arith
-one_low false = omega arith
-
 -- what holds of each element
 pub in_all : (P : ℕ → Type 0) (xs : List ℕ) → All P xs → (e : ℕ) → In e xs → P e
 in_all P xs h e i = let at = index_of e xs i in subst P at.2 (h at.0 0 at.1)

@@ -1,2 +1,4 @@
 pub mod BorderSteps
 pub mod CountLaws
+pub mod PassedLaws
+pub mod LeftLaws

@@ -1,2 +1,4 @@
 pub mod Sums
 pub mod Counts
+pub mod Passed
+pub mod Walks

@@ -1,6 +1,6 @@
 //! The steps of a loop that lie in the border of the grid.
 
-ghost use Rattle.std.specs.Prelude.{◌≡◌, ℕ, ◌+◌, ◌-◌, ◌*◌, ◌/◌, ◌<◌, ◌≤◌, ◌^◌, ◌==◌, ◌&&◌, ◌||◌, IsTrue, false, length, not};
+ghost use Rattle.std.specs.Prelude.{◌≡◌, ℕ, ◌+◌, ◌-◌, ◌*◌, ◌/◌, ◌<◌, ◌≤◌, ◌^◌, ◌==◌, ◌&&◌, ◌||◌, IsTrue, cond, false, length, not};
 ghost use Rattle.std.specs.List.{count_by};
 ghost use Rattle.edge_points.specs.Points.{corner_offset};
 ghost use Rattle.iso_defs.specs.Cell.{cell_edge, edge_corner};
@@ -72,6 +72,21 @@ fn is_outer(sizes: &Sizes, cell: Cell, a: u8, b: u8) -> bool
     along_x | (along_y | along_z)
 }
 
+/// How many steps from one edge of a cell to another lie in the border: one or none.
+#[inline(always)]
+fn outer_step(sizes: &Sizes, cell: Cell, a: u8, b: u8) -> u32
+    requires cell { IsCellAt sizes.now cell }
+    requires a { a < 12 }
+    requires b { b < 12 }
+    ensures value { result ≡ cond (is_border sizes.now (cell_edge sizes.now cell.index a) (cell_edge sizes.now cell.index b)) 1 0 }
+    ensures bound { result ≤ 1 }
+{
+    if is_outer(sizes, cell, a, b) {
+        return 1;
+    }
+    0
+}
+
 /// Whether a cell does not touch the border.
 #[inline(always)]
 fn is_inside(sizes: &Sizes, cell: Cell) -> bool
@@ -98,9 +113,9 @@ fn outer_steps(sizes: &Sizes, cell: Cell, edges: &[u8]) -> u32
     let count = edges.len();
     let mut outer = 0;
     for at in 1..count {
-        outer += u32::from(is_outer(sizes, cell, edges[at - 1], edges[at]));
+        outer += outer_step(sizes, cell, edges[at - 1], edges[at]);
     }
-    outer + u32::from(is_outer(sizes, cell, edges[count - 1], edges[0]))
+    outer + outer_step(sizes, cell, edges[count - 1], edges[0])
 }
 
 /// The same, quicker where the cell does not touch the border.

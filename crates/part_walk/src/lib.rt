@@ -3,5 +3,8 @@
 #![tactic(auto)]
 
 mod borders;
+mod leaving;
+mod passed;
 mod positions;
 mod tally;
+mod walked;
