@@ -2,3 +2,6 @@ pub mod BorderSteps
 pub mod CountLaws
 pub mod PassedLaws
 pub mod LeftLaws
+pub mod WalkLaws
+pub mod LongerLaws
+pub mod CellLaws

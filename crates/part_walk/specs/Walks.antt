@@ -1,5 +1,5 @@
 -- Loops that have labels, and what is known of each label.
-use Rattle.std.specs.Prelude.{◌≡◌, ℕ, ◌+◌, ◌*◌, ◌%◌, ◌<◌, ◌==◌, ℤ, List, length, slice_index, slice_index_or}
+use Rattle.std.specs.Prelude.{◌≡◌, ℕ, ◌+◌, ◌*◌, ◌%◌, ◌<◌, ◌≤◌, ◌==◌, ℤ, pos, List, length, slice_index, slice_index_or}
 use Rattle.std.specs.List.{filter, flat_map}
 use Rattle.iso_defs.specs.Cell.{cell_edge}
 use Rattle.iso_defs.specs.Grid.{Grid, is_cell}
@@ -20,6 +20,16 @@ pub record AreTallies {T : Type 0} (value : T → ℕ → ℤ) (fits : ℕ → T
   pub size : length tallies ≡ count
   pub values : (a : ℕ) (d : T) (i : ℕ) → a < count → value (slice_index_or tallies a d) i ≡ total (of_loop i) (labelled xs (λ b. b == a))
   pub fit : (a : ℕ) (d : T) → a < count → fits (length (labelled xs (λ b. b == a))) (slice_index_or tallies a d)
+
+-- More labels are known, of which no loop and no edge has one: those from one number on to before another.
+pub record IsLonger {T : Type 0} (value : T → ℕ → ℤ) (fits : ℕ → T → Type 0) (old new : ℕ) (tallies tallies' : List T) (crossings crossings' : List ℕ) : Type 0 where
+  pub size : length tallies' ≡ new
+  pub edge_size : length crossings' ≡ new
+  pub same : (a : ℕ) (d : T) → a < old → slice_index_or tallies' a d ≡ slice_index_or tallies a d
+  pub same_edges : (a : ℕ) → a < old → slice_index crossings' a ≡ slice_index crossings a
+  pub values : (a : ℕ) (d : T) (i : ℕ) → old ≤ a → a < new → value (slice_index_or tallies' a d) i ≡ pos 0
+  pub fit : (a : ℕ) (d : T) → old ≤ a → a < new → fits 0 (slice_index_or tallies' a d)
+  pub zeros : (a : ℕ) → old ≤ a → a < new → slice_index crossings' a ≡ 0
 
 -- These loops have labels, and so have their edges, where a row of points is at hand. The edges that begin in the rows before it were left behind.
 pub record IsWalked {T : Type 0} (value : T → ℕ → ℤ) (fits : ℕ → T → Type 0) (of_loop : Leveled → ℕ → Loop → ℤ) (v : Leveled) (row : ℕ) (loops : List Loop)

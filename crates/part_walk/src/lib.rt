@@ -3,6 +3,7 @@
 #![tactic(auto)]
 
 mod borders;
+mod cells;
 mod leaving;
 mod passed;
 mod positions;

@@ -1,12 +1,12 @@
 //! The labels of loops, what is added up of the loops of each, and its crossing edges.
 
-ghost use Rattle.std.specs.Prelude.{◌≡◌, ℕ, ◌+◌, ◌*◌, ◌<◌, ◌≤◌, ◌++◌, ◌∷◌, [], List, IfOk, OnOk, length, pos, slice_index, slice_index_or};
+ghost use Rattle.std.specs.Prelude.{◌≡◌, ℕ, ◌+◌, ◌*◌, ◌<◌, ◌≤◌, ◌++◌, ◌∷◌, [], List, IfOk, OnOk, length};
 ghost use Rattle.cell_loops.specs.Loops.{IsLoop};
 ghost use Rattle.flat_mesh.specs.Centres.{IsCellAt};
 ghost use Rattle.iso_base.specs.Sizing.{IsGrid};
 ghost use Rattle.part_laws.specs.Loops.{Loop};
 ghost use Rattle.part_walk.specs.Sums.{IsLoopIn, IsOneLoop};
-ghost use Rattle.part_walk.specs.Walks.{ArePlaces, CanAdd, IsWalked};
+ghost use Rattle.part_walk.specs.Walks.{ArePlaces, CanAdd, IsLonger, IsWalked};
 
 use crate::passed::Passed;
 use crate::tally::Tally;
@@ -38,18 +38,13 @@ impl<T: Tally> Walked<T> {
         requires tallies { length self.old.tallies.items ≤ self.old.labels.count }
         requires edges { length self.old.edges.crossings.items ≡ length self.old.tallies.items }
         ensures labels { OnOk result (self.new.labels ≡ self.old.labels) }
-        ensures tallies { OnOk result (length self.new.tallies.items ≡ self.old.labels.count) }
-        ensures edges { OnOk result (length self.new.edges.crossings.items ≡ self.old.labels.count) }
-        ensures order { OnOk result (self.new.edges.order ≡ self.old.edges.order) }
+        ensures order { OnOk result (self.new.edges.order.items ≡ self.old.edges.order.items) }
         ensures passed { OnOk result (self.new.edges.count ≡ self.old.edges.count) }
-        ensures same { OnOk result ((a : ℕ) (d : T) → a < length self.old.tallies.items → slice_index_or self.new.tallies.items a d ≡ slice_index_or self.old.tallies.items a d) }
-        ensures same_edges { OnOk result ((a : ℕ) → a < length self.old.tallies.items → slice_index self.new.edges.crossings.items a ≡ slice_index self.old.edges.crossings.items a) }
-        ensures values { OnOk result ((a : ℕ) (d : T) (i : ℕ) → length self.old.tallies.items ≤ a → a < self.old.labels.count → T.value (slice_index_or self.new.tallies.items a d) i ≡ pos 0) }
-        ensures fit { OnOk result ((a : ℕ) (d : T) → length self.old.tallies.items ≤ a → a < self.old.labels.count → T.fits 0 (slice_index_or self.new.tallies.items a d)) }
-        ensures none { OnOk result ((a : ℕ) → length self.old.tallies.items ≤ a → a < self.old.labels.count → slice_index self.new.edges.crossings.items a ≡ 0) }
+        ensures longer { OnOk result (IsLonger T.value T.fits (length self.old.tallies.items) self.old.labels.count self.old.tallies.items self.new.tallies.items self.old.edges.crossings.items self.new.edges.crossings.items) }
     {
         let count = self.labels.count() as usize;
-        for _ in self.tallies.len()..count {
+        for at in self.tallies.len()..count {
+            let _ = at;
             self.tallies.push(T::none())?;
             self.edges.crossings.push(0)?;
         }
@@ -74,10 +69,11 @@ impl<T: Tally> Walked<T> {
             → IsWalked T.value T.fits T.of_loop (H.leveled field.now) (cell.low.y + (H.leveled field.now).grid.ny * cell.low.z) loops self.old.labels self.old.tallies.items self.old.edges
             → IsWalked T.value T.fits T.of_loop (H.leveled field.now) (cell.low.y + (H.leveled field.now).grid.ny * cell.low.z) (loops ++ l ∷ []) self.new.labels self.new.tallies.items self.new.edges) }
     {
+        let _ = field.sizes();
         let label = self.labels.add_loop(places, 3 * cell.low.x, edges)?;
         self.know()?;
-        let _ = (self.labels.count(), self.labels.pairs());
-        let _ = field.sizes();
+        let _ = self.labels.count();
+        let _ = self.labels.pairs();
         self.tallies[label as usize].add_loop(field, cell, edges);
         Ok(())
     }
