@@ -89,7 +89,7 @@ module _ (v : Leveled) where
     abbrev edges : List ℕ
     edges = get_or (loops_at v q) turn []
 
-    abbrev this : Loop
+    abbrev pub this : Loop
     this = (centre_name v.grid q turn, map (cell_edge v.grid q) edges)
 
     pub loop_is : IsLoopIn v q edges this

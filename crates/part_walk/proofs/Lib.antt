@@ -5,3 +5,5 @@ pub mod LeftLaws
 pub mod WalkLaws
 pub mod LongerLaws
 pub mod CellLaws
+pub mod RowLaws
+pub mod StartLaws

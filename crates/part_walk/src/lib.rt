@@ -7,5 +7,6 @@ mod cells;
 mod leaving;
 mod passed;
 mod positions;
+mod rows;
 mod tally;
 mod walked;

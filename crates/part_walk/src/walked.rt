@@ -3,10 +3,10 @@
 ghost use Rattle.std.specs.Prelude.{◌≡◌, ℕ, ◌+◌, ◌*◌, ◌<◌, ◌≤◌, ◌++◌, ◌∷◌, [], List, IfOk, OnOk, length};
 ghost use Rattle.cell_loops.specs.Loops.{IsLoop};
 ghost use Rattle.flat_mesh.specs.Centres.{IsCellAt};
-ghost use Rattle.iso_base.specs.Sizing.{IsGrid};
+ghost use Rattle.flat_mesh.specs.Lattice.{Leveled};
 ghost use Rattle.part_laws.specs.Loops.{Loop};
 ghost use Rattle.part_walk.specs.Sums.{IsLoopIn, IsOneLoop};
-ghost use Rattle.part_walk.specs.Walks.{ArePlaces, CanAdd, IsLonger, IsWalked};
+ghost use Rattle.part_walk.specs.Walks.{ArePlaces, CanAdd, IsLonger, IsWalked, loops_before};
 
 use crate::passed::Passed;
 use crate::tally::Tally;
@@ -25,9 +25,12 @@ pub struct Walked<T: Tally> {
 
 impl<T: Tally> Walked<T> {
     /// No loop has a label.
-    pub fn new(alloc: Global, sizes: Sizes) -> Result<Walked<T>, Memory> {
+    pub fn new(alloc: Global, sizes: Sizes) -> Result<Walked<T>, Memory>
+        ensures { IfOk result (λ w. (v : Leveled) → v.grid ≡ sizes → IsWalked T.value T.fits T.of_loop v 0 (loops_before v 0) w.labels w.tallies.items w.edges) }
+    {
+        let labels = Labels::new(alloc, sizes)?;
         Ok(Walked {
-            labels: Labels::new(alloc, sizes)?,
+            labels,
             tallies: Vec::new(alloc),
             edges: Passed::new(alloc),
         })
