@@ -10,11 +10,13 @@ use Rattle.iso_defs.specs.Grid.{Grid, cells, coordinate, index, is_cell, name_bo
 use Rattle.iso_defs.specs.Lists.{below, is_in}
 use Rattle.iso_defs.specs.Scratch.{cell_loops, centre_name, crossing_edges}
 use Rattle.iso_defs.specs.Signs.{is_crossing}
-use Rattle.iso_defs.proofs.Points.{index_of_point}
+use Rattle.iso_defs.proofs.Points.{index_of_point, x_index, y_index, z_index}
 use Rattle.verdict_laws.proofs.Lists.{In, In-filter, In-flat_map, In-map, in_filter, in_flat_map, in_map}
 use Rattle.mesh_laws.proofs.Cells.{cell_in, range_at_least, range_in}
 use Rattle.mesh_laws.proofs.Mixed.{Low, low_is}
-use Rattle.crossing_edges.specs.Flags.{rank}
+use Rattle.crossing_edges.specs.Flags.{flags_at, rank}
+use Rattle.flat_mesh.specs.Faces.{loops_at}
+use Rattle.flat_mesh.specs.Rows.{row_start}
 use Rattle.flat_mesh.specs.Centres.{IsCellAt}
 use Rattle.flat_mesh.specs.Lattice.{Leveled, heights}
 use Rattle.flat_mesh.specs.declared.centres.Cell.{Cell}
@@ -31,6 +33,7 @@ use Rattle.part_laws.proofs.Numbered.{loops_cross}
 use Rattle.part_walk.specs.declared.passed.Passed.{Passed}
 use Rattle.part_walk.specs.Passed.{AreEdges, IsLeft, Leaving, edges_before, row_end}
 use Rattle.part_walk.specs.Walks.{AreTallies, IsWalked, loops_before}
+use Rattle.part_walk.proofs.CellLaws.{before_quiets}
 use Rattle.part_walk.proofs.WalkLaws.{edge_within}
 use Rattle.part_walk.proofs.LeftLaws.{left_stills}
 
@@ -114,7 +117,7 @@ module _ (v : Leveled) where
     inside : n ≤ point_count v.grid
     inside = let m : v.grid.nx * (row + 1) ≤ v.grid.nx * (v.grid.ny * v.grid.nz) = mul-le-mul_left v.grid.nx (omega (arith, low)) in omega (arith, m)
 
-    pub leaving : Leaving
+    abbrev pub leaving : Leaving
     leaving = record { volume = v; row = row; label = h.label; base = labels }
 
     -- a loop that has the vertex
@@ -202,3 +205,55 @@ module _ (v : Leveled) where
             not_back : (b : Bool) → not b ≡ false → b ≡ true
             not_back true e = refl
             not_back false e = sym e
+
+-- a row of a grid
+pub row_low : (g : Grid) (y z : ℕ) → y < g.ny → z < g.nz → y + g.ny * z < g.ny * g.nz
+row_low g y z hy hz =
+    let m : g.ny * (z + 1) ≤ g.ny * g.nz = mul-le-mul_left g.ny (omega (arith, hz)) in
+    let e : g.ny * (z + 1) ≡ g.ny * z + g.ny * 1 = mul-add g.ny z 1 in
+    omega (arith, m, e, hy)
+
+-- cells of a row that have no loops
+module _ (v : Leveled) (y z : ℕ) (hy : y < v.grid.ny) (hz : z < v.grid.nz) where
+  pub quiet_to : (from to : ℕ) → from ≤ to → to ≤ v.grid.nx
+      → ((x : ℕ) → x + 1 < v.grid.nx → from ≤ x → x < to → y + 1 < v.grid.ny → z + 1 < v.grid.nz → loops_at v (index v.grid x y z) ≡ [])
+      → loops_before v (row_start v.grid y z + to) ≡ loops_before v (row_start v.grid y z + from)
+  quiet_to from to le most h =
+      ap (loops_before v) (let e : row_start v.grid y z + to ≡ row_start v.grid y z + from + (to - from) = omega (arith, le) in e)
+      ∙ before_quiets v (row_start v.grid y z + from) (to - from) (λ k l is.
+      (let x : ℕ = from + k in
+      let hx : x < v.grid.nx = omega (arith, l, most, le) in
+      let at : row_start v.grid y z + from + k ≡ index v.grid x y z = omega arith in
+      let low : Low v.grid (index v.grid x y z) = low_is v.grid (index v.grid x y z) (subst (λ q. is_cell v.grid q ≡ true) at is) in
+      let ex : coordinate v.grid 0 (index v.grid x y z) ≡ x = x_index v.grid x y z hx hy hz in
+      let ey : coordinate v.grid 1 (index v.grid x y z) ≡ y = y_index v.grid x y z hx hy hz in
+      let ez : coordinate v.grid 2 (index v.grid x y z) ≡ z = z_index v.grid x y z hx hy hz in
+      subst (λ q. loops_at v q ≡ []) (sym at) (h x (omega (arith, low.x, ex)) (omega arith) (omega (arith, l, le)) (omega (arith, low.y, ey)) (omega (arith, low.z, ez)))))
+
+  -- points at which no crossing edge begins
+  pub no_crossing : ((x : ℕ) → x < v.grid.nx → flags_at v.grid (heights v) (row_start v.grid y z + x) ≡ 0) → (m : ℕ) → row_name v.grid (y + v.grid.ny * z) ≤ m → m < row_name v.grid (y + v.grid.ny * z) + 3 * v.grid.nx
+      → is_crossing v.grid (heights v) m ≡ false
+  no_crossing h m l b =
+      let start : ℕ = row_start v.grid y z in
+      let x : ℕ = m / 3 - start in
+      let p : m / 3 ≡ start + x = omega (arith, l) in
+      let f : flags_at v.grid (heights v) (start + x) ≡ 0 = h x (omega (arith, l, b)) in
+      by_axis (start + x) f (m % 3) m (omega arith) (omega (arith, p))
+    where
+      low : (a b c : Bool) → cond {A = ℕ} a 1 0 + (2 * cond {A = ℕ} b 1 0 + 4 * cond {A = ℕ} c 1 0) ≡ 0 → (a ≡ false) × (b ≡ false) × (c ≡ false)
+      low false false false e = (refl, refl, refl)
+      low true b c e = absurd (omega (arith, e))
+      low false true c e = absurd (omega (arith, e))
+      low false false true e = absurd (omega (arith, e))
+
+      by_axis : (p : ℕ) → flags_at v.grid (heights v) p ≡ 0 → (axis m : ℕ) → axis < 3 → m ≡ 3 * p + axis → is_crossing v.grid (heights v) m ≡ false
+      by_axis p f zero m a e =
+          ap (is_crossing v.grid (heights v)) (let z : m ≡ 3 * p = omega (arith, e) in z) ∙ (low (is_crossing v.grid (heights v) (3 * p)) (is_crossing v.grid (heights v) (3 * p + 1)) (is_crossing v.grid (heights v) (3 * p + 2)) f).0
+      by_axis p f (suc zero) m a e =
+          ap (is_crossing v.grid (heights v)) (let z : m ≡ 3 * p + 1 = omega (arith, e) in z) ∙ (low (is_crossing v.grid (heights v) (3 * p)) (is_crossing v.grid (heights v) (3 * p + 1)) (is_crossing v.grid (heights v) (3 * p + 2)) f).1
+      by_axis p f (suc (suc zero)) m a e =
+          ap (is_crossing v.grid (heights v)) (let z : m ≡ 3 * p + 2 = omega (arith, e) in z) ∙ (low (is_crossing v.grid (heights v) (3 * p)) (is_crossing v.grid (heights v) (3 * p + 1)) (is_crossing v.grid (heights v) (3 * p + 2)) f).2
+      by_axis p f (suc (suc (suc axis))) m a e = absurd (omega arith)
+
+  pub start_next : row_start v.grid y z + v.grid.nx ≡ v.grid.nx * (y + v.grid.ny * z + 1)
+  start_next = (let e : v.grid.nx * (y + v.grid.ny * z + 1) ≡ v.grid.nx * (y + v.grid.ny * z) + v.grid.nx * 1 = mul-add v.grid.nx (y + v.grid.ny * z) 1 in omega (arith, e))

@@ -1,7 +1,6 @@
 //! The walk over the rows of points.
 
 ghost use Rattle.std.specs.Prelude.{◌≡◌, ℕ, ◌+◌, ◌*◌, ◌<◌, ◌≤◌, IfOk, OnOk, length};
-ghost use Rattle.iso_defs.specs.Grid.{point_count};
 ghost use Rattle.flat_mesh.specs.Lattice.{heights};
 ghost use Rattle.flat_mesh.specs.Rows.{row_start};
 ghost use Rattle.span_tree.specs.Spans.{IsRightFor};
@@ -128,7 +127,35 @@ fn walk_row<T: Tally, R: CellRows, L: Ledger>(
         return Ok(());
     }
     add_row_from(field, active, rows, walked, y, z, cases, steps)?;
-    leave_row(field, walked, y, z)
+    leave_row(field, walked, y, z)?;
+    Ok(())
+}
+
+/// Labels the loops of a slice of cells, if the slice of points begins one, and leaves the edges behind that begin at these points.
+fn walk_slice<T: Tally, R: CellRows, L: Ledger>(
+    field: &Field,
+    active: &mut ActiveRow,
+    rows: &mut R,
+    walked: &mut Walked<T>,
+    z: u32,
+    cases: &mut [u16],
+    steps: &mut Steps<L>,
+) -> Result<(), Memory>
+    requires active { AreMarked field.now active.old }
+    requires z { z < field.now.grid.nz }
+    requires count { length cases.old ≡ field.now.grid.nx }
+    requires named { NamesCases (R.named rows.old) field.now.grid (heights field.now) }
+    requires state { IsWalked T.value T.fits T.of_loop field.now (field.now.grid.ny * z) (loops_before field.now (row_start field.now.grid 0 z)) walked.old.labels walked.old.tallies.items walked.old.edges }
+    ensures active { OnOk result (AreMarked field.now active.new) }
+    ensures same { OnOk result (R.named rows.new ≡ R.named rows.old) }
+    ensures walked { OnOk result (IsWalked T.value T.fits T.of_loop field.now (field.now.grid.ny * (z + 1)) (loops_before field.now (row_start field.now.grid 0 (z + 1)))
+        walked.new.labels walked.new.tallies.items walked.new.edges) }
+{
+    let sizes = field.sizes();
+    for y in 0..sizes.ny() {
+        walk_row(field, active, rows, walked, y, z, cases, steps)?;
+    }
+    Ok(())
 }
 
 /// Labels the loops of all cells.
@@ -142,7 +169,7 @@ pub fn walk<T: Tally, R: CellRows, L: Ledger>(
 ) -> Result<Walked<T>, Memory>
     requires tree { IsRightFor tree.now store.now }
     requires named { NamesCases (R.named rows.old) store.now.grid (field_of store.now.samples level) }
-    ensures { IfOk result (λ w. IsWalked T.value T.fits T.of_loop (at_level store.now level) (store.now.grid.ny * store.now.grid.nz) (loops_before (at_level store.now level) (point_count store.now.grid))
+    ensures { IfOk result (λ w. IsWalked T.value T.fits T.of_loop (at_level store.now level) (store.now.grid.ny * store.now.grid.nz) (loops_before (at_level store.now level) (row_start store.now.grid 0 store.now.grid.nz))
         w.labels w.tallies.items w.edges) }
 {
     let sizes = store.sizes();
@@ -151,18 +178,15 @@ pub fn walk<T: Tally, R: CellRows, L: Ledger>(
     let mut cases = vec![in alloc; 0u16; sizes.nx() as usize]?;
     let mut active = ActiveRow::new();
     for z in 0..sizes.nz() {
-        for y in 0..sizes.ny() {
-            walk_row(
-                &field,
-                &mut active,
-                rows,
-                &mut walked,
-                y,
-                z,
-                cases.as_mut_slice(),
-                steps,
-            )?;
-        }
+        walk_slice(
+            &field,
+            &mut active,
+            rows,
+            &mut walked,
+            z,
+            cases.as_mut_slice(),
+            steps,
+        )?;
     }
     Ok(walked)
 }
