@@ -257,3 +257,9 @@ module _ (v : Leveled) (y z : ℕ) (hy : y < v.grid.ny) (hz : z < v.grid.nz) whe
 
   pub start_next : row_start v.grid y z + v.grid.nx ≡ v.grid.nx * (y + v.grid.ny * z + 1)
   start_next = (let e : v.grid.nx * (y + v.grid.ny * z + 1) ≡ v.grid.nx * (y + v.grid.ny * z) + v.grid.nx * 1 = mul-add v.grid.nx (y + v.grid.ny * z) 1 in omega (arith, e))
+
+-- the same row and the same point, by other numbers
+pub moved : {T : Type 0} (value : T → ℕ → ℤ) (fits : ℕ → T → Type 0) (of_loop : Leveled → ℕ → Loop → ℤ) (v : Leveled) (r r' q q' : ℕ) (labels : Known) (ts : List T) (edges : Passed) → r ≡ r' → q ≡ q'
+    → IsWalked value fits of_loop v r (loops_before v q) labels ts edges → IsWalked value fits of_loop v r' (loops_before v q') labels ts edges
+moved value fits of_loop v r r' q q' labels ts edges er eq h =
+    subst (λ n. IsWalked value fits of_loop v n (loops_before v q') labels ts edges) er (subst (λ n. IsWalked value fits of_loop v r (loops_before v n) labels ts edges) eq h)

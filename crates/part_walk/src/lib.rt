@@ -4,9 +4,13 @@
 
 mod borders;
 mod cells;
+mod components;
 mod leaving;
+mod numbers;
 mod passed;
 mod positions;
 mod rows;
 mod tally;
 mod walked;
+
+pub use numbers::numbered;
