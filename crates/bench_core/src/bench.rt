@@ -435,7 +435,7 @@ impl Bench {
         ensures memory { IfErr result (λ fault. fault ≡ BenchFault.Memory) }
         ensures not_shelf { IsErrOf result BenchFault.ShelfFailed → ⊥ }
     {
-        Ok(walked_numbers(self.alloc, &self.store, &self.tree, self.level)?)
+        Ok(walked_numbers(self.alloc, &self.store, &self.tree, &self.cache, self.level)?)
     }
 
     /// The signed volume, the area and the border of each component of the mesh, by its least vertex, at the positions
@@ -450,7 +450,7 @@ impl Bench {
         ensures memory { IfErr result (λ fault. fault ≡ BenchFault.Memory) }
         ensures not_shelf { IsErrOf result BenchFault.ShelfFailed → ⊥ }
     {
-        Ok(walked_measures(self.alloc, &self.store, &self.tree, self.level)?)
+        Ok(walked_measures(self.alloc, &self.store, &self.tree, &self.cache, self.level)?)
     }
 
     /// The stored plane of one that does not count the pad's layer.

@@ -2,3 +2,4 @@ pub mod Sums
 pub mod Counts
 pub mod Passed
 pub mod Walks
+pub mod Sweep

@@ -10,7 +10,9 @@ mod numbers;
 mod passed;
 mod positions;
 mod rows;
+mod sweep;
 mod tally;
 mod walked;
 
 pub use numbers::numbered;
+pub use sweep::measured;
