@@ -119,12 +119,12 @@ module _ (k : Leaving) (n : ℕ) (labels : Known) (edges : Passed) (h : IsLeft k
   -- one with a label is
   pub edges_next : (edges' : Passed) → k.label n ≢ none → edges'.count ≡ edges.count + 1
       → ((f number : ℕ → ℕ) (es : List ℕ) (e : ℕ) → AreEdges f number es edges.crossings.items edges.order.items → f e ≡ k.label n → number e ≡ edges.count
-          → AreEdges f number (es ++ e ∷ []) edges'.crossings.items edges'.order.items)
+      → AreEdges f number (es ++ e ∷ []) edges'.crossings.items edges'.order.items)
       → EdgesNext edges'
   edges_next edges' d count more =
       let crosses : is_crossing k.volume.grid (heights k.volume) n ≡ true = h.told n h.least inside ∙ ap not (ne_eqb (k.label n) none d) in (
         subst (λ es. AreEdges k.label (rank k.volume.grid (heights k.volume)) es edges'.crossings.items edges'.order.items) (sym (before_next k.volume n true crosses))
-        (more k.label (rank k.volume.grid (heights k.volume)) (edges_before k.volume n) n h.edges_are refl (sym h.passed)),
+            (more k.label (rank k.volume.grid (heights k.volume)) (edges_before k.volume n) n h.edges_are refl (sym h.passed)),
         count ∙ (ap (λ z. z + 1) h.passed ∙ sym (rank_next k.volume n true crosses)),
       )
 

@@ -22,7 +22,6 @@ no_pairs n ps e = subst (ArePaired n) (sym e) record {
   back = λ i l. absurd (omega arith);
 }
 
-
 module _ (v : Leveled) where
   no_edges : edges_before v 0 ≡ []
   unfolding edges_before

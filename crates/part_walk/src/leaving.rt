@@ -25,12 +25,7 @@ fn leave(labels: &mut Labels, edges: &mut Passed, place: u32) -> Result<(), Memo
 
 /// Leaves so many edges behind from a place on.
 #[inline(always)]
-fn leave_run(
-    labels: &mut Labels,
-    edges: &mut Passed,
-    place: u32,
-    count: u32,
-) -> Result<(), Memory>
+fn leave_run(labels: &mut Labels, edges: &mut Passed, place: u32, count: u32) -> Result<(), Memory>
     requires place { place + count ≤ room labels.old.marks.grid }
     requires state { CanLeave place count labels.old edges.old }
     ensures { OnOk result (HasLeft place count labels.old edges.old labels.new edges.new) }

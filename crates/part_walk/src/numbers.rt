@@ -1,6 +1,6 @@
 //! The numbers of a mesh and of its components.
 
-ghost use Rattle.std.specs.Prelude.{◌≡◌, IfOk, length};
+ghost use Rattle.std.specs.Prelude.{◌≡◌, ◌+◌, ◌*◌, ◌/◌, ◌<◌, IfOk, length, pos, ◌+ℤ◌, ◌-ℤ◌};
 ghost use Rattle.iso_defs.specs.Scratch.{triangles, vertices};
 ghost use Rattle.iso_base.specs.Shifted.{field};
 ghost use Rattle.mesh_report.specs.Report.{summary_of};
@@ -20,7 +20,17 @@ use std::sync::ledger::Ledger;
 use stitch_rows::CellRows;
 
 /// The numbers of so many crossing edges and of what is added up of loops.
-fn part_of(least: u32, crossings: u32, counts: &Counts) -> Part {
+fn part_of(least: u32, crossings: u32, counts: &Counts) -> Part
+    requires vertices { crossings + counts.now.centres < 4294967296 }
+    requires faces { counts.now.threes + counts.now.spokes < 4294967296 }
+    requires border { counts.now.border < 4294967296 * 12 }
+    ensures least { result.least ≡ least }
+    ensures vertices { result.vertices ≡ crossings + counts.now.centres }
+    ensures edges { result.edges ≡ (3 * counts.now.threes + counts.now.spokes + counts.now.border) / 2 + counts.now.spokes }
+    ensures faces { result.faces ≡ counts.now.threes + counts.now.spokes }
+    ensures border { result.border ≡ counts.now.border }
+    ensures euler { result.euler ≡ (pos result.vertices -ℤ pos result.edges) +ℤ pos result.faces }
+{
     let vertices = crossings + counts.centres as u32;
     let rims = 3 * counts.threes + counts.spokes;
     let edges = (rims + counts.border) / 2 + counts.spokes;

@@ -1,6 +1,6 @@
 //! Where the vertices of a loop are.
 
-ghost use Rattle.std.specs.Prelude.{◌≡◌, ◌<◌};
+ghost use Rattle.std.specs.Prelude.{◌≡◌, ◌<◌, ◌^◌, All, unsigned_abs};
 ghost use Rattle.iso_defs.specs.Cell.{edge_corner};
 
 use edge_points::{place_or_any, x_in_cell, y_in_cell, z_in_cell};
@@ -25,7 +25,10 @@ pub fn lower_corner(edge: u8) -> u8
 /// The position of the vertex on a crossing edge of a cell, in thousandths from the cell's lowest point, from the shifted values of the
 /// cell's corners.
 #[inline(always)]
-pub fn local_position(heights: &[i64; 8], edge: u8) -> [i64; 3] {
+pub fn local_position(heights: &[i64; 8], edge: u8) -> [i64; 3]
+    requires edge { edge < 12 }
+    requires bound { All (λ h. unsigned_abs h < 2 ^ 44) heights.now }
+{
     let at = place_or_any(
         heights[LOWER[edge as usize] as usize],
         heights[UPPER[edge as usize] as usize],
