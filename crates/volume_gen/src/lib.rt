@@ -1,12 +1,12 @@
 //! The volume that a seed generates, as a list and as a file, and the lines of the soak script of a seed.
 #![tactic(auto)]
 
+mod blocks;
 mod rows;
-mod samples;
 mod script_lines;
 mod soak;
 mod steps;
 
+pub use blocks::generated;
 pub use rows::put_generated;
-pub use samples::generated;
 pub use soak::SoakLines;

@@ -6,7 +6,7 @@ ghost use Rattle.byte_streams.specs.Seen.{Puts, Stages};
 ghost use Rattle.nrrd.specs.Writing.{samples_text, save_text};
 ghost use Rattle.volume_gen.specs.Generated.{first_samples, generated_volume, row_samples};
 
-use crate::samples::block_sample;
+use crate::blocks::block_sample;
 use byte_streams::{Failed, Sink, stage, write_all_of};
 use iso_base::{SampleKind, Sizes};
 use nrrd::put_nrrd_head;
