@@ -164,7 +164,7 @@ fn extract_bytes<K: Sink>(alloc: Global, asked: Asked, bytes: Vec<u8>, output: &
 }
 
 /// Writes the mesh of the volume in the input, which is never held. Raw samples stay in the bytes of the file, with a pad and
-/// without; samples in print are made a list first, and the bytes let go.
+/// without; text and hex samples are made a list first, and the bytes freed.
 pub fn extract<S: Source, K: Sink>(
     alloc: Global,
     level: Level,

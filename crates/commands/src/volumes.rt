@@ -102,7 +102,7 @@ fn bricks_of_raw(
 }
 
 /// The volume of a file in bricks, in its pad, above which the level is to be; or the first reason why there is none. Raw
-/// samples are read into the bricks out of the file's bytes; of samples in print the bytes are let go first.
+/// samples are read into the bricks out of the file's bytes; of text and hex samples the bytes are freed first.
 pub fn bricks_in(
     alloc: Global,
     bytes: Vec<u8>,
