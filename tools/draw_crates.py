@@ -1,30 +1,37 @@
 #!/usr/bin/env python3
-"""Draws the crates into docs/architecture.md, from crates.txt.
+"""Draws the crates into docs/architecture.md, from crates.txt and from the README.md of each.
 
     python3 tools/draw_crates.py            ends with 1 if what stands there is not what would be drawn
-    python3 tools/draw_crates.py --write    draws them between the two marks
+    python3 tools/draw_crates.py --write    draws it between the marks
+    python3 tools/draw_crates.py --above NAME    lists the crates that depend on one, lowest first: they are proved again if it changes
 
-Two figures: the crates by height, where a crate stands one above the highest that it names; and a graph, in which an arrow
-leads from a crate to one that it names, unless it stands on that one by way of another as well. Crates of tests and of runs
-are in the first alone.
+First a list by the groups of crates.txt, which begin with a comment `# == GROUP ==`: each crate with a link to its README.md
+and with what stands below the title there. Then two figures: the crates by height, where a crate stands one above the highest
+that it depends on; and a graph by groups, in which an arrow leads from a crate to one that it depends on, unless it depends
+on that one by way of another as well. Crates of tests and of runs are not in the graph.
 """
 import pathlib
+import re
 import sys
 
 TOP = pathlib.Path(__file__).resolve().parent.parent
 PAGE = TOP / "docs" / "architecture.md"
 BEGIN = "<!-- drawn by tools/draw_crates.py -->"
 END = "<!-- end of what is drawn -->"
+GROUP = re.compile(r"# == (.*) ==")
 
 
 def crates():
-    """Each crate of this repository with those of this repository that it names, in the order of crates.txt."""
-    named = {}
+    """The groups, each with its crates, and each crate of this repository with those of this repository that it depends on."""
+    groups, named = {}, {}
     for line in (TOP / "crates.txt").read_text(encoding="utf-8").splitlines():
+        if heading := GROUP.fullmatch(line):
+            groups[heading[1]] = inside = []
         name, colon, others = line.split("#")[0].partition(":")
         if colon:
+            inside.append(name.strip())
             named[name.strip()] = others.split()
-    return {name: [other for other in others if other in named] for name, others in named.items()}
+    return groups, {name: [other for other in others if other in named] for name, others in named.items()}
 
 
 def below_each(named):
@@ -54,6 +61,18 @@ def heights(named):
     return height
 
 
+def purpose(name):
+    """What stands below the title of a crate's README.md."""
+    return (TOP / "crates" / name / "README.md").read_text(encoding="utf-8").splitlines()[2]
+
+
+def by_group(groups):
+    lines = []
+    for group, inside in groups.items():
+        lines += ["", f"### {group}", "", *(f"- [{name}](../crates/{name}/README.md): {purpose(name)}" for name in inside)]
+    return lines[1:]
+
+
 def by_height(named):
     height = heights(named)
     lines = ["```text"]
@@ -62,28 +81,42 @@ def by_height(named):
     return lines + ["```"]
 
 
-def graph(named):
+def graph(groups, named):
     below = below_each(named)
     lines = ["```mermaid", "flowchart BT"]
-    for name, others in named.items():
-        if name.endswith(("_tests", "_runs")):
-            continue
-        direct = [other for other in others if not any(other in below[third] for third in others)]
+    shown = [name for name in named if not name.endswith(("_tests", "_runs"))]
+    for number, (group, inside) in enumerate(groups.items()):
+        drawn = [name for name in inside if name in shown]
+        if drawn:
+            lines += [f'    subgraph group_{number}["{group}"]', *(f"        {name}" for name in drawn), "    end"]
+    for name in shown:
+        direct = [other for other in named[name] if not any(other in below[third] for third in named[name])]
         if direct:
             lines.append(f"    {name} --> {' & '.join(direct)}")
     return lines + ["```"]
 
 
+def with_drawn(page, drawings):
+    """The page with each drawing between a pair of marks, in order."""
+    first, *rest = page.split(BEGIN)
+    parts = [first]
+    for drawing, part in zip(drawings, rest, strict=True):
+        parts.append("\n".join([BEGIN, "", *drawing, "", END]) + part.split(END)[1])
+    return "".join(parts)
+
+
 def main():
     words = sys.argv[1:]
+    groups, named = crates()
+    if len(words) == 2 and words[0] == "--above" and words[1] in named:
+        below, height = below_each(named), heights(named)
+        print("\n".join(sorted((name for name in named if words[1] in below[name]), key=height.get)))
+        sys.exit(0)
     if words not in ([], ["--write"], ["--check"]):
         print(__doc__, end="")
         sys.exit(0 if words == ["--help"] else 2)
-    named = crates()
     page = PAGE.read_text(encoding="utf-8")
-    before, rest = page.split(BEGIN)
-    after = rest.split(END)[1]
-    drawn = before + "\n".join([BEGIN, "", *by_height(named), "", *graph(named), "", END]) + after
+    drawn = with_drawn(page, [by_group(groups), by_height(named), graph(groups, named)])
     if words == ["--write"]:
         PAGE.write_text(drawn, encoding="utf-8")
         sys.exit(0)
