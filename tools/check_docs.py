@@ -12,7 +12,8 @@ as a comment of the page:
     <!-- needs TOOL, TOOL -->    it is passed over where one of these is not on the path
     <!-- not run: WHY -->  it is never run here
 
-Then each link of a page to a file of this repository, with its place in it, is looked up; and so is what guarantees.md names:
+Then each link of a page, or of the README.md of a crate, to a file of this repository, with its place in it, is looked up; and
+so is what guarantees.md names:
 each call `crate::call` and `crate::Type::call`, each clause of `commands::run`, the clauses of the calls of a row, and the
 number of lines of each file.
 """
@@ -36,7 +37,8 @@ CLAUSES = re.compile(r"^\| [^|]* \| ((?:`[a-z_]+`(?:, )?)+) \|$", re.MULTILINE)
 
 
 def pages():
-    return [TOP / "README.md", TOP / "CHANGELOG.md", TOP / "examples" / "README.md", *sorted((TOP / "docs").glob("*.md"))]
+    named = [TOP / "README.md", TOP / "CHANGELOG.md", TOP / "examples" / "README.md"]
+    return [*named, *sorted((TOP / "docs").glob("*.md")), *sorted((TOP / "crates").glob("*/README.md"))]
 
 
 def blocks_of(page):
@@ -179,6 +181,8 @@ def main():
         if words:
             for line, _, above, shown in steps_of(page):
                 print(f"{page.relative_to(TOP)}:{line}: {why_not(above) or ('run and compared' if shown else 'run')}")
+            continue
+        if not steps_of(page):
             continue
         with tempfile.TemporaryDirectory() as room:
             shutil.copytree(TOP / "examples", f"{room}/examples")

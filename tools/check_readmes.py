@@ -1,0 +1,160 @@
+#!/usr/bin/env python3
+"""Checks the README.md of each crate against the crate's sources.
+
+    python3 tools/check_readmes.py      ends with 1 if one is missing or too long, or names what is not there
+
+A README.md has at most ten lines, and docs/architecture.md links it. What is in backticks is one of these:
+
+    `name`, `Type::name`           is declared in src/ or specs/ of the crate, or is the name of a crate
+    `crate::name`                  is declared there in that crate
+    `crate/Module`: `name`, ..     a file in specs/ of that crate, and what is declared in it
+    call .. (`name`, ..)           in a line on what is proved: clauses of calls named before the bracket
+    `folder/`                      a folder of the repository
+"""
+import functools
+import pathlib
+import re
+import sys
+
+TOP = pathlib.Path(__file__).resolve().parent.parent
+CRATES = TOP / "crates"
+MOST_LINES = 10
+NAME = r"`[\w:]+`"
+MODULE = re.compile(rf"`(\w+)/(\w+)`(?:: ({NAME}(?:(?:, | and ){NAME})*))?")
+BRACKET = re.compile(rf"\(({NAME}(?:, {NAME})*)\)")
+QUOTED = re.compile(r"`([^`]+)`")
+DECLARED = re.compile(r"\b(?:fn|struct|enum|trait|type|const|macro_rules!) (\w+)")
+USED = re.compile(r"\bpub use ([^;]*);")
+DEFINED = re.compile(r"^\s*(?:\w+ )*?pub (?:record |data )?(\w+)", re.MULTILINE)
+BLOCK = re.compile(r"^(?:pub )?(?:impl(?:<.*?>)?(?: [\w<>', :]+ for)?|trait|struct|enum) (\w+)")
+CALL = re.compile(r"^\s*(?:pub )?(?:const )?fn (\w+)")
+CLAUSE = re.compile(r"\bensures\*? (\w+) \{")
+
+
+def names():
+    """The crates of this repository."""
+    lines = (TOP / "crates.txt").read_text(encoding="utf-8").splitlines()
+    return [line.partition(":")[0] for line in lines if re.match(r"[a-z]", line)]
+
+
+def texts(crate, part, ending):
+    return [file.read_text(encoding="utf-8") for file in sorted((CRATES / crate / part).glob(f"*.{ending}"))]
+
+
+@functools.cache
+def declared(crate):
+    """All names that are declared in the src/ and specs/ of a crate, and those that it re-exports."""
+    found = set()
+    for text in texts(crate, "src", "rt"):
+        found.update(DECLARED.findall(text))
+        found.update(name for listed in USED.findall(text) for name in re.findall(r"\w+", listed))
+    for text in texts(crate, "specs", "antt"):
+        found.update(DEFINED.findall(text))
+    return found
+
+
+@functools.cache
+def defined(crate, module):
+    """What a file of definitions declares; None where there is no such file."""
+    file = CRATES / crate / "specs" / f"{module}.antt"
+    return set(DEFINED.findall(file.read_text(encoding="utf-8"))) if file.exists() else None
+
+
+@functools.cache
+def calls(crate):
+    """The clauses of each call, by the call's name and, in a type or a trait, by both names too."""
+    found = {}
+    for text in texts(crate, "src", "rt"):
+        owner = call = None
+        for line in text.splitlines():
+            block, head = BLOCK.match(line), CALL.match(line)
+            if block:
+                owner = block[1]
+            if head:
+                call = [head[1], f"{owner}::{head[1]}"] if line.startswith(" ") else [head[1]]
+            elif re.match(r"\s*\{|\}", line):
+                call = None
+            owner = None if line.startswith("}") else owner
+            for name in call or []:
+                found.setdefault(name, set()).update(CLAUSE.findall(line))
+    return found
+
+
+@functools.cache
+def variants(crate, owner):
+    """The variants of an enum."""
+    bodies = re.findall(rf"\benum {owner} \{{(.*?)^\}}", "\n".join(texts(crate, "src", "rt")), re.MULTILINE | re.DOTALL)
+    return {name for body in bodies for name in re.findall(r"^ +([A-Z]\w*)", body, re.MULTILINE)}
+
+
+def split(crate, path, crates):
+    """The crate that a path begins in, and the rest of it."""
+    first, _, rest = path.partition("::")
+    return (first, rest) if rest and first in crates else (crate, path)
+
+
+def is_there(crate, path, crates):
+    """Whether a name is declared in the crate that it begins with, or else in this one."""
+    where, rest = split(crate, path, crates)
+    owner, _, name = rest.rpartition("::")
+    if owner:
+        return rest in calls(where) or name in variants(where, owner)
+    return rest in declared(where) or rest in crates or path.endswith("/") and (TOP / path).is_dir()
+
+
+def lost_definitions(line, crates):
+    """The files of definitions that a line names and that are not there, and what they do not declare."""
+    for crate, module, listed in MODULE.findall(line):
+        known = defined(crate, module) if crate in crates else None
+        if known is None:
+            yield f"no definitions {crate}/{module}"
+            continue
+        yield from (f"no {name} in {crate}/{module}" for name in re.findall(r"\w+", listed) if name not in known | {"and"})
+
+
+def lost_clauses(crate, line, crates):
+    """The clauses in brackets that no call named before the bracket has."""
+    begin, known = 0, set()
+    for bracket in BRACKET.finditer(line):
+        clauses = re.findall(r"`(\w+)`", bracket[1])
+        if any(re.search(r"[A-Z]", clause) for clause in clauses) or not clauses:
+            continue
+        before = [split(crate, path, crates) for path in QUOTED.findall(line[begin:bracket.start()])]
+        new = [calls(where)[path] for where, path in before if path in calls(where)]
+        begin, known = bracket.end(), set().union(*new) if new else known
+        yield from (f"no clause {clause} of the calls before it" for clause in clauses if clause not in known)
+
+
+def lost(crate, line, crates):
+    """What a line names and is not there."""
+    yield from lost_definitions(line, crates)
+    rest = MODULE.sub("", line)
+    if line.startswith("- Proved"):
+        yield from lost_clauses(crate, rest, crates)
+        rest = BRACKET.sub(lambda found: found[0] if re.search(r"[A-Z]|::", found[0]) else "", rest)
+    yield from (f"no {path}" for path in QUOTED.findall(rest) if not is_there(crate, path, crates))
+
+
+def main():
+    if sys.argv[1:]:
+        print(__doc__, end="")
+        sys.exit(0 if sys.argv[1:] == ["--help"] else 2)
+    wrong = []
+    crates = names()
+    page = (TOP / "docs" / "architecture.md").read_text(encoding="utf-8")
+    for crate in crates:
+        name = f"crates/{crate}/README.md"
+        if f"](../{name})" not in page:
+            wrong.append(f"docs/architecture.md: no link to {name}")
+        if not (TOP / name).exists():
+            wrong.append(f"{name}: there is none")
+            continue
+        lines = (TOP / name).read_text(encoding="utf-8").splitlines()
+        if len(lines) > MOST_LINES:
+            wrong.append(f"{name}: more than {MOST_LINES} lines")
+        wrong += [f"{name}:{number}: {what}" for number, line in enumerate(lines, 1) for what in lost(crate, line, set(crates))]
+    print("".join(f"{it}\n" for it in wrong), end="")
+    sys.exit(1 if wrong else 0)
+
+
+main()
