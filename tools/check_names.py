@@ -1,15 +1,19 @@
 #!/usr/bin/env python3
-"""Checks the README.md of each crate against the crate's sources.
+"""Checks the README.md of each crate, and the pages of docs/, against the crates' sources.
 
-    python3 tools/check_readmes.py      ends with 1 if one is missing or too long, or names what is not there
+    python3 tools/check_names.py      ends with 1 if a README.md is missing or too long, or something is named that is not there
 
-A README.md has at most ten lines, and docs/architecture.md links it. What is in backticks is one of these:
+A README.md has at most ten lines, and docs/architecture.md links it. What is in its backticks is one of these:
 
     `name`, `Type::name`           is declared in src/ or specs/ of the crate, or is the name of a crate
     `crate::name`                  is declared there in that crate
     `crate/Module`: `name`, ..     a file in specs/ of that crate, and what is declared in it
     call .. (`name`, ..)           in a line on what is proved: clauses of calls named before the bracket
     `folder/`                      a folder of the repository
+
+Of README.md and docs/ the second and third form are looked up, and this one, where the file may lack its ending:
+
+    `crate/path`: `name`, ..       a file or folder in a crate, and what stands in it
 """
 import functools
 import pathlib
@@ -20,6 +24,7 @@ TOP = pathlib.Path(__file__).resolve().parent.parent
 CRATES = TOP / "crates"
 MOST_LINES = 10
 NAME = r"`[\w:]+`"
+PATH = re.compile(rf"`(\w+/[\w/.-]+)`(?:: ({NAME}(?:(?:, | and ){NAME})*))?")
 MODULE = re.compile(rf"`(\w+)/(\w+)`(?:: ({NAME}(?:(?:, | and ){NAME})*))?")
 BRACKET = re.compile(rf"\(({NAME}(?:, {NAME})*)\)")
 QUOTED = re.compile(r"`([^`]+)`")
@@ -98,7 +103,8 @@ def is_there(crate, path, crates):
     where, rest = split(crate, path, crates)
     owner, _, name = rest.rpartition("::")
     if owner:
-        return rest in calls(where) or name in variants(where, owner)
+        in_module = (CRATES / where / "src" / f"{owner}.rt").exists() and name in declared(where)
+        return in_module or rest in calls(where) or name in variants(where, owner)
     return rest in declared(where) or rest in crates or path.endswith("/") and (TOP / path).is_dir()
 
 
@@ -135,12 +141,41 @@ def lost(crate, line, crates):
     yield from (f"no {path}" for path in QUOTED.findall(rest) if not is_there(crate, path, crates))
 
 
+def text_at(path, crates):
+    """What stands in a file of a crate, by its path without `crates/`, and where it may lack its ending; None where there is none."""
+    crate, _, rest = path.partition("/")
+    names = [path, f"{path}.rt", f"{path}.antt", f"{crate}/specs/{rest}.antt"]
+    for file in [CRATES / name for name in names] if crate in crates else []:
+        if file.is_file():
+            return file.read_text(encoding="utf-8")
+    return "" if crate in crates and (CRATES / path).is_dir() else None
+
+
+def lost_in_page(line, crates):
+    """The paths, calls and names that a line of a page has and the crates do not."""
+    for path, listed in PATH.findall(line):
+        text = text_at(path, crates)
+        if text is None and path.split("/")[0] in crates:
+            yield f"no {path}"
+        elif text:
+            yield from (f"no {name} in {path}" for name in QUOTED.findall(listed) if not re.search(rf"\b{name.split('::')[-1]}\b", text))
+    for path in QUOTED.findall(line):
+        if re.fullmatch(r"\w+(::\w+)+", path) and path.split("::")[0] in crates and not is_there("", path, crates):
+            yield f"no {path}"
+
+
+def lost_in_pages(crates):
+    for page in [TOP / "README.md", *sorted((TOP / "docs").glob("*.md"))]:
+        for number, line in enumerate(page.read_text(encoding="utf-8").splitlines(), 1):
+            yield from (f"{page.relative_to(TOP)}:{number}: {what}" for what in lost_in_page(line, crates))
+
+
 def main():
     if sys.argv[1:]:
         print(__doc__, end="")
         sys.exit(0 if sys.argv[1:] == ["--help"] else 2)
-    wrong = []
     crates = names()
+    wrong = list(lost_in_pages(set(crates)))
     page = (TOP / "docs" / "architecture.md").read_text(encoding="utf-8")
     for crate in crates:
         name = f"crates/{crate}/README.md"
