@@ -14,6 +14,8 @@ A README.md has at most ten lines, and docs/architecture.md links it. What is in
 Of README.md and docs/ the second and third form are looked up, and this one, where the file may lack its ending:
 
     `crate/path`: `name`, ..       a file or folder in a crate, and what stands in it
+
+A comment of the code cites a decision by the heading of its entry, as `DECISIONS.md, "Ties"`.
 """
 import functools
 import pathlib
@@ -26,6 +28,7 @@ MOST_LINES = 10
 NAME = r"`[\w:]+`"
 PATH = re.compile(rf"`(\w+/[\w/.-]+)`(?:: ({NAME}(?:(?:, | and ){NAME})*))?")
 MODULE = re.compile(rf"`(\w+)/(\w+)`(?:: ({NAME}(?:(?:, | and ){NAME})*))?")
+CITED = re.compile(r'DECISIONS\.md, "([^"]+)"')
 BRACKET = re.compile(rf"\(({NAME}(?:, {NAME})*)\)")
 QUOTED = re.compile(r"`([^`]+)`")
 DECLARED = re.compile(r"\b(?:fn|struct|enum|trait|type|const|macro_rules!) (\w+)")
@@ -170,12 +173,21 @@ def lost_in_pages(crates):
             yield from (f"{page.relative_to(TOP)}:{number}: {what}" for what in lost_in_page(line, crates))
 
 
+def lost_decisions():
+    """The decisions that the code cites and that docs/DECISIONS.md does not have."""
+    headings = re.findall(r"^### (.*)$", (TOP / "docs" / "DECISIONS.md").read_text(encoding="utf-8"), re.MULTILINE)
+    for file in sorted(CRATES.glob("*/src/**/*.rt")):
+        for cited in CITED.findall(file.read_text(encoding="utf-8")):
+            if cited not in headings:
+                yield f"{file.relative_to(TOP)}: no decision {cited}"
+
+
 def main():
     if sys.argv[1:]:
         print(__doc__, end="")
         sys.exit(0 if sys.argv[1:] == ["--help"] else 2)
     crates = names()
-    wrong = list(lost_in_pages(set(crates)))
+    wrong = [*lost_in_pages(set(crates)), *lost_decisions()]
     page = (TOP / "docs" / "architecture.md").read_text(encoding="utf-8")
     for crate in crates:
         name = f"crates/{crate}/README.md"
