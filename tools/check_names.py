@@ -3,7 +3,8 @@
 
     python3 tools/check_names.py      ends with 1 if a README.md is missing or too long, or something is named that is not there
 
-A README.md has at most ten lines, and docs/architecture.md links it. What is in its backticks is one of these:
+A README.md has at most ten lines: its title, what the crate has, and then how that is stated, what is proved and what is not.
+docs/architecture.md links it. What is in its backticks is one of these:
 
     `name`, `Type::name`           is declared in src/ or specs/ of the crate, or is the name of a crate
     `crate::name`                  is declared there in that crate
@@ -25,6 +26,7 @@ import sys
 TOP = pathlib.Path(__file__).resolve().parent.parent
 CRATES = TOP / "crates"
 MOST_LINES = 10
+PARTS = ["- Stated by ", "- Proved: ", "- Not proved: "]
 NAME = r"`[\w:]+`"
 PATH = re.compile(rf"`(\w+/[\w/.-]+)`(?:: ({NAME}(?:(?:, | and ){NAME})*))?")
 MODULE = re.compile(rf"`(\w+)/(\w+)`(?:: ({NAME}(?:(?:, | and ){NAME})*))?")
@@ -182,24 +184,32 @@ def lost_decisions():
                 yield f"{file.relative_to(TOP)}: no decision {cited}"
 
 
+def lost_in_readme(crate, page, crates):
+    """What is wrong with the README.md of a crate, and what it names and is not there."""
+    name = f"crates/{crate}/README.md"
+    if f"](../{name})" not in page:
+        yield f"docs/architecture.md: no link to {name}"
+    if not (TOP / name).exists():
+        yield f"{name}: there is none"
+        return
+    lines = (TOP / name).read_text(encoding="utf-8").splitlines()
+    if len(lines) > MOST_LINES:
+        yield f"{name}: more than {MOST_LINES} lines"
+    if lines[:1] != [f"# {crate}"]:
+        yield f"{name}: its title is not {crate}"
+    yield from (f"{name}: no line begins with `{part}`" for part in PARTS if not any(line.startswith(part) for line in lines))
+    for number, line in enumerate(lines, 1):
+        yield from (f"{name}:{number}: {what}" for what in lost(crate, line, crates))
+
+
 def main():
     if sys.argv[1:]:
         print(__doc__, end="")
         sys.exit(0 if sys.argv[1:] == ["--help"] else 2)
     crates = names()
-    wrong = [*lost_in_pages(set(crates)), *lost_decisions()]
     page = (TOP / "docs" / "architecture.md").read_text(encoding="utf-8")
-    for crate in crates:
-        name = f"crates/{crate}/README.md"
-        if f"](../{name})" not in page:
-            wrong.append(f"docs/architecture.md: no link to {name}")
-        if not (TOP / name).exists():
-            wrong.append(f"{name}: there is none")
-            continue
-        lines = (TOP / name).read_text(encoding="utf-8").splitlines()
-        if len(lines) > MOST_LINES:
-            wrong.append(f"{name}: more than {MOST_LINES} lines")
-        wrong += [f"{name}:{number}: {what}" for number, line in enumerate(lines, 1) for what in lost(crate, line, set(crates))]
+    wrong = [it for crate in crates for it in lost_in_readme(crate, page, set(crates))]
+    wrong += [*lost_in_pages(set(crates)), *lost_decisions()]
     print("".join(f"{it}\n" for it in wrong), end="")
     sys.exit(1 if wrong else 0)
 

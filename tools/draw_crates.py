@@ -23,11 +23,13 @@ GROUP = re.compile(r"# == (.*) ==")
 
 def crates():
     """The groups, each with its crates, and each crate of this repository with those of this repository that it depends on."""
-    groups, named = {}, {}
+    groups, named, inside = {}, {}, None
     for line in (TOP / "crates.txt").read_text(encoding="utf-8").splitlines():
         if heading := GROUP.fullmatch(line):
             groups[heading[1]] = inside = []
         name, colon, others = line.split("#")[0].partition(":")
+        if colon and inside is None:
+            sys.exit(f"crates.txt: {name.strip()} stands in no group")
         if colon:
             inside.append(name.strip())
             named[name.strip()] = others.split()
@@ -63,7 +65,10 @@ def heights(named):
 
 def purpose(name):
     """What stands below the title of a crate's README.md."""
-    return (TOP / "crates" / name / "README.md").read_text(encoding="utf-8").splitlines()[2]
+    readme = TOP / "crates" / name / "README.md"
+    if not readme.exists():
+        sys.exit(f"{readme.relative_to(TOP)}: there is none")
+    return readme.read_text(encoding="utf-8").splitlines()[2]
 
 
 def by_group(groups):
