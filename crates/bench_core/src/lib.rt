@@ -10,6 +10,7 @@ mod fault;
 mod follow;
 mod summary;
 mod surface;
+mod walked;
 mod windows;
 
 pub use bench::Bench;

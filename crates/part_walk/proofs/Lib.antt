@@ -1,0 +1,9 @@
+pub mod BorderSteps
+pub mod CountLaws
+pub mod PassedLaws
+pub mod LeftLaws
+pub mod WalkLaws
+pub mod LongerLaws
+pub mod CellLaws
+pub mod RowLaws
+pub mod StartLaws

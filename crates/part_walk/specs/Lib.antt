@@ -1,0 +1,5 @@
+pub mod Sums
+pub mod Counts
+pub mod Passed
+pub mod Walks
+pub mod Sweep

@@ -1,0 +1,192 @@
+//! The walk over the rows of points.
+
+ghost use Rattle.std.specs.Prelude.{◌≡◌, ℕ, ◌+◌, ◌*◌, ◌<◌, ◌≤◌, IfOk, OnOk, length};
+ghost use Rattle.flat_mesh.specs.Lattice.{heights};
+ghost use Rattle.flat_mesh.specs.Rows.{row_start};
+ghost use Rattle.span_tree.specs.Spans.{IsRightFor};
+ghost use Rattle.iso_base.specs.Shifted.{field as field_of};
+ghost use Rattle.stitch_rows.specs.Bricks.{AreMarked, first_brick};
+ghost use Rattle.stitch_rows.specs.Named.{NamesCases};
+ghost use Rattle.stitch_rows.specs.Rows.{AreCases, at_level};
+ghost use Rattle.part_walk.specs.Walks.{IsWalked, loops_before};
+
+use crate::cells::add_cells;
+use crate::leaving::leave_edges;
+use crate::tally::Tally;
+use crate::walked::Walked;
+use brick_store::BrickStore;
+use iso_base::{Level, Memory, Steps};
+use span_tree::SpanTree;
+use std::alloc::Global;
+use std::sync::ledger::Ledger;
+use stitch_rows::{ActiveRow, CellRows, Field, case_row, count_along};
+
+/// Labels the loops of the cells of a row, from their cases.
+fn add_row<T: Tally>(
+    field: &Field,
+    active: &ActiveRow,
+    walked: &mut Walked<T>,
+    y: u32,
+    z: u32,
+    cases: &[u16],
+) -> Result<(), Memory>
+    requires active { AreMarked field.now active.now }
+    requires first { active.now.first ≡ first_brick field.now.grid y z }
+    requires y { y + 1 < field.now.grid.ny }
+    requires z { z + 1 < field.now.grid.nz }
+    requires count { length cases.now ≡ field.now.grid.nx }
+    requires cases { AreCases field.now y z cases.now }
+    requires state { IsWalked T.value T.fits T.of_loop field.now (y + field.now.grid.ny * z) (loops_before field.now (row_start field.now.grid y z)) walked.old.labels walked.old.tallies.items walked.old.edges }
+    ensures { OnOk result (IsWalked T.value T.fits T.of_loop field.now (y + field.now.grid.ny * z) (loops_before field.now (row_start field.now.grid y z + field.now.grid.nx))
+        walked.new.labels walked.new.tallies.items walked.new.edges) }
+{
+    let sizes = field.sizes();
+    let places = walked.labels.places(y + sizes.ny() * z);
+    let last = sizes.nx() - 1;
+    let count = count_along(sizes.nx());
+    let mut x = active.next_from(field, 0, y, z);
+    while x < count {
+        let end = (8 * x + 8).min(last);
+        add_cells(field, walked, &places, y, z, 8 * x, end, cases)?;
+        x = active.next_from(field, x + 1, y, z);
+    }
+    Ok(())
+}
+
+/// The same of the row that begins at a row of points, if these begin one.
+fn add_row_from<T: Tally, R: CellRows, L: Ledger>(
+    field: &Field,
+    active: &ActiveRow,
+    rows: &mut R,
+    walked: &mut Walked<T>,
+    y: u32,
+    z: u32,
+    cases: &mut [u16],
+    steps: &mut Steps<L>,
+) -> Result<(), Memory>
+    requires active { AreMarked field.now active.now }
+    requires first { active.now.first ≡ first_brick field.now.grid y z }
+    requires y { y < field.now.grid.ny }
+    requires z { z < field.now.grid.nz }
+    requires count { length cases.old ≡ field.now.grid.nx }
+    requires named { NamesCases (R.named rows.old) field.now.grid (heights field.now) }
+    requires state { IsWalked T.value T.fits T.of_loop field.now (y + field.now.grid.ny * z) (loops_before field.now (row_start field.now.grid y z)) walked.old.labels walked.old.tallies.items walked.old.edges }
+    ensures same { R.named rows.new ≡ R.named rows.old }
+    ensures walked { OnOk result (IsWalked T.value T.fits T.of_loop field.now (y + field.now.grid.ny * z) (loops_before field.now (row_start field.now.grid y z + field.now.grid.nx))
+        walked.new.labels walked.new.tallies.items walked.new.edges) }
+{
+    let sizes = field.sizes();
+    if y + 1 >= sizes.ny() || z + 1 >= sizes.nz() {
+        return Ok(());
+    }
+    case_row(field, active, rows, y, z, cases, steps);
+    add_row(field, active, walked, y, z, cases)?;
+    Ok(())
+}
+
+/// Leaves the edges behind that begin in a row of points.
+fn leave_row<T: Tally>(field: &Field, walked: &mut Walked<T>, y: u32, z: u32) -> Result<(), Memory>
+    requires y { y < field.now.grid.ny }
+    requires z { z < field.now.grid.nz }
+    requires state { IsWalked T.value T.fits T.of_loop field.now (y + field.now.grid.ny * z) (loops_before field.now (row_start field.now.grid y z + field.now.grid.nx)) walked.old.labels walked.old.tallies.items walked.old.edges }
+    ensures { OnOk result (IsWalked T.value T.fits T.of_loop field.now (y + field.now.grid.ny * z + 1) (loops_before field.now (row_start field.now.grid y z + field.now.grid.nx))
+        walked.new.labels walked.new.tallies.items walked.new.edges) }
+{
+    let sizes = field.sizes();
+    let place = walked.labels.row_place(y + sizes.ny() * z);
+    leave_edges(&mut walked.labels, &mut walked.edges, place, 3 * sizes.nx())?;
+    Ok(())
+}
+
+/// Labels the loops of the row of cells that a row of points begins, if it begins one, and leaves the edges behind that begin at these
+/// points.
+fn walk_row<T: Tally, R: CellRows, L: Ledger>(
+    field: &Field,
+    active: &mut ActiveRow,
+    rows: &mut R,
+    walked: &mut Walked<T>,
+    y: u32,
+    z: u32,
+    cases: &mut [u16],
+    steps: &mut Steps<L>,
+) -> Result<(), Memory>
+    requires active { AreMarked field.now active.old }
+    requires y { y < field.now.grid.ny }
+    requires z { z < field.now.grid.nz }
+    requires count { length cases.old ≡ field.now.grid.nx }
+    requires named { NamesCases (R.named rows.old) field.now.grid (heights field.now) }
+    requires state { IsWalked T.value T.fits T.of_loop field.now (y + field.now.grid.ny * z) (loops_before field.now (row_start field.now.grid y z)) walked.old.labels walked.old.tallies.items walked.old.edges }
+    ensures active { AreMarked field.now active.new }
+    ensures same { R.named rows.new ≡ R.named rows.old }
+    ensures walked { OnOk result (IsWalked T.value T.fits T.of_loop field.now (y + field.now.grid.ny * z + 1) (loops_before field.now (row_start field.now.grid y z + field.now.grid.nx))
+        walked.new.labels walked.new.tallies.items walked.new.edges) }
+{
+    let sizes = field.sizes();
+    active.mark(field, y, z);
+    if active.next_from(field, 0, y, z) >= count_along(sizes.nx()) {
+        return Ok(());
+    }
+    add_row_from(field, active, rows, walked, y, z, cases, steps)?;
+    leave_row(field, walked, y, z)?;
+    Ok(())
+}
+
+/// Labels the loops of a slice of cells, if the slice of points begins one, and leaves the edges behind that begin at these points.
+fn walk_slice<T: Tally, R: CellRows, L: Ledger>(
+    field: &Field,
+    active: &mut ActiveRow,
+    rows: &mut R,
+    walked: &mut Walked<T>,
+    z: u32,
+    cases: &mut [u16],
+    steps: &mut Steps<L>,
+) -> Result<(), Memory>
+    requires active { AreMarked field.now active.old }
+    requires z { z < field.now.grid.nz }
+    requires count { length cases.old ≡ field.now.grid.nx }
+    requires named { NamesCases (R.named rows.old) field.now.grid (heights field.now) }
+    requires state { IsWalked T.value T.fits T.of_loop field.now (field.now.grid.ny * z) (loops_before field.now (row_start field.now.grid 0 z)) walked.old.labels walked.old.tallies.items walked.old.edges }
+    ensures active { OnOk result (AreMarked field.now active.new) }
+    ensures same { OnOk result (R.named rows.new ≡ R.named rows.old) }
+    ensures walked { OnOk result (IsWalked T.value T.fits T.of_loop field.now (field.now.grid.ny * (z + 1)) (loops_before field.now (row_start field.now.grid 0 (z + 1)))
+        walked.new.labels walked.new.tallies.items walked.new.edges) }
+{
+    let sizes = field.sizes();
+    for y in 0..sizes.ny() {
+        walk_row(field, active, rows, walked, y, z, cases, steps)?;
+    }
+    Ok(())
+}
+
+/// Labels the loops of all cells.
+pub fn walk<T: Tally, R: CellRows, L: Ledger>(
+    alloc: Global,
+    store: &BrickStore,
+    tree: &SpanTree,
+    level: Level,
+    rows: &mut R,
+    steps: &mut Steps<L>,
+) -> Result<Walked<T>, Memory>
+    requires tree { IsRightFor tree.now store.now }
+    requires named { NamesCases (R.named rows.old) store.now.grid (field_of store.now.samples level) }
+    ensures { IfOk result (λ w. IsWalked T.value T.fits T.of_loop (at_level store.now level) (store.now.grid.ny * store.now.grid.nz) (loops_before (at_level store.now level) (row_start store.now.grid 0 store.now.grid.nz))
+        w.labels w.tallies.items w.edges) }
+{
+    let sizes = store.sizes();
+    let field = Field::new(store, tree, level);
+    let mut walked = Walked::new(alloc, sizes)?;
+    let mut cases = vec![in alloc; 0u16; sizes.nx() as usize]?;
+    let mut active = ActiveRow::new();
+    for z in 0..sizes.nz() {
+        walk_slice(
+            &field,
+            &mut active,
+            rows,
+            &mut walked,
+            z,
+            cases.as_mut_slice(),
+            steps,
+        )?;
+    }
+    Ok(walked)
+}
