@@ -3,3 +3,4 @@ pub mod Counts
 pub mod Passed
 pub mod Walks
 pub mod Sweep
+pub mod Components

@@ -1,4 +1,8 @@
-//! The loops of the components.
+//! The components, and what is added up of the loops of each.
+
+ghost use Rattle.std.specs.Prelude.{IfOk};
+ghost use Rattle.flat_mesh.specs.Lattice.{Leveled};
+ghost use Rattle.part_walk.specs.Components.{AreComponents, IsWhole};
 
 use crate::tally::Tally;
 use crate::walked::Walked;
@@ -19,7 +23,10 @@ pub struct Component<T> {
 pub fn components<T: Tally>(
     alloc: Global,
     walked: &Walked<T>,
-) -> Result<Vec<Component<T>>, Memory> {
+) -> Result<Vec<Component<T>>, Memory>
+    requires whole { (v : Leveled) × IsWhole T.value T.fits T.of_loop v walked.now.labels walked.now.tallies.items walked.now.edges }
+    ensures { IfOk result (λ cs. (v : Leveled) → IsWhole T.value T.fits T.of_loop v walked.now.labels walked.now.tallies.items walked.now.edges → AreComponents T.value T.fits T.of_loop v cs) }
+{
     let count = walked.labels.count();
     let joined = least_joined(alloc, count, walked.labels.pairs())?;
     let mut places = vec![in alloc; NONE; count as usize]?;

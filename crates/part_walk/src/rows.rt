@@ -8,6 +8,7 @@ ghost use Rattle.iso_base.specs.Shifted.{field as field_of};
 ghost use Rattle.stitch_rows.specs.Bricks.{AreMarked, first_brick};
 ghost use Rattle.stitch_rows.specs.Named.{NamesCases};
 ghost use Rattle.stitch_rows.specs.Rows.{AreCases, at_level};
+ghost use Rattle.part_walk.specs.Components.{IsWhole};
 ghost use Rattle.part_walk.specs.Walks.{IsWalked, loops_before};
 
 use crate::cells::add_cells;
@@ -169,8 +170,7 @@ pub fn walk<T: Tally, R: CellRows, L: Ledger>(
 ) -> Result<Walked<T>, Memory>
     requires tree { IsRightFor tree.now store.now }
     requires named { NamesCases (R.named rows.old) store.now.grid (field_of store.now.samples level) }
-    ensures { IfOk result (λ w. IsWalked T.value T.fits T.of_loop (at_level store.now level) (store.now.grid.ny * store.now.grid.nz) (loops_before (at_level store.now level) (row_start store.now.grid 0 store.now.grid.nz))
-        w.labels w.tallies.items w.edges) }
+    ensures { IfOk result (λ w. IsWhole T.value T.fits T.of_loop (at_level store.now level) w.labels w.tallies.items w.edges) }
 {
     let sizes = store.sizes();
     let field = Field::new(store, tree, level);
