@@ -1,16 +1,14 @@
 -- What is counted of the loops of a mesh and of its components.
-use Rattle.std.proofs.Common.{◌≡◌, ◌∙◌, ℕ, zero, suc, ◌+◌, ◌*◌, ◌<◌, ◌≤◌, ℤ, pos, ◌+ℤ◌, Bool, true, false, cond, ◌&&◌, List, [], ◌∷◌, map, length, get_or, All, refl, sym, ap, ap₂, subst, inl, inr, arith, eqb}
-use Rattle.std.proofs.lemmas.Int.{ints}
-use Rattle.std.proofs.lemmas.List.{get_or-map, get_or_default, length-map, same_lists}
+use Rattle.std.proofs.Common.{◌≡◌, ◌∙◌, ℕ, zero, suc, ◌+◌, ◌*◌, ◌<◌, ◌≤◌, ℤ, ◌+ℤ◌, Bool, true, false, cond, List, [], ◌∷◌, map, length, get_or, All, refl, sym, ap, ap₂, inl, inr, arith, eqb}
+use Rattle.std.proofs.lemmas.List.{get_or-map, length-map, same_lists}
 use Rattle.std.proofs.lemmas.List.FromFn.{length-range_with_len}
-use Rattle.std.proofs.lemmas.List.Sums.{count_by-le-length, length-filter, sum_by-cons, sum_by-le-sum_by}
+use Rattle.std.proofs.lemmas.List.Sums.{count_by-le-length, length-filter, sum_by-cons}
 use Rattle.std.specs.List.{count_by, filter, list_any, range_with_len, sum_by}
-use Rattle.iso_defs.specs.Cell.{Triangle}
-use Rattle.iso_defs.specs.Grid.{Grid, name_bound, point_count}
+use Rattle.iso_defs.specs.Grid.{name_bound}
 use Rattle.iso_defs.specs.Lists.{below}
 use Rattle.iso_defs.specs.Manifold.{uses}
 use Rattle.iso_defs.specs.Outside.{IsThick}
-use Rattle.iso_defs.specs.Scratch.{crossing_edges, has_centre, number_of, triangles, vertex_names, vertices}
+use Rattle.iso_defs.specs.Scratch.{has_centre, number_of, triangles, vertex_names, vertices}
 use Rattle.iso_defs.specs.Signs.{is_crossing}
 use Rattle.iso_defs.specs.Surface.{is_border}
 use Rattle.iso_base.specs.Sizing.{IsGrid}
@@ -25,7 +23,7 @@ use Rattle.crossing_edges.specs.Flags.{rank}
 use Rattle.flat_mesh.specs.Lattice.{Leveled, heights}
 use Rattle.mesh_report.specs.Report.{Summary, components, part_of, total_of, used}
 use Rattle.mesh_report.specs.declared.part.Part.{Part}
-use Rattle.mesh_report.proofs.NumberLaws.{count_filter, filter_all}
+use Rattle.mesh_report.proofs.NumberLaws.{filter_all}
 use Rattle.mesh_report.proofs.Sums.{sum_agree}
 use Rattle.measure.proofs.PlaceLaws.{in_place}
 use Rattle.measure_laws.specs.Totals.{total}
@@ -38,7 +36,6 @@ use Rattle.part_laws.specs.Parts.{class_loops, class_part, classes, part_by}
 use Rattle.part_laws.proofs.LabelSums.{loop_sums, loop_totals}
 use Rattle.part_laws.proofs.MeshParts.{named_long, summary_is}
 use Rattle.part_laws.proofs.Numbered.{crossing_known}
-use Rattle.part_laws.proofs.PairSums.{sum_filter}
 use Rattle.part_walk.specs.Components.{AreComponents, IsWhole, edges_of, loops_of}
 use Rattle.part_walk.specs.Counts.{AreFew, counted, fit, number, part_with}
 use Rattle.part_walk.specs.declared.components.Component.{Component}
@@ -161,13 +158,13 @@ module _ (v : Leveled) (grid : IsGrid v.grid) where
     parts_are =
         same_lists _ _ (length-map cs part ∙ (h.count ∙ sym (length-map (classes (edges_of v) (loops_of v)) of_class)))
         (λ i d l.
-            let inside : i < length cs = omega (arith, l, length-map cs part) in
-            let c : Component Counts = get_or cs i none in
-            let k : ℕ = class_at i in
-            get_or-map part cs i none d inside
-            ∙ (part_is v (class_loops (loops_of v) k) (class_long k) c.tally (h.each i none inside).values c.least c.crossings
-            ∙ (ap₂ (λ m n. part_by (is_border v.grid) m n (class_loops (loops_of v) k)) (h.each i none inside).least (h.each i none inside).crossings
-            ∙ sym (get_or-map of_class (classes (edges_of v) (loops_of v)) i 0 d (omega (arith, inside, h.count))))))
+        let inside : i < length cs = omega (arith, l, length-map cs part) in
+        let c : Component Counts = get_or cs i none in
+        let k : ℕ = class_at i in
+        get_or-map part cs i none d inside
+        ∙ (part_is v (class_loops (loops_of v) k) (class_long k) c.tally (h.each i none inside).values c.least c.crossings
+        ∙ (ap₂ (λ m n. part_by (is_border v.grid) m n (class_loops (loops_of v) k)) (h.each i none inside).least (h.each i none inside).crossings
+        ∙ sym (get_or-map of_class (classes (edges_of v) (loops_of v)) i 0 d (omega (arith, inside, h.count))))))
       where
         part : Component Counts → Part
         part c = part_with c.least c.crossings c.tally
@@ -191,12 +188,15 @@ module _ (v : Leveled) (grid : IsGrid v.grid) where
     size : length tallies ≡ labels.count
     size = h.walked.tallies_are.size
 
-    pub tallies_add : (i : ℕ) → total (λ t. value t i) tallies ≡ total (of_loop v i) (loops_of v)
+    tallies_add : (i : ℕ) → total (λ t. value t i) tallies ≡ total (of_loop v i) (loops_of v)
     tallies_add i =
         total_placed (λ t. value t i) (λ a. total (of_loop v i) (labelled h.walked.xs (λ b. eqb b a))) 0 tallies
         (λ a d l. h.walked.tallies_are.values a d i (omega (arith, l, size)) ∙ ap (λ n. total (of_loop v i) (labelled h.walked.xs (λ b. eqb b n))) (let e : a ≡ 0 + a = omega arith in e))
         ∙ (ap (λ n. total (λ a. total (of_loop v i) (labelled h.walked.xs (λ b. eqb b a))) (below n)) size
         ∙ (sym (loop_totals h.walked.xs labels.count h.walked.labelled_are.low (λ a. true) (of_loop v i)) ∙ ap (total (of_loop v i)) all_labelled))
+
+    pub added_is : (ts : List T) → ts ≡ tallies → (t : T) → ((i : ℕ) → value t i ≡ total (λ u. value u i) ts) → (i : ℕ) → value t i ≡ total (of_loop v i) (loops_of v)
+    added_is ts same t sums i = sums i ∙ (ap (total (λ u. value u i)) same ∙ tallies_add i)
 
     abbrev pub labelled_count : ℕ → ℕ
     labelled_count a = length (labelled h.walked.xs (λ b. eqb b a))

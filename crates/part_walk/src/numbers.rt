@@ -43,10 +43,7 @@ fn part_of(least: u32, crossings: u32, counts: &Counts) -> Part
 }
 
 /// The numbers of components whose smallest vertices ascend.
-fn parts_of(
-    alloc: Global,
-    components: &[Component<Counts>],
-) -> Result<IndexMap<u32, Part>, Memory>
+fn parts_of(alloc: Global, components: &[Component<Counts>]) -> Result<IndexMap<u32, Part>, Memory>
     requires few { All (λ c. AreFew c.crossings c.tally) components.now }
     requires ascending { (i j : ℕ) (d : ComponentOf CountsOf) → i < j → j < length components.now → (slice_index_or components.now i d).least < (slice_index_or components.now j d).least }
     ensures { IfOk result (λ parts. values parts ≡ map (λ c. part_with c.least c.crossings c.tally) components.now) }

@@ -46,7 +46,7 @@ pub trait Tally: Copy + Drop {
         ensures fits { (n m : ℕ) → fits n self.old → fits m other.now → fits (n + m) self.new };
 }
 
-/// What some have together.
+/// The sum of tallies, each of which fits so many loops.
 pub fn added<T: Tally>(tallies: &[T]) -> T
     requires room { (n : ℕ → ℕ) × (sum_by n (below (length tallies.now)) < 2 ^ 40) × FitEach T.fits n tallies.now }
     ensures { (i : ℕ) → T.value result i ≡ total (λ t. T.value t i) tallies.now }

@@ -1,18 +1,14 @@
-use Rattle.std.proofs.Common.{◌≡◌, ◌∙◌, ℕ, ◌<◌, ℤ, List, length, sym, ap, ap₂, subst}
+use Rattle.std.proofs.Common.{◌∙◌, ℕ, ◌<◌, List, length, sym, ap₂, subst}
 use Rattle.std.specs.List.{sum_by}
 use Rattle.iso_defs.specs.Lists.{below}
-use Rattle.indexmap.specs.IndexMap.{values}
-use Rattle.mesh_report.specs.Report.{Summary}
 use Rattle.mesh_report.specs.declared.part.Part.{Part}
-use Rattle.measure_laws.specs.Totals.{total}
 use Rattle.flat_mesh.specs.Lattice.{Leveled}
 use Rattle.stitch_rows.specs.Rows.{at_level}
-use Rattle.part_walk.specs.Components.{AreComponents, loops_of}
+use Rattle.part_walk.specs.Components.{AreComponents}
 use Rattle.part_walk.specs.Counts.{counted, fit, number}
 use Rattle.part_walk.specs.Sums.{FitEach}
-use Rattle.part_walk.specs.declared.components.Component.{Component}
 use Rattle.part_walk.specs.declared.tally.Counts.{Counts}
-use Rattle.part_walk.proofs.MeshCounts.{crossings_are, labelled_count, parts_ascend, parts_few, parts_told, tallies_add, tallies_few, tallies_fit, whole_few, whole_is}
+use Rattle.part_walk.proofs.MeshCounts.{added_is, crossings_are, labelled_count, parts_ascend, parts_few, parts_told, tallies_few, tallies_fit, whole_few, whole_is}
 use Rattle.part_walk.proofs.numbers.numbered.Goals as goal
 
 pub parts_of-requires-clause-few : goal.parts_of-requires-clause-few
@@ -42,7 +38,7 @@ part_of-requires g c =
     let w = c.in_ok-walked.walked in
     let h = c.in_ok-walked.ensures in
     whole_few v c.sizes.ensures.volume.grid c.added-all.result
-    (λ i. c.added-all.ensures i ∙ (ap (total (λ t. number t i)) c.as_slice-2.ensures.value ∙ tallies_add v c.sizes.ensures.volume.grid number fit counted w.labels w.tallies.items w.edges h i))
+    (added_is v c.sizes.ensures.volume.grid number fit counted w.labels w.tallies.items w.edges h c.as_slice-2.result.now c.as_slice-2.ensures.value c.added-all.result c.added-all.ensures)
     w.edges.count (crossings_are v c.sizes.ensures.volume.grid number fit counted w.labels w.tallies.items w.edges h)
 
 pub returns : goal.returns
@@ -52,8 +48,8 @@ returns g c =
     let h = c.in_ok-walked.ensures in
     let whole
     = whole_is v c.sizes.ensures.volume.grid c.added-all.result
-    (λ i. c.added-all.ensures i ∙ (ap (total (λ t. number t i)) c.as_slice-2.ensures.value ∙ tallies_add v c.sizes.ensures.volume.grid number fit counted w.labels w.tallies.items w.edges h i))
+    (added_is v c.sizes.ensures.volume.grid number fit counted w.labels w.tallies.items w.edges h c.as_slice-2.result.now c.as_slice-2.ensures.value c.added-all.result c.added-all.ensures)
     w.edges.count (crossings_are v c.sizes.ensures.volume.grid number fit counted w.labels w.tallies.items w.edges h) in
     let parts
-    = parts_told v c.sizes.ensures.volume.grid c.as_slice.result.now (subst (AreComponents number fit counted v) (sym c.as_slice.ensures.value) (c.in_ok-components.ensures v c.in_ok-walked.ensures)) in
+    = parts_told v c.sizes.ensures.volume.grid c.as_slice.result.now (subst (AreComponents number fit counted v) (sym c.as_slice.ensures.value) (c.in_ok-components.ensures v h)) in
     c.new.ensures ∙ ap₂ (λ (t : Part) (ps : List Part). record { total = t; parts = ps }) (c.part_of.ensures ∙ whole) (c.in_ok-parts.ensures ∙ parts)

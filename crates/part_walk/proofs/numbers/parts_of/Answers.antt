@@ -1,9 +1,8 @@
-use Rattle.std.proofs.Common.{◌≡◌, ◌∙◌, ℕ, ◌+◌, ◌<◌, ◌≤◌, All, List, [], ◌∷◌, ◌++◌, length, map, get_or, take, sym, ap, ap₂, subst, arith}
+use Rattle.std.proofs.Common.{◌≡◌, ◌∙◌, ℕ, ◌<◌, ◌≤◌, List, [], ◌∷◌, ◌++◌, length, map, get_or, sym, ap, ap₂, subst, arith}
 use Rattle.std.proofs.lemmas.List.{get_or_default, take_all}
 use Rattle.std.specs.Map.{keys_of, values_of}
-use Rattle.indexmap.specs.IndexMap.{keys, values}
 use Rattle.mesh_report.specs.declared.part.Part.{Part}
-use Rattle.part_walk.specs.Counts.{AreFew, part_with}
+use Rattle.part_walk.specs.Counts.{part_with}
 use Rattle.part_walk.specs.declared.components.Component.{Component}
 use Rattle.part_walk.specs.declared.tally.Counts.{Counts}
 use Rattle.part_walk.proofs.AddedLaws.{map_more}
