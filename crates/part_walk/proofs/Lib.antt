@@ -7,3 +7,6 @@ pub mod LongerLaws
 pub mod CellLaws
 pub mod RowLaws
 pub mod StartLaws
+pub mod CountedParts
+pub mod MeshCounts
+pub mod AddedLaws

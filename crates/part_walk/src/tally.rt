@@ -1,12 +1,15 @@
 //! What is added up of the loops of a label.
 
 ghost use Rattle.std.specs.Prelude.{◌≡◌, ℕ, ◌+◌, ◌*◌, ◌<◌, ◌≤◌, ◌^◌, ℤ, pos, ◌+ℤ◌, if◌then◌else◌, not, length};
+ghost use Rattle.std.specs.List.{sum_by};
+ghost use Rattle.iso_defs.specs.Lists.{below};
 ghost use Rattle.cell_loops.specs.Loops.{IsLoop};
 ghost use Rattle.flat_mesh.specs.Centres.{IsCellAt};
 ghost use Rattle.flat_mesh.specs.Lattice.{Leveled};
+ghost use Rattle.measure_laws.specs.Totals.{total};
 ghost use Rattle.part_laws.specs.Loops.{Loop};
 ghost use Rattle.part_walk.specs.Counts.{counted, fit, number};
-ghost use Rattle.part_walk.specs.Sums.{IsLoopIn, IsOneLoop};
+ghost use Rattle.part_walk.specs.Sums.{FitEach, IsLoopIn, IsOneLoop};
 
 use crate::borders::border_steps;
 use flat_mesh::{Cell, Heights};
@@ -41,6 +44,18 @@ pub trait Tally: Copy + Drop {
         requires room { (n m : ℕ) × (n + m < 2 ^ 40) × fits n self.old × fits m other.now }
         ensures values { (i : ℕ) → value self.new i ≡ value self.old i +ℤ value other.now i }
         ensures fits { (n m : ℕ) → fits n self.old → fits m other.now → fits (n + m) self.new };
+}
+
+/// The sum of tallies, each of which fits so many loops.
+pub fn added<T: Tally>(tallies: &[T]) -> T
+    requires room { (n : ℕ → ℕ) × (sum_by n (below (length tallies.now)) < 2 ^ 40) × FitEach T.fits n tallies.now }
+    ensures { (i : ℕ) → T.value result i ≡ total (λ t. T.value t i) tallies.now }
+{
+    let mut sum = T::none();
+    for tally in tallies {
+        sum.add(tally);
+    }
+    sum
 }
 
 /// Numbers of loops.
