@@ -25,7 +25,7 @@ pub fn components<T: Tally>(
     walked: &Walked<T>,
 ) -> Result<Vec<Component<T>>, Memory>
     requires whole { (v : Leveled) × IsWhole T.value T.fits T.of_loop v walked.now.labels walked.now.tallies.items walked.now.edges }
-    ensures { IfOk result (λ cs. (v : Leveled) → IsWhole T.value T.fits T.of_loop v walked.now.labels walked.now.tallies.items walked.now.edges → AreComponents T.value T.fits T.of_loop v cs) }
+    ensures { IfOk result (λ cs. (v : Leveled) → IsWhole T.value T.fits T.of_loop v walked.now.labels walked.now.tallies.items walked.now.edges → AreComponents T.value T.fits T.of_loop v cs.items) }
 {
     let count = walked.labels.count();
     let joined = least_joined(alloc, count, walked.labels.pairs())?;
