@@ -8,3 +8,6 @@ pub mod CellLaws
 pub mod RowLaws
 pub mod StartLaws
 pub mod ShareLaws
+pub mod PlaceLaws
+pub mod MovedLaws
+pub mod MeasureLaws

@@ -20,10 +20,7 @@ pub struct Component<T> {
 }
 
 /// The components in the order of their least vertices.
-pub fn components<T: Tally>(
-    alloc: Global,
-    walked: &Walked<T>,
-) -> Result<Vec<Component<T>>, Memory>
+pub fn components<T: Tally>(alloc: Global, walked: &Walked<T>) -> Result<Vec<Component<T>>, Memory>
     requires whole { (v : Leveled) × IsWhole T.value T.fits T.of_loop v walked.now.labels walked.now.tallies.items walked.now.edges }
     ensures { IfOk result (λ cs. (v : Leveled) → IsWhole T.value T.fits T.of_loop v walked.now.labels walked.now.tallies.items walked.now.edges → AreComponents T.value T.fits T.of_loop v cs.items) }
 {

@@ -30,11 +30,7 @@ fn share_of(padded: bool, component: &Component<Swept>) -> Share
     let Swept { six, area, border } = component.tally;
     Share {
         least: component.least,
-        six: if padded {
-            off_layer(six, &area)
-        } else {
-            six
-        },
+        six: if padded { off_layer(six, &area) } else { six },
         area,
         border,
     }
