@@ -1,18 +1,16 @@
 -- The shares of the components are the measures of the mesh.
-use Rattle.std.proofs.Common.{◌≡◌, ℕ, zero, suc, ◌+◌, ◌*◌, ◌<◌, ◌≤◌, ◌^◌, ℤ, pos, Bool, true, false, cond, is_some, List, [], ◌∷◌, map, length, get_or, refl, sym, ◌∙◌, ap, ap₂, subst, arith, unsigned_abs, All}
+use Rattle.std.proofs.Common.{◌≡◌, ℕ, suc, ◌*◌, ◌<◌, ◌≤◌, ◌^◌, ℤ, Bool, true, false, cond, is_some, List, [], ◌∷◌, map, length, get_or, refl, sym, ◌∙◌, ap, ap₂, arith, unsigned_abs, All}
 use Rattle.std.specs.List.{count_by, filter}
-use Rattle.std.proofs.lemmas.Int.{ints}
 use Rattle.iso_base.specs.Sizing.{IsGrid}
 use Rattle.iso_base.specs.Volume.{Volume}
 use Rattle.iso_defs.specs.Grid.{point_count}
 use Rattle.iso_defs.specs.Lists.{around}
 use Rattle.iso_defs.specs.Outside.{IsThick}
-use Rattle.iso_defs.specs.Scratch.{crossing_edges, number_of}
+use Rattle.iso_defs.specs.Scratch.{number_of}
 use Rattle.iso_defs.specs.Surface.{is_border}
 use Rattle.verdict_laws.proofs.Lists.{In, In-filter}
 use Rattle.flat_mesh.specs.Lattice.{Leveled, heights}
 use Rattle.stitch_rows.specs.Rows.{at_level}
-use Rattle.measure_laws.specs.Totals.{total}
 use Rattle.measure_laws.specs.Vectors.{Vector}
 use Rattle.measure.specs.declared.share.Share.{Share}
 use Rattle.measure.specs.Positions.{coordinates, vector_of}
@@ -20,7 +18,7 @@ use Rattle.mesh_measures.specs.Printed.{measures_at, position_in}
 use Rattle.part_laws.specs.Classes.{is_of_class}
 use Rattle.part_laws.specs.Loops.{Loop, mesh_loops, rims_where}
 use Rattle.part_laws.specs.Parts.{class_loops, classes}
-use Rattle.part_laws.specs.Swept.{area_round, share_round, six_of}
+use Rattle.part_laws.specs.Swept.{area_round, share_round}
 use Rattle.part_laws.proofs.MeshParts.{measures_are}
 use Rattle.part_walk.specs.Components.{AreComponents, IsComponent, edges_of, loops_of}
 use Rattle.part_walk.specs.Shares.{CanMove, off_layer, share_at}

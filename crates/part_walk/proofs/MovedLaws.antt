@@ -1,17 +1,16 @@
 -- What is measured of loops at their printed positions.
-use Rattle.std.proofs.Common.{◌≡◌, ℕ, ◌+◌, ◌≤◌, ℤ, pos, ◌+ℤ◌, ◌-ℤ◌, ◌*ℤ◌, Bool, true, false, cond, List, [], ◌∷◌, length, refl, sym, ◌∙◌, ap, ap₂, inl, inr, arith}
-use Rattle.std.specs.List.{count_by, sum_by}
+use Rattle.std.proofs.Common.{◌≡◌, ℕ, ◌+◌, ℤ, pos, ◌+ℤ◌, ◌-ℤ◌, ◌*ℤ◌, Bool, true, false, cond, List, [], ◌∷◌, refl, sym, ◌∙◌, ap, ap₂, arith}
+use Rattle.std.specs.List.{sum_by}
 use Rattle.std.proofs.lemmas.Int.{ints}
 use Rattle.std.proofs.lemmas.List.Sums.{sum_by-cons}
 use Rattle.iso_defs.specs.Lists.{around}
-use Rattle.iso_defs.specs.Scratch.{number_of}
 use Rattle.verdict_laws.proofs.Lists.{In}
 use Rattle.flat_mesh.specs.Lattice.{Leveled, heights}
 use Rattle.measure_laws.specs.Totals.{total}
-use Rattle.measure_laws.specs.Vectors.{Vector, cross, dot, minus}
-use Rattle.measure_laws.proofs.Totals.{times_nothing, total_add, total_less, total_times}
+use Rattle.measure_laws.specs.Vectors.{Vector, cross, dot}
+use Rattle.measure_laws.proofs.Totals.{total_add, total_less, total_times}
 use Rattle.part_laws.specs.Loops.{Loop, mesh_loops}
-use Rattle.part_laws.specs.Swept.{area_round, six_of, swept, tip}
+use Rattle.part_laws.specs.Swept.{area_round, six_of, swept}
 use Rattle.part_laws.proofs.Measured.{total_in}
 use Rattle.part_laws.proofs.Moves.{six_moved, swept_moved}
 use Rattle.part_laws.proofs.Rounds.{step_ends}

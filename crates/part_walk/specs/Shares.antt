@@ -1,5 +1,5 @@
 -- What is measured of components, at the positions that are printed.
-use Rattle.std.specs.Prelude.{◌^◌, ◌≤◌, ℕ, ℤ, pos, ◌+ℤ◌, ◌-ℤ◌, ◌*ℤ◌, Bool, [], ◌∷◌, if◌then◌else◌, unsigned_abs}
+use Rattle.std.specs.Prelude.{◌^◌, ◌≤◌, ℤ, pos, ◌+ℤ◌, ◌-ℤ◌, ◌*ℤ◌, Bool, if◌then◌else◌, unsigned_abs}
 use Rattle.measure_laws.specs.Vectors.{Vector}
 use Rattle.measure.specs.declared.share.Share.{Share}
 use Rattle.measure.specs.Positions.{IsWithin, coordinates, vector_of}

@@ -96,7 +96,7 @@ impl Tally for Swept {
     }
 }
 
-/// The measures of the mesh of a volume at a level, with so many thousandths less along each axis.
+/// The measures of the mesh of a volume at a level, at the positions that are printed.
 pub fn measured<R: CellRows, L: Ledger>(
     alloc: Global,
     store: &BrickStore,

@@ -1,4 +1,4 @@
-use Rattle.std.proofs.Common.{◌≡◌, ◌∙◌, All, is_some, List, map, sym, ap, ap₂, subst}
+use Rattle.std.proofs.Common.{◌∙◌, All, is_some, map, sym, ap, ap₂, subst}
 use Rattle.iso_base.proofs.VolumeLaws.{grid_is_thick}
 use Rattle.stitch_rows.specs.Rows.{at_level}
 use Rattle.part_walk.specs.Components.{AreComponents}
