@@ -3,9 +3,10 @@
 ghost use Rattle.std.specs.Prelude.{◌≡◌, ◌<◌, All, IfOk, length};
 ghost use Rattle.iso_defs.specs.Scratch.{triangles, vertices};
 ghost use Rattle.iso_base.specs.Shifted.{field};
+ghost use Rattle.fan_laws.specs.Padded.{HasPadBelow};
 ghost use Rattle.measure.specs.Measures.{HasNoArea};
 ghost use Rattle.mesh_cache.specs.Economy.{IsRight};
-ghost use Rattle.mesh_measures.specs.Printed.{HasOneVolumeIn, measures_at};
+ghost use Rattle.mesh_measures.specs.Printed.{HasNoBorder, HasOneVolumeIn, measures_at};
 ghost use Rattle.mesh_report.specs.Report.{summary_of};
 ghost use Rattle.span_tree.specs.Spans.{IsRightFor};
 
@@ -14,6 +15,7 @@ use iso_base::{Level, Memory, Steps};
 use kept_mesh::KeptRows;
 use measure::Measures;
 use mesh_cache::MeshCache;
+use mesh_measures::parts_without_border;
 use mesh_report::Report;
 use part_walk::{measured, numbered};
 use span_tree::SpanTree;
@@ -81,6 +83,9 @@ fn counted_measures<L: Ledger>(
 }
 
 /// The measures of the mesh of a volume at a level.
+///
+/// A part without border has no area, and its volume is the same from every point. Where a pad is below the level, no part
+/// has a border.
 pub fn walked_measures(
     alloc: Global,
     store: &BrickStore,
@@ -93,6 +98,9 @@ pub fn walked_measures(
     ensures measures { IfOk result (λ m. m ≡ measures_at store.now level) }
     ensures areas { IfOk result (λ m. All HasNoArea m) }
     ensures volumes { IfOk result (λ m. All (HasOneVolumeIn store.now level) m) }
+    ensures closed { HasPadBelow store.now level → IfOk result (λ m. All HasNoBorder m) }
 {
+    parts_without_border();
+    let _ = store.sizes();
     counted_measures::<Brand>(Blank::new(1), alloc, store, tree, cache, level)
 }

@@ -10,3 +10,7 @@ pub mod StartLaws
 pub mod CountedParts
 pub mod MeshCounts
 pub mod AddedLaws
+pub mod ShareLaws
+pub mod PlaceLaws
+pub mod MovedLaws
+pub mod MeasureLaws

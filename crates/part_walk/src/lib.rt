@@ -10,6 +10,7 @@ mod numbers;
 mod passed;
 mod positions;
 mod rows;
+mod shares;
 mod sweep;
 mod tally;
 mod walked;

@@ -11,12 +11,13 @@ use crate::borders::border_steps;
 use crate::components::components;
 use crate::positions::{cell_position, local_position};
 use crate::rows::walk;
+use crate::shares::shares_of;
 use crate::tally::Tally;
 use brick_store::BrickStore;
 use edge_points::rounded_mean;
 use flat_mesh::{Cell, Heights};
 use iso_base::{Level, Memory, Steps};
-use measure::{Measures, Share};
+use measure::Measures;
 use span_tree::SpanTree;
 use std::alloc::Global;
 use std::sync::ledger::Ledger;
@@ -95,7 +96,7 @@ impl Tally for Swept {
     }
 }
 
-/// The measures of the mesh of a volume at a level, with so many thousandths less along each axis.
+/// The measures of the mesh of a volume at a level, at the positions that are printed.
 pub fn measured<R: CellRows, L: Ledger>(
     alloc: Global,
     store: &BrickStore,
@@ -108,17 +109,9 @@ pub fn measured<R: CellRows, L: Ledger>(
     requires named { NamesCases (R.named rows.old) store.now.grid (field_of store.now.samples level) }
     ensures { IfOk result (λ m. m ≡ measures_at store.now level) }
 {
+    let _ = store.sizes();
     let walked = walk::<Swept, R, L>(alloc, store, tree, level, rows, steps)?;
-    let layer = if store.pad().is_some() { 1000 } else { 0 };
-    let mut shares = Vec::new(alloc);
-    for component in components(alloc, &walked)?.as_slice() {
-        let Swept { six, area, border } = component.tally;
-        shares.push(Share {
-            least: component.least,
-            six: six - layer * (area[0] + area[1] + area[2]),
-            area,
-            border,
-        })?;
-    }
+    let components = components(alloc, &walked)?;
+    let shares = shares_of(alloc, store.pad().is_some(), components.as_slice())?;
     Ok(Measures::new(shares))
 }
