@@ -7,3 +7,5 @@ pub mod LongerLaws
 pub mod CellLaws
 pub mod RowLaws
 pub mod StartLaws
+pub mod RoundLaws
+pub mod LocalPlaces

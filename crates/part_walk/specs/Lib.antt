@@ -4,3 +4,4 @@ pub mod Passed
 pub mod Walks
 pub mod Sweep
 pub mod Components
+pub mod Local
