@@ -1,17 +1,20 @@
 -- Where the vertices of a loop of a cell are: the cell's lowest point, moved by where they are from there.
-use Rattle.std.proofs.Common.{◌≡◌, ◌∙◌, ℕ, suc, ◌+◌, ◌-◌, ◌*◌, ◌/◌, ◌%◌, ◌<◌, ◌≤◌, ℤ, pos, ◌+ℤ◌, ◌-ℤ◌, Bool, true, false, cond, All, List, [], ◌∷◌, map, length, get_or, refl, sym, subst, ap, arith, inl, inr, ltb, nat_lt, slice_index, slice_index_or, if◌then◌else◌}
+use Rattle.std.proofs.Common.{◌≡◌, ◌∙◌, ℕ, zero, suc, ◌+◌, ◌-◌, ◌*◌, ◌/◌, ◌%◌, ◌<◌, ◌≤◌, ℤ, pos, ◌+ℤ◌, ◌-ℤ◌, Bool, true, false, cond, All, List, [], ◌∷◌, map, length, get_or, refl, sym, subst, ap, arith, inl, inr, ltb, nat_lt, slice_index, slice_index_or, if◌then◌else◌}
+use Rattle.std.specs.List.{count_by}
 use Rattle.std.proofs.lemmas.Bool.{le-ltb, lt-ltb}
 use Rattle.std.proofs.lemmas.Int.{ints}
-use Rattle.std.proofs.lemmas.List.{length-map}
+use Rattle.std.proofs.lemmas.List.{get_or-map, length-map}
 use Rattle.iso_defs.specs.Grid.{Grid, edge_axis, edge_lower, edge_upper, name_bound, stride}
 use Rattle.iso_defs.specs.Cell.{cell_edge, cell_signs, cell_values, corner_point, crosses, edge_corner}
 use Rattle.iso_defs.specs.Lists.{around}
-use Rattle.iso_defs.specs.Place.{Position, centre_position, edge_coordinate, mean, place}
+use Rattle.iso_defs.specs.Place.{Position, centre_position, edge_coordinate, edge_position, mean, place}
 use Rattle.iso_defs.specs.Scratch.{centre_name, has_centre}
 use Rattle.iso_defs.specs.Signs.{differ, is_above}
 use Rattle.verdict_laws.proofs.Lists.{In}
 use Rattle.measure_laws.specs.Vectors.{Vector, cross, dot, minus, plus}
 use Rattle.measure_laws.specs.Totals.{total}
+use Rattle.measure.specs.Positions.{vector_of}
+use Rattle.iso_defs.specs.Surface.{is_border}
 use Rattle.measure_laws.proofs.Totals.{total-map}
 use Rattle.mesh_laws.proofs.AllFans.{around_map}
 use Rattle.mesh_laws.proofs.Apart.{by_twelve, crosses_is}
@@ -33,9 +36,10 @@ use Rattle.part_laws.proofs.Measured.{total_in}
 use Rattle.part_laws.proofs.Moves.{swept_moved}
 use Rattle.part_laws.proofs.Rounds.{map_agree, step_ends}
 use Rattle.part_walk.specs.Local.{is_crossed, local_place, local_tip, local_vertex, moved}
-use Rattle.part_walk.specs.Sums.{IsLoopIn}
-use Rattle.part_walk.specs.Sweep.{named_position, vector_at}
-use Rattle.part_walk.proofs.BorderSteps.{in_all}
+use Rattle.part_walk.specs.Sums.{IsLoopIn, steps_on}
+use Rattle.part_walk.specs.Sweep.{centre_at, measure_at, measured_of, named_position, vector_at}
+use Rattle.part_walk.specs.declared.sweep.Swept.{Swept}
+use Rattle.part_walk.proofs.BorderSteps.{in_all, steps_named}
 
 -- what a loop spans depends on the positions of its vertices alone
 swept_agree : (f h : ℕ → Vector) (vs : List ℕ) → ((v : ℕ) → In v vs → f v ≡ h v) → swept f vs ≡ swept h vs
@@ -130,4 +134,78 @@ module _ (v : Leveled) (cell : Cell) (h : IsCellAt v.grid cell) where
       let y : edge_coordinate g (heights v) n 1 ≡ (moved corner (local 0, local 1, local 2)).1 = sym (alone (edge_coordinate g (heights v) n 1)) ∙ ap (λ (p : Position). p.1) all in
       let z : edge_coordinate g (heights v) n 2 ≡ (moved corner (local 0, local 1, local 2)).2 = sym (alone (edge_coordinate g (heights v) n 2)) ∙ ap (λ (p : Position). p.2) all in
       let known : nat_lt n (name_bound g) ≡ true = lt-ltb n (name_bound g) (edge_in g q e (cell_placed g cell h).known low) in
-      ap (λ b. vector_at (if b then _ else _)) known ∙ (λ i. (pos (x i), pos (y i), pos (z i)))
+      ap (λ b. vector_at (if b then edge_position g (heights v) n else centre_at v (n - name_bound g))) known ∙ (λ i. (pos (x i), pos (y i), pos (z i)))
+
+  module _ (es : List ℕ) (loop : IsLoop es) (l : Loop) (is : IsLoopIn v q es l) where
+    abbrev local : ℕ → Vector
+    local e = vector_at (local_vertex values e)
+
+    low_in : (e : ℕ) → In e es → e < 12
+    low_in e i = in_all (λ e. e < 12) es loop.low e i
+
+    pub all_crossed : All (λ e. is_crossed values e ≡ true) es
+    all_crossed =
+        let each : All (λ e. crosses (cell_signs v.grid (heights v) q) e ≡ true) es = (subst (AllCross v q) is.edges_are (loop_crosses v q is.turn is.known)).each in
+        λ k d below. crossed_is (get_or es k d) (loop.low k d below) ∙ each k d below
+
+    pub swept_is : swept (named_position v) l.1 ≡ swept local es
+    swept_is =
+        let named : ℕ → Vector = λ e. named_position v (cell_edge v.grid q e) in
+        let back : ℕ → Vector = λ e. minus (named e) (vector_at corner) in
+        let alike : swept local es ≡ swept back es
+        = swept_agree local back es (λ e i. moved_back corner (local_vertex values e) ∙ ap (λ u. minus u (vector_at corner)) (sym (vertex_is e (low_in e i)))) in
+        ap (λ (k : Loop). swept (named_position v) k.1) is.is
+        ∙ (swept_renamed (named_position v) (cell_edge v.grid q) es ∙ (sym (swept_moved named (vector_at corner) es) ∙ sym alike))
+
+    centre_is_at : named_position v (centre_name v.grid q is.turn) ≡ vector_at (centre_position v.grid (heights v) (map (cell_edge v.grid q) es))
+    unfolding named_position
+    centre_is_at =
+        let g : Grid = v.grid in
+        let n : ℕ = centre_name g q is.turn in
+        let few : is.turn < 4 = omega (arith, is.known, few_loops v q) in
+        let above : nat_lt n (name_bound g) ≡ false = le-ltb n (name_bound g) (omega arith) in
+        let cell_is : (n - name_bound g) / 4 ≡ q = omega arith in
+        let turn_is : (n - name_bound g) % 4 ≡ is.turn = omega arith in
+        let at : ℕ → ℕ → Vector = λ a b. vector_at (centre_position g (heights v) (map (cell_edge g a) (slice_index_or (loops_at v a) b []))) in
+        ap (λ b. vector_at (if b then edge_position g (heights v) n else centre_at v (n - name_bound g))) above
+        ∙ (ap (λ a. at a ((n - name_bound g) % 4)) cell_is ∙ (ap (at q) turn_is ∙ ap (λ k. vector_at (centre_position g (heights v) (map (cell_edge g q) k))) is.edges_are))
+
+    means_are : centre_position v.grid (heights v) (map (cell_edge v.grid q) es)
+        ≡ moved corner (mean (map (λ e. (local_vertex values e).0) es), mean (map (λ e. (local_vertex values e).1) es), mean (map (λ e. (local_vertex values e).2) es))
+    unfolding local_vertex
+    means_are =
+        centre_at_is es (omega (arith, loop.least)) loop.low
+        (mean (map (λ e. (local_vertex values e).0) es), mean (map (λ e. (local_vertex values e).1) es), mean (map (λ e. (local_vertex values e).2) es))
+        (mean_agree 0 es loop.low) (mean_agree 1 es loop.low) (mean_agree 2 es loop.low)
+
+    tip_is : named_position v (tip l) ≡ vector_at (moved corner (local_tip (local_vertex values) es))
+    tip_is =
+        let names : List ℕ = map (cell_edge v.grid q) es in
+        let long : length names ≡ length es = length-map es (cell_edge v.grid q) in
+        let some : 0 < length es = omega (arith, loop.least) in
+        let first : slice_index names 0 ≡ cell_edge v.grid q (slice_index es 0) = get_or-map (cell_edge v.grid q) es 0 0 0 some in
+        let centred : ℕ = centre_name v.grid q is.turn in
+        ap (λ (k : Loop). named_position v (tip k)) is.is
+        ∙ (ap (λ n. named_position v (if nat_lt 3 n then centred else slice_index names 0)) long
+        ∙ (ap (λ n. named_position v (if nat_lt 3 (length es) then centred else n)) first
+        ∙ choose (nat_lt 3 (length es)) _ (local_vertex values (slice_index es 0)) centred (cell_edge v.grid q (slice_index es 0)) (centre_is_at ∙ ap vector_at means_are)
+        (vertex_is (slice_index es 0) (loop.low 0 0 some))))
+      where
+        choose : (b : Bool) (p r : Position) (m n : ℕ) → named_position v m ≡ vector_at (moved corner p) → named_position v n ≡ vector_at (moved corner r)
+            → named_position v (if b then m else n) ≡ vector_at (moved corner (if b then p else r))
+        choose true p r m n e f = e
+        choose false p r m n e f = f
+
+    pub six_is : six_of (named_position v) l ≡ dot (vector_at (moved corner (local_tip (local_vertex values) es))) (swept local es)
+    six_is = ap (λ u. dot u (swept (named_position v) l.1)) tip_is ∙ ap (dot (vector_at (moved corner (local_tip (local_vertex values) es)))) swept_is
+
+    -- what is measured of the loop
+    pub measured_is : (s : Swept) → s.six ≡ six_of (named_position v) l → vector_of s.area ≡ swept (named_position v) l.1 → s.border ≡ steps_on v.grid q es
+        → (i : ℕ) → measure_at s i ≡ measured_of v i l
+    measured_is s six area border zero = six
+    measured_is s six area border (suc zero) = ap (λ (u : Vector). u.0) area
+    measured_is s six area border (suc (suc zero)) = ap (λ (u : Vector). u.1) area
+    measured_is s six area border (suc (suc (suc zero))) = ap (λ (u : Vector). u.2) area
+    measured_is s six area border (suc (suc (suc (suc zero)))) =
+        ap pos (border ∙ (steps_named v.grid q es ∙ ap (λ (k : Loop). count_by (λ (p : ℕ × ℕ). is_border v.grid p.0 p.1) (around k.1)) (sym is.is)))
+    measured_is s six area border (suc (suc (suc (suc (suc i))))) = refl

@@ -1,6 +1,6 @@
 //! Where the vertices of a loop of a cell are, in thousandths.
 
-ghost use Rattle.std.specs.Prelude.{◌≡◌, ◌*◌, ◌<◌, ◌≤◌, ◌^◌, All, IsTrue, length, nat_lt, slice_index, unsigned_abs, ◌∷◌, [], if◌then◌else◌};
+ghost use Rattle.std.specs.Prelude.{◌≡◌, ℕ, ◌+◌, ◌*◌, ◌<◌, ◌≤◌, ◌^◌, All, IsTrue, length, nat_lt, slice_index, unsigned_abs, ◌∷◌, [], if◌then◌else◌};
 ghost use Rattle.iso_defs.specs.Cell.{edge_corner};
 ghost use Rattle.part_walk.specs.Local.{is_crossed, listed, local_vertex, moved, position_of, rounded, upper_corner as corner_above};
 
@@ -69,7 +69,8 @@ pub fn cell_position(cell: Cell) -> [u32; 3]
 pub fn moved_by(a: &[u32; 3], b: &[u32; 3]) -> [u32; 3]
     requires a { All (λ c. c < 2 ^ 31) a.now }
     requires b { All (λ c. c < 2 ^ 31) b.now }
-    ensures { result ≡ listed (moved (position_of a.now) (position_of b.now)) }
+    ensures value { result ≡ listed (moved (position_of a.now) (position_of b.now)) }
+    ensures bound { (m n : ℕ) → All (λ c. c ≤ m) a.now → All (λ c. c ≤ n) b.now → All (λ c. c ≤ m + n) result }
 {
     [a[0] + b[0], a[1] + b[1], a[2] + b[2]]
 }

@@ -90,7 +90,7 @@ fn product(a: u32, b: i64) -> i64
 /// Six times the volume between the origin and what is spanned from a point.
 #[inline(always)]
 pub fn six_over(tip: &[u32; 3], swept: &[i64; 3]) -> i64
-    requires tip { All (λ c. c < 2 ^ 20) tip.now }
+    requires tip { All (λ c. c ≤ 1027000) tip.now }
     requires swept { IsWithin 12000000 (vector_of swept.now) }
     ensures value { result ≡ dot (vector_at (position_of tip.now)) (vector_of swept.now) }
     ensures within { unsigned_abs result < 2 ^ 46 }
