@@ -35,7 +35,7 @@ use Rattle.part_laws.specs.Swept.{six_of, swept, tip}
 use Rattle.part_laws.proofs.Measured.{total_in}
 use Rattle.part_laws.proofs.Moves.{swept_moved}
 use Rattle.part_laws.proofs.Rounds.{map_agree, step_ends}
-use Rattle.part_walk.specs.Local.{is_crossed, local_place, local_tip, local_vertex, moved}
+use Rattle.part_walk.specs.Local.{local_place, local_tip, local_vertex, moved}
 use Rattle.part_walk.specs.Sums.{IsLoopIn, steps_on}
 use Rattle.part_walk.specs.Sweep.{centre_at, measure_at, measured_of, named_position, vector_at}
 use Rattle.part_walk.specs.declared.sweep.Swept.{Swept}
@@ -98,11 +98,6 @@ module _ (v : Leveled) (cell : Cell) (h : IsCellAt v.grid cell) where
       let axis : edge_axis (cell_edge v.grid q e) ≡ e / 4 = omega arith in
       ends ∙ sym (ap (λ r. place (heights v r) (heights v (r + stride v.grid (edge_axis (cell_edge v.grid q e))))) lower ∙ ap (λ a. place (heights v p) (heights v (p + stride v.grid a))) axis)
 
-  -- and which of them are crossing
-  pub crossed_is : (e : ℕ) → e < 12 → is_crossed values e ≡ crosses (cell_signs v.grid (heights v) q) e
-  crossed_is e low =
-      by_twelve (λ e. is_crossed values e ≡ crosses (cell_signs v.grid (heights v) q) e) refl refl refl refl refl refl refl refl refl refl refl refl e low
-
   -- the centre of a loop
   centre_at_is : (es : List ℕ) → 0 < length es → All (λ e. e < 12) es → (p : Position)
       → (p.0 ≡ local_mean (cell_place v q) 0 es) → (p.1 ≡ local_mean (cell_place v q) 1 es) → (p.2 ≡ local_mean (cell_place v q) 2 es)
@@ -142,11 +137,6 @@ module _ (v : Leveled) (cell : Cell) (h : IsCellAt v.grid cell) where
 
     low_in : (e : ℕ) → In e es → e < 12
     low_in e i = in_all (λ e. e < 12) es loop.low e i
-
-    pub all_crossed : All (λ e. is_crossed values e ≡ true) es
-    all_crossed =
-        let each : All (λ e. crosses (cell_signs v.grid (heights v) q) e ≡ true) es = (subst (AllCross v q) is.edges_are (loop_crosses v q is.turn is.known)).each in
-        λ k d below. crossed_is (get_or es k d) (loop.low k d below) ∙ each k d below
 
     pub swept_is : swept (named_position v) l.1 ≡ swept local es
     swept_is =

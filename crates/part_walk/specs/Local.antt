@@ -1,9 +1,8 @@
 -- Where the vertices of a loop of a cell are, from the cell's lowest point.
-use Rattle.std.specs.Prelude.{ℕ, ◌+◌, ◌*◌, ◌/◌, ℤ, pos, Bool, List, [], ◌∷◌, map, length, nat_lt, slice_index, slice_index_or, if◌then◌else◌}
+use Rattle.std.specs.Prelude.{ℕ, ◌+◌, ◌*◌, ◌/◌, ℤ, pos, List, [], ◌∷◌, map, length, nat_lt, slice_index, slice_index_or, if◌then◌else◌}
 use Rattle.std.specs.List.{sum_by}
 use Rattle.iso_defs.specs.Cell.{edge_corner}
 use Rattle.iso_defs.specs.Place.{Position, mean, place}
-use Rattle.iso_defs.specs.Signs.{differ, is_above}
 use Rattle.edge_points.specs.Points.{local_coordinate}
 
 -- the three numbers of a position
@@ -28,10 +27,6 @@ lower_value values e = slice_index_or values (edge_corner e) (pos 0)
 
 abbrev pub upper_value : List ℤ → ℕ → ℤ
 upper_value values e = slice_index_or values (upper_corner e) (pos 0)
-
--- whether an edge of a cell is crossing
-abbrev pub is_crossed : List ℤ → ℕ → Bool
-is_crossed values e = differ (is_above (lower_value values e)) (is_above (upper_value values e))
 
 -- the place on an edge
 abbrev pub local_place : List ℤ → ℕ → ℕ

@@ -1,8 +1,8 @@
 //! Where the vertices of a loop of a cell are, in thousandths.
 
 ghost use Rattle.std.specs.Prelude.{◌≡◌, ℕ, ◌+◌, ◌*◌, ◌<◌, ◌≤◌, ◌^◌, All, IsTrue, length, nat_lt, slice_index, unsigned_abs, ◌∷◌, [], if◌then◌else◌};
-ghost use Rattle.iso_defs.specs.Cell.{edge_corner};
-ghost use Rattle.part_walk.specs.Local.{is_crossed, listed, local_vertex, moved, position_of, rounded, upper_corner as corner_above};
+ghost use Rattle.iso_defs.specs.Cell.{crosses, edge_corner, signs_of};
+ghost use Rattle.part_walk.specs.Local.{listed, local_vertex, moved, position_of, rounded, upper_corner as corner_above};
 
 use edge_points::{place_or_any, rounded_mean, x_in_cell, y_in_cell, z_in_cell};
 use flat_mesh::Cell;
@@ -38,7 +38,7 @@ fn upper_corner(edge: u8) -> u8
 pub fn local_position(heights: &[i64; 8], edge: u8) -> [u32; 3]
     requires edge { edge < 12 }
     requires bound { All (λ h. unsigned_abs h < 2 ^ 44) heights.now }
-    requires crossing { IsTrue (is_crossed heights.now edge) }
+    requires crossing { IsTrue (crosses (signs_of heights.now) edge) }
     ensures value { result ≡ listed (local_vertex heights.now edge) }
     ensures bound { All (λ c. c ≤ 1000) result }
 {

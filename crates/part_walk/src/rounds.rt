@@ -2,10 +2,11 @@
 
 ghost use Rattle.std.specs.Prelude.{◌≡◌, ℕ, ◌+◌, ◌*◌, ◌<◌, ◌≤◌, ◌^◌, All, IsTrue, pos, ◌*ℤ◌, unsigned_abs};
 ghost use Rattle.cell_loops.specs.Loops.{IsLoop};
+ghost use Rattle.iso_defs.specs.Cell.{crosses, signs_of};
 ghost use Rattle.measure_laws.specs.Vectors.{cross, dot, minor as minor_of, plus};
 ghost use Rattle.measure.specs.Positions.{IsWithin, coordinates, vector_of};
 ghost use Rattle.part_laws.specs.Swept.{swept as swept_by};
-ghost use Rattle.part_walk.specs.Local.{is_crossed, listed, local_tip, local_vertex, position_of};
+ghost use Rattle.part_walk.specs.Local.{listed, local_tip, local_vertex, position_of};
 ghost use Rattle.part_walk.specs.Sweep.{vector_at};
 
 use crate::positions::{local_position, moved_by, tip_of};
@@ -53,7 +54,7 @@ fn with_cross(swept: &[i64; 3], a: &[u32; 3], b: &[u32; 3]) -> [i64; 3]
 pub fn round_of(heights: &[i64; 8], edges: &[u8]) -> Round
     requires bound { All (λ h. unsigned_abs h < 2 ^ 44) heights.now }
     requires edges { IsLoop edges.now }
-    requires crossing { All (λ e. IsTrue (is_crossed heights.now e)) edges.now }
+    requires crossing { All (λ e. IsTrue (crosses (signs_of heights.now) e)) edges.now }
     ensures swept { result.swept ≡ coordinates (swept_by (λ e. vector_at (local_vertex heights.now e)) edges.now) }
     ensures within { IsWithin 12000000 (vector_of result.swept) }
     ensures tip { result.tip ≡ listed (local_tip (local_vertex heights.now) edges.now) }

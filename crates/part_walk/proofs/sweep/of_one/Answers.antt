@@ -1,21 +1,22 @@
-use Rattle.std.proofs.Common.{◌≡◌, ◌∙◌, ℕ, ◌+◌, ◌*◌, ◌<◌, ◌≤◌, ◌^◌, ℤ, pos, List, map, All, true, ◌∷◌, [], sym, subst, ap, refl, arith, slice_index_or, unsigned_abs}
+use Rattle.std.proofs.Common.{◌≡◌, ◌∙◌, ℕ, ◌+◌, ◌*◌, ◌<◌, ◌≤◌, ◌^◌, ℤ, pos, List, All, true, ◌∷◌, [], sym, subst, ap, refl, arith, slice_index_or, unsigned_abs}
 use Rattle.std.proofs.lemmas.Int.{ints}
-use Rattle.iso_defs.specs.Cell.{cell_edge, cell_values}
+use Rattle.iso_defs.specs.Cell.{cell_values, crosses, signs_of}
 use Rattle.iso_defs.specs.Grid.{Grid}
 use Rattle.iso_defs.specs.Place.{Position}
-use Rattle.iso_defs.specs.Scratch.{centre_name}
 use Rattle.measure.specs.Positions.{coordinates, vector_of}
 use Rattle.measure.proofs.Exact.{kept, stored}
 use Rattle.measure_laws.specs.Vectors.{Vector, dot}
 use Rattle.flat_mesh.specs.Cases.{values_at}
+use Rattle.flat_mesh.specs.Faces.{AllCross}
 use Rattle.flat_mesh.specs.Lattice.{Leveled, heights}
+use Rattle.flat_mesh.proofs.Loops.{loop_crosses}
 use Rattle.part_laws.specs.Loops.{Loop}
 use Rattle.part_laws.specs.Swept.{six_of, swept}
-use Rattle.part_walk.specs.Local.{is_crossed, listed, local_tip, local_vertex, moved, position_of}
+use Rattle.part_walk.specs.Local.{listed, local_tip, local_vertex, moved, position_of}
 use Rattle.part_walk.specs.Sums.{IsLoopIn, IsOneLoop, steps_on}
 use Rattle.part_walk.specs.Sweep.{named_position, vector_at}
 use Rattle.part_walk.specs.declared.sweep.Swept.{Swept}
-use Rattle.part_walk.proofs.LocalPlaces.{all_crossed, measured_is, six_is, swept_is}
+use Rattle.part_walk.proofs.LocalPlaces.{measured_is, six_is, swept_is}
 use Rattle.part_walk.proofs.sweep.of_one.Goals as goal
 
 -- a small number is the same in the wider type
@@ -29,9 +30,7 @@ round_of-requires-clause-crossing g c =
     let es : List ℕ = c.args.edges.now in
     let q : ℕ = c.args.cell.index in
     let one : IsOneLoop v q es = c.requires.there in
-    let turn : ℕ = one.turn in
-    subst (λ hs. All (λ e. is_crossed hs e ≡ true) es) (sym c.corner_heights.ensures.value)
-    (all_crossed v c.args.cell c.requires.cell es c.requires.edges (centre_name v.grid q turn, map (cell_edge v.grid q) es) record { turn = turn; known = one.known; edges_are = one.edges_are; is = refl })
+    subst (λ hs. All (λ e. crosses (signs_of hs) e ≡ true) es) (sym c.corner_heights.ensures.value) (subst (AllCross v q) one.edges_are (loop_crosses v q one.turn one.known)).each
 
 pub six_over-six-requires-clause-tip : goal.six_over-six-requires-clause-tip
 six_over-six-requires-clause-tip g c = c.moved_by.ensures.bound 1026000 1000 c.cell_position.ensures.bound c.round_of.ensures.bound
