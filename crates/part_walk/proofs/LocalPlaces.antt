@@ -1,34 +1,33 @@
 -- Where the vertices of a loop of a cell are: the cell's lowest point, moved by where they are from there.
-use Rattle.std.proofs.Common.{◌≡◌, ◌∙◌, ℕ, zero, suc, ◌+◌, ◌-◌, ◌*◌, ◌/◌, ◌%◌, ◌<◌, ◌≤◌, ℤ, pos, ◌+ℤ◌, ◌-ℤ◌, Bool, true, false, cond, All, List, [], ◌∷◌, map, length, get_or, refl, sym, subst, ap, arith, inl, inr, ltb, nat_lt, slice_index, slice_index_or, if◌then◌else◌}
+use Rattle.std.proofs.Common.{◌≡◌, ◌∙◌, ℕ, zero, suc, ◌+◌, ◌-◌, ◌*◌, ◌/◌, ◌%◌, ◌<◌, ℤ, pos, ◌-ℤ◌, Bool, true, false, All, List, [], ◌∷◌, map, length, get_or, refl, sym, subst, ap, arith, nat_lt, slice_index, slice_index_or, if◌then◌else◌}
 use Rattle.std.specs.List.{count_by}
 use Rattle.std.proofs.lemmas.Bool.{le-ltb, lt-ltb}
 use Rattle.std.proofs.lemmas.Int.{ints}
 use Rattle.std.proofs.lemmas.List.{get_or-map, length-map}
-use Rattle.iso_defs.specs.Grid.{Grid, edge_axis, edge_lower, edge_upper, name_bound, stride}
-use Rattle.iso_defs.specs.Cell.{cell_edge, cell_signs, cell_values, corner_point, crosses, edge_corner}
+use Rattle.iso_defs.specs.Grid.{Grid, edge_axis, edge_lower, name_bound, stride}
+use Rattle.iso_defs.specs.Cell.{cell_edge, cell_values, corner_point, edge_corner}
 use Rattle.iso_defs.specs.Lists.{around}
 use Rattle.iso_defs.specs.Place.{Position, centre_position, edge_coordinate, edge_position, mean, place}
-use Rattle.iso_defs.specs.Scratch.{centre_name, has_centre}
-use Rattle.iso_defs.specs.Signs.{differ, is_above}
+use Rattle.iso_defs.specs.Scratch.{centre_name}
 use Rattle.verdict_laws.proofs.Lists.{In}
-use Rattle.measure_laws.specs.Vectors.{Vector, cross, dot, minus, plus}
+use Rattle.measure_laws.specs.Vectors.{Vector, cross, dot, minus}
 use Rattle.measure_laws.specs.Totals.{total}
 use Rattle.measure.specs.Positions.{vector_of}
 use Rattle.iso_defs.specs.Surface.{is_border}
 use Rattle.measure_laws.proofs.Totals.{total-map}
 use Rattle.mesh_laws.proofs.AllFans.{around_map}
-use Rattle.mesh_laws.proofs.Apart.{by_twelve, crosses_is}
+use Rattle.mesh_laws.proofs.Apart.{by_twelve}
 use Rattle.mesh_laws.proofs.Arcs.{on_pair}
 use Rattle.mesh_laws.proofs.Names.{edge_in}
 use Rattle.edge_points.specs.Points.{local_coordinate}
 use Rattle.flat_mesh.specs.Centres.{IsCellAt, cell_place, local_mean}
-use Rattle.flat_mesh.specs.Faces.{AllCross, loops_at}
+use Rattle.flat_mesh.specs.Faces.{loops_at}
 use Rattle.flat_mesh.specs.Lattice.{Leveled, heights}
 use Rattle.flat_mesh.specs.declared.centres.Cell.{Cell}
 use Rattle.flat_mesh.specs.declared.centres.LoopCentre.{LoopCentre}
 use Rattle.flat_mesh.proofs.CellPlaces.{cell_placed}
 use Rattle.flat_mesh.proofs.CentrePlaces.{centre_is}
-use Rattle.flat_mesh.proofs.Loops.{few_loops, loop_crosses}
+use Rattle.flat_mesh.proofs.Loops.{few_loops}
 use Rattle.cell_loops.specs.Loops.{IsLoop}
 use Rattle.part_laws.specs.Loops.{Loop}
 use Rattle.part_laws.specs.Swept.{six_of, swept, tip}

@@ -1,15 +1,15 @@
 -- What is added up round a loop, step by step.
-use Rattle.std.proofs.Common.{◌≡◌, ◌∙◌, ℕ, suc, ◌+◌, ◌-◌, ◌*◌, ◌<◌, ◌≤◌, ℤ, pos, ◌+ℤ◌, Bool, true, false, cond, List, [], ◌∷◌, map, length, get_or, take, drop, refl, sym, ap, arith, nat_lt, slice_index, if◌then◌else◌}
-use Rattle.std.specs.List.{sum, sum_by}
+use Rattle.std.proofs.Common.{◌≡◌, ◌∙◌, ℕ, ◌+◌, ◌-◌, ◌<◌, ℤ, pos, ◌+ℤ◌, List, [], ◌∷◌, length, get_or, take, drop, refl, sym, ap, arith}
+use Rattle.std.specs.List.{sum_by}
 use Rattle.std.proofs.lemmas.Int.{ints}
-use Rattle.std.proofs.lemmas.List.{at_drop_more, at_drop_all, length-map, take_all}
-use Rattle.std.proofs.lemmas.List.Sums.{sum-map, sum_by_more}
-use Rattle.iso_defs.specs.Lists.{around, closing}
-use Rattle.iso_defs.specs.Place.{Position, mean}
+use Rattle.std.proofs.lemmas.List.{at_drop_more, at_drop_all}
+use Rattle.std.proofs.lemmas.List.Sums.{sum_by_more}
+use Rattle.iso_defs.specs.Lists.{closing}
+use Rattle.iso_defs.specs.Place.{Position}
 use Rattle.measure_laws.specs.Vectors.{Vector, cross, plus}
 use Rattle.measure_laws.specs.Totals.{total}
 use Rattle.part_laws.specs.Swept.{swept}
-use Rattle.part_walk.specs.Local.{listed, local_tip, position_sum, rounded}
+use Rattle.part_walk.specs.Local.{listed, position_sum}
 
 -- the sum of the vector products of pairs
 abbrev pub crosses_of : (ℕ → Vector) → List (ℕ × ℕ) → Vector

@@ -1,4 +1,4 @@
-use Rattle.std.proofs.Common.{◌≡◌, ◌∙◌, ℕ, ◌+◌, ◌-◌, ◌*◌, ◌<◌, ◌≤◌, All, List, ◌∷◌, [], ap, sym, subst, arith, get_or, length, take, unsigned_abs, slice_index}
+use Rattle.std.proofs.Common.{◌≡◌, ◌∙◌, ℕ, ◌+◌, ◌-◌, ◌*◌, ◌<◌, ◌≤◌, All, ap, subst, arith, get_or, length, take}
 use Rattle.iso_defs.specs.Place.{Position}
 use Rattle.measure.specs.Positions.{IsWithin, coordinates, vector_of}
 use Rattle.measure_laws.specs.Vectors.{Vector, cross, plus}

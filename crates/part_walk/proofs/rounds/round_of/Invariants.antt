@@ -1,4 +1,4 @@
-use Rattle.std.proofs.Common.{◌≡◌, ℕ, ◌-◌, ◌*◌, ◌≤◌, All, get_or, take}
+use Rattle.std.proofs.Common.{◌≡◌, ◌-◌, ◌*◌, ◌≤◌, All, get_or, take}
 use Rattle.measure.specs.Positions.{IsWithin, vector_of}
 use Rattle.measure_laws.specs.Vectors.{plus}
 use Rattle.part_laws.specs.Swept.{swept}

@@ -1,4 +1,4 @@
-use Rattle.std.proofs.Common.{◌≡◌, ◌∙◌, ℕ, ◌+◌, ◌*◌, ◌<◌, ◌≤◌, ◌^◌, ℤ, pos, List, All, true, ◌∷◌, [], sym, subst, ap, refl, arith, slice_index_or, unsigned_abs}
+use Rattle.std.proofs.Common.{◌≡◌, ◌∙◌, ℕ, ◌*◌, ◌<◌, ◌^◌, ℤ, pos, List, All, true, ◌∷◌, [], sym, subst, ap, arith, slice_index_or, unsigned_abs}
 use Rattle.std.proofs.lemmas.Int.{ints}
 use Rattle.iso_defs.specs.Cell.{cell_values, crosses, signs_of}
 use Rattle.iso_defs.specs.Grid.{Grid}
@@ -10,12 +10,10 @@ use Rattle.flat_mesh.specs.Cases.{values_at}
 use Rattle.flat_mesh.specs.Faces.{AllCross}
 use Rattle.flat_mesh.specs.Lattice.{Leveled, heights}
 use Rattle.flat_mesh.proofs.Loops.{loop_crosses}
-use Rattle.part_laws.specs.Loops.{Loop}
 use Rattle.part_laws.specs.Swept.{six_of, swept}
 use Rattle.part_walk.specs.Local.{listed, local_tip, local_vertex, moved, position_of}
-use Rattle.part_walk.specs.Sums.{IsLoopIn, IsOneLoop, steps_on}
+use Rattle.part_walk.specs.Sums.{IsOneLoop, steps_on}
 use Rattle.part_walk.specs.Sweep.{named_position, vector_at}
-use Rattle.part_walk.specs.declared.sweep.Swept.{Swept}
 use Rattle.part_walk.proofs.LocalPlaces.{measured_is, six_is, swept_is}
 use Rattle.part_walk.proofs.sweep.of_one.Goals as goal
 
