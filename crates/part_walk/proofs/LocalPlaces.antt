@@ -62,7 +62,9 @@ swept_renamed at f vs =
 moved_back : (p q : Position) → vector_at q ≡ minus (vector_at (moved p q)) (vector_at p)
 moved_back p q =
     let one : (a b : ℕ) → pos b ≡ pos (a + b) -ℤ pos a = λ a b. omega (arith, ints) in
-    let x = one p.0 q.0 in let y = one p.1 q.1 in let z = one p.2 q.2 in
+    let x = one p.0 q.0 in
+    let y = one p.1 q.1 in
+    let z = one p.2 q.2 in
     λ i. (x i, y i, z i)
 
 module _ (v : Leveled) (cell : Cell) (h : IsCellAt v.grid cell) where

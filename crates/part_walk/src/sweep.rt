@@ -34,9 +34,9 @@ pub struct Swept {
     pub border: u64,
 }
 
-/// What two have together.
+/// What is measured of the loops of both.
 #[inline(always)]
-fn joined(a: &Swept, b: &Swept) -> Swept
+fn together(a: &Swept, b: &Swept) -> Swept
     requires room { (n m : ℕ) × (n + m ≤ 2 ^ 40) × AreSmall n a.now × AreSmall m b.now }
     ensures values { (i : ℕ) → measure_at result i ≡ measure_at a.now i +ℤ measure_at b.now i }
     ensures fits { (n m : ℕ) → AreSmall n a.now → AreSmall m b.now → AreSmall (n + m) result }
@@ -92,11 +92,11 @@ impl Tally for Swept {
 
     #[inline(always)]
     fn add_loop<H: Heights>(&mut self, field: &H, cell: Cell, edges: &[u8]) {
-        *self = joined(self, &of_one(field, cell, edges));
+        *self = together(self, &of_one(field, cell, edges));
     }
 
     fn add(&mut self, other: &Swept) {
-        *self = joined(self, other);
+        *self = together(self, other);
     }
 }
 

@@ -3,7 +3,7 @@ use Rattle.std.proofs.lemmas.Int.{ints}
 use Rattle.measure.proofs.Exact.{kept}
 use Rattle.part_walk.specs.Sweep.{AreSmall, measure_at}
 use Rattle.part_walk.specs.declared.sweep.Swept.{Swept}
-use Rattle.part_walk.proofs.sweep.joined.Goals as goal
+use Rattle.part_walk.proofs.sweep.together.Goals as goal
 
 -- the code's sums are exact
 sum_is : (n m : ℕ) (x y : ℤ) → n + m ≤ 2 ^ 40 → unsigned_abs x ≤ 2 ^ 60 * n → unsigned_abs y ≤ 2 ^ 60 * m → kept (kept x +ℤ kept y) ≡ x +ℤ y
