@@ -14,3 +14,5 @@ pub mod ShareLaws
 pub mod PlaceLaws
 pub mod MovedLaws
 pub mod MeasureLaws
+pub mod RoundLaws
+pub mod LocalPlaces

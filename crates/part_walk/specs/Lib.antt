@@ -5,3 +5,4 @@ pub mod Walks
 pub mod Sweep
 pub mod Components
 pub mod Shares
+pub mod Local

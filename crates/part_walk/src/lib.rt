@@ -9,6 +9,7 @@ mod leaving;
 mod numbers;
 mod passed;
 mod positions;
+mod rounds;
 mod rows;
 mod shares;
 mod sweep;

@@ -1,6 +1,10 @@
 //! The measures of a mesh.
 
-ghost use Rattle.std.specs.Prelude.{◌≡◌, IfOk};
+ghost use Rattle.std.specs.Prelude.{◌≡◌, ℕ, ◌+◌, ◌≤◌, ◌^◌, ◌+ℤ◌, IfOk};
+ghost use Rattle.cell_loops.specs.Loops.{IsLoop};
+ghost use Rattle.flat_mesh.specs.Centres.{IsCellAt};
+ghost use Rattle.part_laws.specs.Loops.{Loop};
+ghost use Rattle.part_walk.specs.Sums.{IsLoopIn, IsOneLoop};
 ghost use Rattle.mesh_measures.specs.Printed.{measures_at};
 ghost use Rattle.iso_base.specs.Shifted.{field as field_of};
 ghost use Rattle.span_tree.specs.Spans.{IsRightFor};
@@ -9,12 +13,12 @@ ghost use Rattle.stitch_rows.specs.Named.{NamesCases};
 
 use crate::borders::border_steps;
 use crate::components::components;
-use crate::positions::{cell_position, local_position};
+use crate::positions::{cell_position, moved_by};
+use crate::rounds::{Round, round_of, six_over};
 use crate::rows::walk;
 use crate::shares::shares_of;
 use crate::tally::Tally;
 use brick_store::BrickStore;
-use edge_points::rounded_mean;
 use flat_mesh::{Cell, Heights};
 use iso_base::{Level, Memory, Steps};
 use measure::Measures;
@@ -31,11 +35,45 @@ pub struct Swept {
     pub border: u64,
 }
 
+/// What is measured of the loops of both.
 #[inline(always)]
-fn add_cross(swept: &mut [i64; 3], a: &[i64; 3], b: &[i64; 3]) {
-    swept[0] += a[1] * b[2] - a[2] * b[1];
-    swept[1] += a[2] * b[0] - a[0] * b[2];
-    swept[2] += a[0] * b[1] - a[1] * b[0];
+fn together(a: &Swept, b: &Swept) -> Swept
+    requires room { (n m : ℕ) × (n + m ≤ 2 ^ 40) × AreSmall n a.now × AreSmall m b.now }
+    ensures values { (i : ℕ) → measure_at result i ≡ measure_at a.now i +ℤ measure_at b.now i }
+    ensures fits { (n m : ℕ) → AreSmall n a.now → AreSmall m b.now → AreSmall (n + m) result }
+{
+    Swept {
+        six: a.six + b.six,
+        area: [
+            a.area[0] + b.area[0],
+            a.area[1] + b.area[1],
+            a.area[2] + b.area[2],
+        ],
+        border: a.border + b.border,
+    }
+}
+
+/// What is measured of one loop of a cell.
+#[inline(always)]
+fn of_one<H: Heights>(field: &H, cell: Cell, edges: &[u8]) -> Swept
+    requires cell { IsCellAt (H.leveled field.now).grid cell }
+    requires edges { IsLoop edges.now }
+    requires there { IsOneLoop (H.leveled field.now) cell.index edges.now }
+    ensures values { (l : Loop) → IsLoopIn (H.leveled field.now) cell.index edges.now l → (i : ℕ) → measure_at result i ≡ measured_of (H.leveled field.now) i l }
+    ensures fits { AreSmall 1 result }
+{
+    let sizes = field.sizes();
+    let Round { swept, tip } = round_of(&field.corner_heights(cell), edges);
+    let six = six_over(&moved_by(&cell_position(cell), &tip), &swept);
+    Swept {
+        six: i128::from(six),
+        area: [
+            i128::from(swept[0]),
+            i128::from(swept[1]),
+            i128::from(swept[2]),
+        ],
+        border: u64::from(border_steps(&sizes, cell, edges)),
+    }
 }
 
 impl Tally for Swept {
@@ -55,44 +93,11 @@ impl Tally for Swept {
 
     #[inline(always)]
     fn add_loop<H: Heights>(&mut self, field: &H, cell: Cell, edges: &[u8]) {
-        let heights = field.corner_heights(cell);
-        let corner = cell_position(cell);
-        let first = local_position(&heights, edges[0]);
-        let mut sum = first;
-        let mut last = first;
-        let mut swept = [0; 3];
-        for edge in &edges[1..] {
-            let next = local_position(&heights, *edge);
-            add_cross(&mut swept, &last, &next);
-            sum = [sum[0] + next[0], sum[1] + next[1], sum[2] + next[2]];
-            last = next;
-        }
-        add_cross(&mut swept, &last, &first);
-        let count = edges.len() as u32;
-        let tip = if count > 3 {
-            [
-                i64::from(rounded_mean(sum[0] as u32, count)),
-                i64::from(rounded_mean(sum[1] as u32, count)),
-                i64::from(rounded_mean(sum[2] as u32, count)),
-            ]
-        } else {
-            first
-        };
-        let mut six = 0;
-        for axis in 0..3 {
-            six += swept[axis] * (corner[axis] + tip[axis]);
-            self.area[axis] += i128::from(swept[axis]);
-        }
-        self.six += i128::from(six);
-        self.border += u64::from(border_steps(&field.sizes(), cell, edges));
+        *self = together(self, &of_one(field, cell, edges));
     }
 
     fn add(&mut self, other: &Swept) {
-        self.six += other.six;
-        for axis in 0..3 {
-            self.area[axis] += other.area[axis];
-        }
-        self.border += other.border;
+        *self = together(self, other);
     }
 }
 
