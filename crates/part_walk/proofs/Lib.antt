@@ -9,7 +9,7 @@ pub mod RowLaws
 pub mod StartLaws
 pub mod CountedParts
 pub mod MeshCounts
-pub mod AddedLaws
+pub mod SumLaws
 pub mod ShareLaws
 pub mod PlaceLaws
 pub mod MovedLaws

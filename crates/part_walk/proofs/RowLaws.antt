@@ -22,7 +22,7 @@ use Rattle.flat_mesh.specs.Lattice.{Leveled, heights}
 use Rattle.flat_mesh.specs.declared.centres.Cell.{Cell}
 use Rattle.loop_labels.specs.Fronts.{none, room, row_name}
 use Rattle.loop_labels.specs.Labelling.{Known}
-use Rattle.loop_labels.proofs.AddedLaws.{row_left}
+use Rattle.loop_labels.proofs.SumLaws.{row_left}
 use Rattle.part_laws.specs.Labels.{unlabelled}
 use Rattle.part_laws.specs.Loops.{Loop, loops_in, mesh_loops}
 use Rattle.part_laws.specs.Meets.{is_met}

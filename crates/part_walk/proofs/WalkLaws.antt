@@ -27,7 +27,7 @@ use Rattle.label_joins.specs.Chains.{ArePaired}
 use Rattle.loop_labels.specs.Fronts.{none, room, row_name, slot_of}
 use Rattle.loop_labels.specs.Labelling.{IsAdded, Known}
 use Rattle.loop_labels.specs.Walked.{IsLabelled}
-use Rattle.loop_labels.proofs.AddedLaws.{loop_labelled}
+use Rattle.loop_labels.proofs.SumLaws.{loop_labelled}
 use Rattle.part_laws.specs.ByLabels.{firsts}
 use Rattle.part_laws.specs.Labels.{labelled, unlabelled}
 use Rattle.part_laws.specs.Loops.{Loop}

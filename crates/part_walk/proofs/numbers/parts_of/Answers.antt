@@ -5,7 +5,7 @@ use Rattle.mesh_report.specs.declared.part.Part.{Part}
 use Rattle.part_walk.specs.Counts.{part_with}
 use Rattle.part_walk.specs.declared.components.Component.{Component}
 use Rattle.part_walk.specs.declared.tally.Counts.{Counts}
-use Rattle.part_walk.proofs.AddedLaws.{map_more}
+use Rattle.part_walk.proofs.SumLaws.{map_more}
 use Rattle.part_walk.proofs.numbers.parts_of.Goals as goal
 
 abbrev none : Component Counts

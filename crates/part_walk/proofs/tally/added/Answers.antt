@@ -3,7 +3,7 @@ use Rattle.std.proofs.lemmas.List.{take_all}
 use Rattle.std.specs.List.{sum_by}
 use Rattle.iso_defs.specs.Lists.{below}
 use Rattle.measure_laws.specs.Totals.{total}
-use Rattle.part_walk.proofs.AddedLaws.{sum_more, sum_within, total_more}
+use Rattle.part_walk.proofs.SumLaws.{sum_more, sum_within, total_more}
 use Rattle.part_walk.proofs.tally.added.Goals as goal
 
 pub loop-tally-init : goal.loop-tally-init
