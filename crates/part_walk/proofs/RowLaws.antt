@@ -32,6 +32,7 @@ use Rattle.part_laws.proofs.LoopLaws.{cell_loop}
 use Rattle.part_laws.proofs.Numbered.{loops_cross}
 use Rattle.part_walk.specs.declared.passed.Passed.{Passed}
 use Rattle.part_walk.specs.Passed.{AreEdges, IsLeft, Leaving, edges_before, row_end}
+use Rattle.part_walk.specs.Components.{IsWhole}
 use Rattle.part_walk.specs.Walks.{AreTallies, IsWalked, loops_before}
 use Rattle.part_walk.proofs.CellLaws.{before_quiets}
 use Rattle.part_walk.proofs.WalkLaws.{edge_within}
@@ -263,3 +264,15 @@ pub moved : {T : Type 0} (value : T → ℕ → ℤ) (fits : ℕ → T → Type 
     → IsWalked value fits of_loop v r (loops_before v q) labels ts edges → IsWalked value fits of_loop v r' (loops_before v q') labels ts edges
 moved value fits of_loop v r r' q q' labels ts edges er eq h =
     subst (λ n. IsWalked value fits of_loop v n (loops_before v q') labels ts edges) er (subst (λ n. IsWalked value fits of_loop v r (loops_before v n) labels ts edges) eq h)
+
+-- behind the last row are the loops of all cells
+all_before : (v : Leveled) → loops_before v (row_start v.grid 0 v.grid.nz) ≡ mesh_loops v.grid (heights v)
+unfolding loops_before
+all_before v =
+    ap (λ n. flat_map (loops_in v.grid (heights v)) (filter (is_cell v.grid) (below n)))
+    (let e : row_start v.grid 0 v.grid.nz ≡ point_count v.grid = omega arith in e)
+
+pub whole_of : {T : Type 0} (value : T → ℕ → ℤ) (fits : ℕ → T → Type 0) (of_loop : Leveled → ℕ → Loop → ℤ) (v : Leveled) (labels : Known) (ts : List T) (edges : Passed) → IsGrid v.grid
+    → IsWalked value fits of_loop v (v.grid.ny * v.grid.nz) (loops_before v (row_start v.grid 0 v.grid.nz)) labels ts edges → IsWhole value fits of_loop v labels ts edges
+whole_of value fits of_loop v labels ts edges is h =
+    record { thick = grid_is_thick is; walked = subst (λ ls. IsWalked value fits of_loop v (v.grid.ny * v.grid.nz) ls labels ts edges) (all_before v) h }
