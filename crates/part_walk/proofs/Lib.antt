@@ -7,3 +7,4 @@ pub mod LongerLaws
 pub mod CellLaws
 pub mod RowLaws
 pub mod StartLaws
+mod AddedLaws

@@ -3,4 +3,5 @@ pub mod Counts
 pub mod Passed
 pub mod Walks
 pub mod Sweep
+pub mod Begun
 pub mod Components
