@@ -8,3 +8,4 @@ pub mod CellLaws
 pub mod RowLaws
 pub mod StartLaws
 mod AddedLaws
+mod BegunLaws

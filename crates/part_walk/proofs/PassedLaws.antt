@@ -16,13 +16,13 @@ eqb_turned a b =
     ]
 
 module _ (f : ℕ → ℕ) where
-  abbrev told : List ℕ → ℕ → Bool
+  abbrev pub told : List ℕ → ℕ → Bool
   told es e = list_any (λ d. eqb (f d) (f e)) es
 
-  abbrev with_last : Bool → List ℕ → ℕ → List ℕ
+  abbrev pub with_last : Bool → List ℕ → ℕ → List ℕ
   with_last known es e = cond known (firsts f es) (firsts f es ++ e ∷ [])
 
-  firsts_last : (es : List ℕ) (e : ℕ) → firsts f (es ++ e ∷ []) ≡ with_last (told es e) es e
+  pub firsts_last : (es : List ℕ) (e : ℕ) → firsts f (es ++ e ∷ []) ≡ with_last (told es e) es e
   firsts_last [] e = refl
   firsts_last (x ∷ es) e =
       ap (λ ds. x ∷ filter (λ d. not (eqb (f d) (f x))) ds) (firsts_last es e) ∙ go (told es e) (eqb (f x) (f e)) refl

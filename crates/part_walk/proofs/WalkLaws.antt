@@ -83,7 +83,7 @@ module _ (f g : ℕ → ℕ) where
   filter_same d (x ∷ es) q h =
       ap₂ (λ b ys. cond b (x ∷ ys) ys) (ap₂ (λ a b. not (eqb a b)) (h x (inl refl)) q) (filter_same d es q (λ e i. h e (inr i)))
 
-  firsts_inside : (es : List ℕ) (e : ℕ) → In e (firsts f es) → In e es
+  pub firsts_inside : (es : List ℕ) (e : ℕ) → In e (firsts f es) → In e es
   firsts_inside [] e i = i
   firsts_inside (x ∷ es) e (inl q) = inl q
   firsts_inside (x ∷ es) e (inr i) = inr (firsts_inside es e (In-filter (λ d. not (eqb (f d) (f x))) e (firsts f es) i).0)
