@@ -151,3 +151,14 @@ module _ {T : Type 0} (value : T → ℕ → ℤ) (fits : ℕ → T → Type 0) 
       h.fit few.of (λ a t k. few.fit a t (omega (arith, k, low))) (place n) d (omega (arith, inside, h.count)),
       few.fit n t low,
     )
+
+-- the same, by other lists
+pub added_same : {T : Type 0} (value : T → ℕ → ℤ) (fits : ℕ → T → Type 0) (ps ps' js js' xs xs' : List ℕ) (n n' : ℕ) (ts ts' : List T) (cs cs' new : List (Component T)) → ps ≡ ps' → js ≡ js' → n ≡ n' → xs ≡ xs' → ts ≡ ts' → cs ≡ cs'
+    → AreAdded value fits (λ a. get_or ps (get_or js a 0) 0) n xs ts cs new → AreAdded value fits (λ a. get_or ps' (get_or js' a 0) 0) n' xs' ts' cs' new
+added_same value fits ps ps' js js' xs xs' n n' ts ts' cs cs' new ep ej en ex et ec h =
+    subst (λ ps. AreAdded value fits (λ a. get_or ps (get_or js' a 0) 0) n' xs' ts' cs' new) ep
+    (subst (λ js. AreAdded value fits (λ a. get_or ps (get_or js a 0) 0) n' xs' ts' cs' new) ej
+    (subst (λ n. AreAdded value fits (λ a. get_or ps (get_or js a 0) 0) n xs' ts' cs' new) en
+    (subst (λ xs. AreAdded value fits (λ a. get_or ps (get_or js a 0) 0) n xs ts' cs' new) ex
+    (subst (λ ts. AreAdded value fits (λ a. get_or ps (get_or js a 0) 0) n xs ts cs' new) et
+    (subst (λ cs. AreAdded value fits (λ a. get_or ps (get_or js a 0) 0) n xs ts cs new) ec h)))))

@@ -8,19 +8,9 @@ use Rattle.part_laws.specs.ByLabels.{firsts}
 use Rattle.verdict_laws.proofs.Lists.{In, any_in, in_any, in_filter}
 use Rattle.part_walk.specs.Begun.{AreBegun, IsEmpty}
 use Rattle.part_walk.specs.declared.components.Component.{Component}
+use Rattle.part_walk.proofs.FirstLaws.{first_of}
 use Rattle.part_walk.proofs.PassedLaws.{firsts_last, told, with_last}
 use Rattle.part_walk.proofs.WalkLaws.{firsts_inside}
-
--- what is told of an edge is told of one of the first edges
-first_of : (f : ℕ → ℕ) (es : List ℕ) (d : ℕ) → In d es → (e : ℕ) × In e (firsts f es) × (f e ≡ f d)
-first_of f [] d i = absurd i
-first_of f (x ∷ es) d (inl q) = (x, inl refl, ap f (sym q))
-first_of f (x ∷ es) d (inr i) =
-    let e : (e : ℕ) × In e (firsts f es) × (f e ≡ f d) = first_of f es d i in
-    elim (cases_Bool (eqb (f e.0) (f x))) [
-      | inl t ↦ (x, inl refl, sym (eqb-true (f e.0) (f x) t) ∙ e.2)
-      | inr n ↦ (e.0, inr (in_filter (λ d. not (eqb (f d) (f x))) e.0 (firsts f es) e.1 (not_from_false (eqb (f e.0) (f x)) n)), e.2)
-    ]
 
 module _ {T : Type 0} (value : T → ℕ → ℤ) (fits : ℕ → T → Type 0) (name number : ℕ → ℕ) where
   -- none is begun

@@ -30,7 +30,7 @@ take_low zero ls = omega arith
 take_low (suc n) [] = omega arith
 take_low (suc n) (l ∷ ls) = let h : length (take n ls) ≤ length ls = take_low n ls in omega (arith, h)
 
-filter_low : (p : ℕ → Bool) (xs : List ℕ) → length (filter p xs) ≤ length xs
+pub filter_low : (p : ℕ → Bool) (xs : List ℕ) → length (filter p xs) ≤ length xs
 filter_low p xs = let a : length (filter p xs) ≡ count_by p xs = length-filter p xs in let b : count_by p xs ≤ length xs = count_by-le-length p xs in omega (arith, a, b)
 
 module _ (v : Leveled) where

@@ -7,5 +7,7 @@ pub mod LongerLaws
 pub mod CellLaws
 pub mod RowLaws
 pub mod StartLaws
-mod AddedLaws
-mod BegunLaws
+pub mod AddedLaws
+pub mod FirstLaws
+pub mod BegunLaws
+pub mod ComponentLaws

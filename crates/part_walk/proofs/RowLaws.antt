@@ -266,7 +266,7 @@ moved value fits of_loop v r r' q q' labels ts edges er eq h =
     subst (λ n. IsWalked value fits of_loop v n (loops_before v q') labels ts edges) er (subst (λ n. IsWalked value fits of_loop v r (loops_before v n) labels ts edges) eq h)
 
 -- behind the last row are the loops of all cells
-all_before : (v : Leveled) → loops_before v (row_start v.grid 0 v.grid.nz) ≡ mesh_loops v.grid (heights v)
+pub all_before : (v : Leveled) → loops_before v (row_start v.grid 0 v.grid.nz) ≡ mesh_loops v.grid (heights v)
 unfolding loops_before
 all_before v =
     ap (λ n. flat_map (loops_in v.grid (heights v)) (filter (is_cell v.grid) (below n)))

@@ -187,7 +187,7 @@ tallies_known value fits of_loop v row loops old new ts ts' edges edges' h longe
     (λ b d i le low. longer.values b d i (omega (arith, le, h.tallies_are.size)) low) (λ b d le low. longer.fit b d (omega (arith, le, h.tallies_are.size)) low)
 
 -- the loops of a label are no more than all
-labelled_few : (xs : List (ℕ × Loop)) (p : ℕ → Bool) → length (labelled xs p) ≤ length (unlabelled xs)
+pub labelled_few : (xs : List (ℕ × Loop)) (p : ℕ → Bool) → length (labelled xs p) ≤ length (unlabelled xs)
 labelled_few [] p = omega arith
 labelled_few (x ∷ xs) p = go (p x.0) (labelled_few xs p)
   where

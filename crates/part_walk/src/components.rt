@@ -109,7 +109,7 @@ pub fn components<T: Tally>(
     requires whole { (v : Leveled) × IsWhole T.value T.fits T.of_loop v walked.now.labels walked.now.tallies.items walked.now.edges }
     ensures { IfOk result (λ cs. (v : Leveled) → IsWhole T.value T.fits T.of_loop v walked.now.labels walked.now.tallies.items walked.now.edges → AreComponents T.value T.fits T.of_loop v cs.items) }
 {
-    let _ = walked.labels.sizes();
+    let _ = walked.labels.sizes().nx();
     let count = walked.labels.count();
     let joined = least_joined(alloc, count, walked.labels.pairs())?;
     let mut places = vec![in alloc; NONE; count as usize]?;
