@@ -105,13 +105,13 @@ module _ {T : Type 0} (value : T → ℕ → ℤ) (fits : ℕ → T → Type 0) 
       crossings_are = λ i d l.
           elim (cases_eq i (place n)) [
             | inl e ↦ ap (λ (k : Component T). k.crossings) (new i d e) ∙ (crossings ∙ (ap (λ (k : Component T). k.crossings + get_or xs n 0) (sym (before i d e))
-              ∙ (ap (λ k. k + get_or xs n 0) (h.crossings_are i d l) ∙ sum_here (λ a. get_or xs a 0) i e)))
+                ∙ (ap (λ k. k + get_or xs n 0) (h.crossings_are i d l) ∙ sum_here (λ a. get_or xs a 0) i e)))
             | inr o ↦ ap (λ (k : Component T). k.crossings) (same i d o) ∙ (h.crossings_are i d l ∙ sum_there (λ a. get_or xs a 0) i o)
           ];
       values = λ i d t j l.
           elim (cases_eq i (place n)) [
             | inl e ↦ ap (λ (k : Component T). value k.tally j) (new i d e) ∙ (values t j ∙ (ap (λ (k : Component T). value k.tally j +ℤ value (get_or ts n t) j) (sym (before i d e))
-              ∙ (ap (λ k. k +ℤ value (get_or ts n t) j) (h.values i d t j l) ∙ total_here (λ a. value (get_or ts a t) j) i e)))
+                ∙ (ap (λ k. k +ℤ value (get_or ts n t) j) (h.values i d t j l) ∙ total_here (λ a. value (get_or ts a t) j) i e)))
             | inr o ↦ ap (λ (k : Component T). value k.tally j) (same i d o) ∙ (h.values i d t j l ∙ total_there (λ a. value (get_or ts a t) j) i o)
           ];
       fit = λ of low i d l.
@@ -123,7 +123,7 @@ module _ {T : Type 0} (value : T → ℕ → ℤ) (fits : ℕ → T → Type 0) 
                 subst (λ (k : Component T). fits (sum_by (λ a. cond (eqb (place a) i) (of a) 0) (below (n + 1))) k.tally) (sym (new i d e))
                 (subst (λ k. fits k c.tally) (sum_here of i e) (small old.tally (sum_by (λ a. cond (eqb (place a) i) (of a) 0) (below n)) (of n) here (low n old.tally (omega arith)))))
             | inr o ↦ subst (λ (k : Component T). fits (sum_by (λ a. cond (eqb (place a) i) (of a) 0) (below (n + 1))) k.tally) (sym (same i d o))
-              (subst (λ k. fits k (get_or cs' i d).tally) (sum_there of i o) was)
+                (subst (λ k. fits k (get_or cs' i d).tally) (sum_there of i o) was)
           ]);
     }
       where

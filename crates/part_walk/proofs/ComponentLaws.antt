@@ -1,14 +1,14 @@
 -- The components that were put together are those of the classes.
-use Rattle.std.proofs.Common.{◌≡◌, ℕ, ◌+◌, ◌*◌, ◌<◌, ◌≤◌, ℤ, pos, Bool, true, false, cond, not, List, [], ◌∷◌, ◌++◌, map, take, drop, length, get_or, refl, sym, ◌∙◌, ap, ap₂, subst, inl, inr, arith, eqb}
+use Rattle.std.proofs.Common.{◌≡◌, ℕ, ◌+◌, ◌*◌, ◌<◌, ◌≤◌, ℤ, pos, true, cond, List, [], ◌∷◌, ◌++◌, map, take, drop, length, get_or, refl, sym, ◌∙◌, ap, subst, inl, inr, arith, eqb}
 use Rattle.std.specs.List.{AllByRecursion, count_by, filter, sum_by}
-use Rattle.std.proofs.lemmas.Bool.{cases_eq, eq-eqb, eqb-true, ne_eqb}
+use Rattle.std.proofs.lemmas.Bool.{cases_eq, eq-eqb, ne_eqb}
 use Rattle.std.proofs.lemmas.List.{drop_all, get_or-map, length-map, take_all}
 use Rattle.std.proofs.lemmas.List.FromFn.{length-range_with_len}
 use Rattle.std.proofs.lemmas.List.Sums.{count_by-le-length, sum_by-cons}
 use Rattle.iso_base.specs.Sizing.{IsGrid}
-use Rattle.iso_defs.specs.Grid.{Grid, name_bound, point_count}
+use Rattle.iso_defs.specs.Grid.{name_bound}
 use Rattle.iso_defs.specs.Lists.{below}
-use Rattle.iso_defs.specs.Scratch.{crossing_edges, number_of}
+use Rattle.iso_defs.specs.Scratch.{number_of}
 use Rattle.iso_defs.specs.Signs.{is_crossing}
 use Rattle.crossing_edges.specs.Flags.{rank}
 use Rattle.flat_mesh.specs.Lattice.{Leveled, heights}
@@ -21,10 +21,10 @@ use Rattle.measure.proofs.PlaceLaws.{in_place}
 use Rattle.measure_laws.specs.Totals.{total}
 use Rattle.mesh_laws.proofs.Cells.{range_at_least}
 use Rattle.mesh_report.proofs.Sums.{sum_agree}
-use Rattle.part_laws.specs.ByLabels.{firsts, loops_named}
+use Rattle.part_laws.specs.ByLabels.{firsts}
 use Rattle.part_laws.specs.Classes.{class_of}
 use Rattle.part_laws.specs.Labels.{labelled, unlabelled}
-use Rattle.part_laws.specs.Loops.{Loop, mesh_loops}
+use Rattle.part_laws.specs.Loops.{Loop}
 use Rattle.part_laws.specs.Meets.{least_joined, pair_loop}
 use Rattle.part_laws.specs.Parts.{class_loops, classes}
 use Rattle.part_laws.proofs.ClassLaws.{class_low}
@@ -35,10 +35,10 @@ use Rattle.part_laws.proofs.Measured.{total_in}
 use Rattle.part_laws.proofs.NamedParts.{class_in, classes_first, edges_named, loops_are_named}
 use Rattle.verdict_laws.proofs.Lists.{In, In-filter}
 use Rattle.verdict_laws.proofs.Counts.{count_agree}
-use Rattle.part_walk.specs.Begun.{AreAdded, AreBegun, AreFew, IsEmpty}
+use Rattle.part_walk.specs.Begun.{AreAdded, AreBegun, AreFew}
 use Rattle.part_walk.specs.Components.{AreComponents, IsComponent, IsWhole, edges_of, loops_of}
 use Rattle.part_walk.specs.Passed.{AreEdges, edges_before}
-use Rattle.part_walk.specs.Walks.{AreTallies, IsWalked, loops_before}
+use Rattle.part_walk.specs.Walks.{loops_before}
 use Rattle.part_walk.specs.declared.passed.Passed.{Passed}
 use Rattle.part_walk.specs.declared.components.Component.{Component}
 use Rattle.part_walk.proofs.CellLaws.{few_before, filter_low}
@@ -180,7 +180,7 @@ module _ {T : Type 0} (value : T → ℕ → ℤ) (fits : ℕ → T → Type 0) 
                   let e : name k ≡ get_or joined a 0 = ap name (sym (ap (λ j. get_or (firsts name (firsts label es)) j 0) q ∙ first_is)) ∙ r.1 in
                   eq-eqb (place a) i q ∙ sym (eq-eqb (least_joined labels.pairs a) (f k) (sym (least.each a l) ∙ (sym e ∙ name_is k known.0))))
               | inr d ↦ ne_eqb (place a) i d
-                ∙ sym (ne_eqb (least_joined labels.pairs a) (f k) (λ q. d (ap (λ b. get_or places b 0) (least.each a l ∙ (q ∙ sym (name_is k known.0))) ∙ (ap (λ e. get_or places (name e) 0) (sym first_is) ∙ begun.place i low))))
+                  ∙ sym (ne_eqb (least_joined labels.pairs a) (f k) (λ q. d (ap (λ b. get_or places b 0) (least.each a l ∙ (q ∙ sym (name_is k known.0))) ∙ (ap (λ e. get_or places (name e) 0) (sym first_is) ∙ begun.place i low))))
             ]
 
         loops_at : labelled xs (λ a. eqb (place a) i) ≡ class_loops (unlabelled xs) k

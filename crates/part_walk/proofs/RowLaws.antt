@@ -1,5 +1,5 @@
 -- A row of points is left behind when the loops of the cells that begin in it have their labels.
-use Rattle.std.proofs.Common.{◌≡◌, ◌≢◌, ℕ, zero, suc, ◌+◌, ◌-◌, ◌*◌, ◌/◌, ◌%◌, ◌<◌, ◌≤◌, ℤ, Bool, true, false, cond, not, List, [], ◌∷◌, map, length, get_or, refl, sym, ◌∙◌, ap, subst, inl, inr, arith, eqb}
+use Rattle.std.proofs.Common.{◌≡◌, ℕ, zero, suc, ◌+◌, ◌-◌, ◌*◌, ◌/◌, ◌%◌, ◌<◌, ◌≤◌, ℤ, Bool, true, false, cond, not, List, [], map, refl, sym, ◌∙◌, ap, subst, inl, inr, arith, eqb}
 use Rattle.std.specs.List.{filter, flat_map}
 use Rattle.std.proofs.lemmas.Bool.{both_ways, cases_Bool, cases_lt, eq-eqb, eqb-true, ne_eqb}
 use Rattle.std.proofs.Math.Nat.{mul-add, mul-le-mul_left}
@@ -7,7 +7,7 @@ use Rattle.iso_base.specs.Sizing.{IsGrid}
 use Rattle.iso_base.proofs.VolumeLaws.{grid_is_thick}
 use Rattle.iso_defs.specs.Cell.{cell_edge}
 use Rattle.iso_defs.specs.Grid.{Grid, cells, coordinate, index, is_cell, name_bound, point_count}
-use Rattle.iso_defs.specs.Lists.{below, is_in}
+use Rattle.iso_defs.specs.Lists.{below}
 use Rattle.iso_defs.specs.Scratch.{cell_loops, centre_name, crossing_edges}
 use Rattle.iso_defs.specs.Signs.{is_crossing}
 use Rattle.iso_defs.proofs.Points.{index_of_point, x_index, y_index, z_index}
@@ -23,7 +23,6 @@ use Rattle.flat_mesh.specs.declared.centres.Cell.{Cell}
 use Rattle.loop_labels.specs.Fronts.{none, room, row_name}
 use Rattle.loop_labels.specs.Labelling.{Known}
 use Rattle.loop_labels.proofs.AddedLaws.{row_left}
-use Rattle.part_laws.specs.Labels.{unlabelled}
 use Rattle.part_laws.specs.Loops.{Loop, loops_in, mesh_loops}
 use Rattle.part_laws.specs.Meets.{is_met}
 use Rattle.part_laws.proofs.FirstMet.{edge_looped}

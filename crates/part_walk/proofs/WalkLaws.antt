@@ -1,14 +1,13 @@
 -- A loop more is walked.
 use Rattle.std.proofs.Common.{◌≡◌, ◌≢◌, ℕ, zero, suc, ◌+◌, ◌*◌, ◌/◌, ◌%◌, ◌<◌, ◌≤◌, ℤ, pos, ◌+ℤ◌, Bool, true, false, cond, not, List, [], ◌∷◌, ◌++◌, map, length, get_or, set, refl, sym, ◌∙◌, ap, ap₂, subst, inl, inr, arith, eqb}
-use Rattle.std.specs.List.{AllByRecursion, count_by, filter}
-use Rattle.std.proofs.lemmas.Bool.{both_ways, cases_Bool, cases_eq, cases_lt, eq-eqb, ne_eqb, eqb-true}
+use Rattle.std.specs.List.{AllByRecursion, filter}
+use Rattle.std.proofs.lemmas.Bool.{cases_Bool, cases_eq, cases_lt, eq-eqb, ne_eqb, eqb-true}
 use Rattle.std.proofs.lemmas.Int.{ints}
 use Rattle.std.proofs.lemmas.List.{get_or-map, get_or-set_other, get_or-set_same, length-append, length-map, length-set}
 use Rattle.std.proofs.Math.Nat.{mod-lt, mul-le-mul_left}
 use Rattle.iso_defs.specs.Cell.{cell_edge, edge_corner}
 use Rattle.iso_defs.specs.Grid.{Grid}
 use Rattle.iso_defs.specs.Lists.{below, is_in}
-use Rattle.iso_defs.specs.Scratch.{centre_name}
 use Rattle.iso_defs.specs.Signs.{is_crossing}
 use Rattle.verdict_laws.proofs.Lists.{In, In-filter, In-map}
 use Rattle.verdict_laws.proofs.Counts.{count_agree, count_none}
@@ -26,7 +25,6 @@ use Rattle.flat_mesh.specs.declared.centres.Cell.{Cell}
 use Rattle.label_joins.specs.Chains.{ArePaired}
 use Rattle.loop_labels.specs.Fronts.{none, room, row_name, slot_of}
 use Rattle.loop_labels.specs.Labelling.{IsAdded, Known}
-use Rattle.loop_labels.specs.Walked.{IsLabelled}
 use Rattle.loop_labels.proofs.AddedLaws.{loop_labelled}
 use Rattle.part_laws.specs.ByLabels.{firsts}
 use Rattle.part_laws.specs.Labels.{labelled, unlabelled}

@@ -102,23 +102,16 @@ fn add_all<T: Tally>(
 }
 
 /// The components in the order of their smallest vertices.
-pub fn components<T: Tally>(
-    alloc: Global,
-    walked: &Walked<T>,
-) -> Result<Vec<Component<T>>, Memory>
+pub fn components<T: Tally>(alloc: Global, walked: &Walked<T>) -> Result<Vec<Component<T>>, Memory>
     requires whole { (v : Leveled) × IsWhole T.value T.fits T.of_loop v walked.now.labels walked.now.tallies.items walked.now.edges }
     ensures { IfOk result (λ cs. (v : Leveled) → IsWhole T.value T.fits T.of_loop v walked.now.labels walked.now.tallies.items walked.now.edges → AreComponents T.value T.fits T.of_loop v cs.items) }
 {
+    // The sizes bound how many edges and loops there are.
     let _ = walked.labels.sizes().nx();
     let count = walked.labels.count();
     let joined = least_joined(alloc, count, walked.labels.pairs())?;
     let mut places = vec![in alloc; NONE; count as usize]?;
-    let mut components = begin_all(
-        alloc,
-        &walked.edges.order,
-        &joined,
-        places.as_mut_slice(),
-    )?;
+    let mut components = begin_all(alloc, &walked.edges.order, &joined, places.as_mut_slice())?;
     add_all(
         &joined,
         &places,

@@ -1,4 +1,4 @@
-use Rattle.std.proofs.Common.{◌≡◌, ◌∙◌, ℕ, ◌+◌, ◌+ℤ◌, ◌<◌, ◌≤◌, List, length, get_or, set, ap, sym, subst, arith}
+use Rattle.std.proofs.Common.{◌≡◌, ◌∙◌, ℕ, ◌+◌, ◌+ℤ◌, ◌<◌, length, get_or, ap, sym, subst, arith}
 use Rattle.std.proofs.lemmas.List.{get_or_default}
 use Rattle.part_walk.specs.Begun.{AreAdded}
 use Rattle.part_walk.proofs.AddedLaws.{added_more, added_none, added_past, crossings_fit, tallies_fit}
@@ -39,8 +39,8 @@ loop-label-preserved g c =
           (λ t j. w.add.ensures.values j ∙ ap (λ x. g.T.Tally.value (get_or c.loop-label.components (place c.loop-label.label) w.index-components-place.result).tally j +ℤ g.T.Tally.value x j) (at t))
           (λ t k m f f'. w.add.ensures.fits k m f (subst (g.T.Tally.fits m) (sym (at t)) f'))))
       | else-place-components w ↦
-        subst (AreAdded g.T.Tally.value g.T.Tally.fits place (c.loop-label.label + 1) c.args.crossings.now c.args.tallies.now c.args.components.now) (sym w.components-is)
-        (added_past g.T.Tally.value g.T.Tally.fits place c.args.crossings.now c.args.tallies.now c.args.components.now c.loop-label.label c.loop-label.components c.loop-label.invariant (omega (arith, w.if-place-components.false)))
+          subst (AreAdded g.T.Tally.value g.T.Tally.fits place (c.loop-label.label + 1) c.args.crossings.now c.args.tallies.now c.args.components.now) (sym w.components-is)
+          (added_past g.T.Tally.value g.T.Tally.fits place c.args.crossings.now c.args.tallies.now c.args.components.now c.loop-label.label c.loop-label.components c.loop-label.invariant (omega (arith, w.if-place-components.false)))
     ]
 
 pub returns : goal.returns

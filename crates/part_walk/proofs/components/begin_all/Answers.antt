@@ -1,5 +1,5 @@
-use Rattle.std.proofs.Common.{◌≡◌, ◌≢◌, ◌∙◌, ℕ, ◌+◌, ◌<◌, ◌≤◌, List, ◌++◌, ◌∷◌, [], length, get_or, map, set, take, ap, ap₂, sym, subst, arith}
-use Rattle.std.proofs.lemmas.List.{get_or-map, length-map, length_push, take_all, take_more}
+use Rattle.std.proofs.Common.{◌≡◌, ◌∙◌, ℕ, ◌+◌, ◌<◌, List, ◌++◌, ◌∷◌, [], length, get_or, map, set, take, ap, sym, subst, arith}
+use Rattle.std.proofs.lemmas.List.{length-map, length_push, take_all}
 use Rattle.loop_labels.specs.Fronts.{none}
 use Rattle.part_walk.specs.Begun.{AreBegun}
 use Rattle.part_walk.proofs.BegunLaws.{begun_none, next_before, next_more}
@@ -30,7 +30,8 @@ loop-label-preserved g c =
     → AreBegun g.T.Tally.value g.T.Tally.fits (λ e. get_or joined (label e) 0) number (take (n + 1) es) ps cs in
     elim c.if-places-name.branch [
       | then-places-name+in_ok-push w ↦ (
-          let items : c.if-places-name.components.items ≡ c.loop-label.components.items ++ w.begun.result ∷ [] = ap (λ v. v.items) w.components-is ∙ w.in_ok-push.ensures.items in
+          let items : c.if-places-name.components.items ≡ c.loop-label.components.items ++ w.begun.result ∷ []
+          = ◌∙◌ {c = c.loop-label.components.items ++ w.begun.result ∷ []} (ap (λ v. v.items) w.components-is) w.in_ok-push.ensures.items in
           let size : w.len.result ≡ length c.loop-label.components.items = omega (arith, w.len.ensures, c.loop-label.components.ok.0) in
           let places : c.if-places-name.places ≡ set c.loop-label.places (get_or joined a 0) (length c.loop-label.components.items) = w.places-is ∙ ap (set c.loop-label.places (get_or joined a 0)) size in
           record {
@@ -40,11 +41,11 @@ loop-label-preserved g c =
                 w.begun.result w.if-places-name.true few w.begun.ensures.least w.begun.ensures.empty));
           })
       | else-places-name w ↦ record {
-          few = omega (arith, i.few, ap (λ v. length v.items) w.components-is);
-          begun = subst (λ ps. grown ps c.if-places-name.components.items) (sym w.places-is) (subst (grown c.loop-label.places) (sym (ap (λ v. v.items) w.components-is))
-              (λ label number es e. next_before g.T.Tally.value g.T.Tally.fits joined c.loop-label.places c.args.order.now c.loop-label.components.items n c.loop-label-test.true inside label number es e (i.begun label number es e)
-              w.if-places-name.false));
-        }
+        few = omega (arith, i.few, ap (λ v. length v.items) w.components-is);
+        begun = subst (λ ps. grown ps c.if-places-name.components.items) (sym w.places-is) (subst (grown c.loop-label.places) (sym (ap (λ v. v.items) w.components-is))
+            (λ label number es e. next_before g.T.Tally.value g.T.Tally.fits joined c.loop-label.places c.args.order.now c.loop-label.components.items n c.loop-label-test.true inside label number es e (i.begun label number es e)
+            w.if-places-name.false));
+      }
     ]
 
 pub returns-clause-begun : goal.returns-clause-begun

@@ -1,4 +1,4 @@
-use Rattle.std.proofs.Common.{◌≡◌, ◌∙◌, ℕ, ◌+◌, ◌<◌, ◌≤◌, List, length, get_or, map, ap, ap₂, sym, subst, arith}
+use Rattle.std.proofs.Common.{◌≡◌, ◌∙◌, ℕ, ◌<◌, List, length, get_or, ap, ap₂, sym, subst, arith}
 use Rattle.std.specs.List.{sum_by}
 use Rattle.iso_base.specs.Sizing.{IsGrid}
 use Rattle.iso_defs.specs.Lists.{below}

@@ -1,4 +1,4 @@
-use Rattle.std.proofs.Common.{◌≡◌, ◌∙◌, ◌+◌, ◌*◌, ◌<◌, ◌≤◌, ℕ, length, refl, sym, ap, subst, arith}
+use Rattle.std.proofs.Common.{◌≡◌, ◌∙◌, ◌+◌, ◌*◌, refl, sym, ap, subst, arith}
 use Rattle.iso_defs.specs.Grid.{Grid}
 use Rattle.iso_base.specs.Sizing.{IsGrid}
 use Rattle.flat_mesh.specs.Lattice.{Leveled}
