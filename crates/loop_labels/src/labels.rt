@@ -75,6 +75,13 @@ impl Labels {
         })
     }
 
+    /// The sizes of the grid.
+    pub fn sizes(&self) -> Sizes
+        ensures { result ≡ self.now.marks.grid }
+    {
+        self.front.sizes()
+    }
+
     /// How many labels there are.
     pub fn count(&self) -> u32
         ensures value { result ≡ self.now.count }

@@ -184,12 +184,12 @@ module _ (g : Grid) (s : ℕ → ℤ) (thick : IsThick g) (xs : List (ℕ × Loo
 
   -- of a class, by its least edge
   module _ (k : ℕ) (i : In k edges) (is : class_of ls k ≡ k) where
-    edges_named : count_by (λ e. eqb (class_of ls e) k) edges ≡ count_by (λ e. eqb (f e) (f k)) edges
+    pub edges_named : count_by (λ e. eqb (class_of ls e) k) edges ≡ count_by (λ e. eqb (f e) (f k)) edges
     edges_named =
         count_agree (λ e. eqb (class_of ls e) k) (λ e. eqb (f e) (f k)) edges
         (λ e j. same_test (class_of ls e) k (f e) (f k) (λ q. to e k j i (q ∙ sym is)) (λ q. from e k j i q ∙ is))
 
-    loops_are_named : class_loops ls k ≡ loops_named xs name (f k)
+    pub loops_are_named : class_loops ls k ≡ loops_named xs name (f k)
     loops_are_named =
         loops_labelled xs (λ a. class_of ls (h.began a)) k (rooted xs ps label h long)
         ∙ ap (map (λ (x : ℕ × Loop). x.1))
@@ -221,7 +221,7 @@ module _ (g : Grid) (s : ℕ → ℤ) (thick : IsThick g) (xs : List (ℕ × Loo
             let o : class_of ls v ≡ k = own_in xs ps label h x v j m ∙ (one_root xs ps label h (label v) x.0 n ∙ q) in
             sym n ∙ one_joined xs ps label h v k (o ∙ sym is))
 
-  class_in : (k : ℕ) → In k (classes edges ls) → In k edges × (class_of ls k ≡ k)
+  pub class_in : (k : ℕ) → In k (classes edges ls) → In k edges × (class_of ls k ≡ k)
   class_in k j = let r : In k edges × (eqb (class_of ls k) k ≡ true) = In-filter (λ e. eqb (class_of ls e) e) k edges j in (r.0, eqb-true (class_of ls k) k r.1)
 
   pub summary_named : summary_of (length (vertices g s)) (triangles g s) ≡ named_summary g s xs name label

@@ -1,18 +1,17 @@
 -- The loops of one cell after the other.
-use Rattle.std.proofs.Common.{◌≡◌, ◌≢◌, ℕ, zero, suc, ◌+◌, ◌*◌, ◌/◌, ◌%◌, ◌<◌, ◌≤◌, ℤ, Bool, true, false, cond, List, [], ◌∷◌, ◌++◌, map, length, get_or, take, refl, sym, ◌∙◌, ap, ap₂, subst, inl, inr, arith}
+use Rattle.std.proofs.Common.{◌≡◌, ℕ, zero, suc, ◌+◌, ◌*◌, ◌<◌, ◌≤◌, Bool, true, false, cond, List, [], ◌∷◌, ◌++◌, map, length, get_or, take, refl, sym, ◌∙◌, ap, inl, inr, arith}
 use Rattle.std.specs.List.{count_by, enumerate_from, filter, flat_map, range_with_len}
-use Rattle.std.proofs.lemmas.Bool.{cases_Bool, lt-ltb, and_from}
+use Rattle.std.proofs.lemmas.Bool.{cases_Bool}
 use Rattle.std.proofs.lemmas.List.{get_or-map, length-append, length-map, take_all, take_more}
 use Rattle.std.proofs.lemmas.List.Elements.{filter-append}
 use Rattle.std.proofs.lemmas.List.Sums.{count_by-le-length, length-filter}
 use Rattle.std.proofs.lemmas.List.FromFn.{get_or-enumerate_from, length-enumerate_from}
 use Rattle.std.proofs.lemmas.Grind.{flat_map-append}
 use Rattle.iso_defs.specs.Cell.{case_loops, cell_edge, cell_joined, cell_signs, is_least, loop_of, next_pairs}
-use Rattle.iso_defs.specs.Grid.{Grid, cells, is_cell, point_count}
+use Rattle.iso_defs.specs.Grid.{Grid, is_cell}
 use Rattle.iso_defs.specs.Lists.{begins, below}
 use Rattle.iso_defs.specs.Scratch.{cell_loops, centre_name}
 use Rattle.iso_base.specs.Sizing.{IsGrid}
-use Rattle.verdict_laws.proofs.Lists.{In}
 use Rattle.mesh_laws.proofs.Cells.{cell_in}
 use Rattle.flat_mesh.specs.Centres.{IsCellAt}
 use Rattle.flat_mesh.specs.Faces.{loops_at}
@@ -30,7 +29,7 @@ take_low zero ls = omega arith
 take_low (suc n) [] = omega arith
 take_low (suc n) (l ∷ ls) = let h : length (take n ls) ≤ length ls = take_low n ls in omega (arith, h)
 
-filter_low : (p : ℕ → Bool) (xs : List ℕ) → length (filter p xs) ≤ length xs
+pub filter_low : (p : ℕ → Bool) (xs : List ℕ) → length (filter p xs) ≤ length xs
 filter_low p xs = let a : length (filter p xs) ≡ count_by p xs = length-filter p xs in let b : count_by p xs ≤ length xs = count_by-le-length p xs in omega (arith, a, b)
 
 module _ (v : Leveled) where

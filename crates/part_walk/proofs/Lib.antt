@@ -16,3 +16,7 @@ pub mod MovedLaws
 pub mod MeasureLaws
 pub mod RoundLaws
 pub mod LocalPlaces
+pub mod AddedLaws
+pub mod FirstLaws
+pub mod BegunLaws
+pub mod ComponentLaws

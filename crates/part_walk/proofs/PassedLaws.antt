@@ -1,7 +1,7 @@
 -- One more crossing edge is left behind.
-use Rattle.std.proofs.Common.{◌≡◌, ℕ, zero, suc, ◌+◌, ◌<◌, ◌≤◌, Bool, true, false, cond, ◌||◌, not, List, [], ◌∷◌, ◌++◌, map, length, get_or, set, refl, sym, ◌∙◌, ap, ap₂, subst, inl, inr, arith, eqb}
+use Rattle.std.proofs.Common.{◌≡◌, ℕ, ◌+◌, ◌<◌, Bool, true, false, cond, ◌||◌, not, List, [], ◌∷◌, ◌++◌, map, length, get_or, set, refl, sym, ◌∙◌, ap, ap₂, subst, inl, inr, arith, eqb}
 use Rattle.std.specs.List.{AllByRecursion, count_by, filter, list_any}
-use Rattle.std.proofs.lemmas.Bool.{cases_Bool, cases_eq, eq-eqb, eqb-true, ne_eqb}
+use Rattle.std.proofs.lemmas.Bool.{cases_eq, eq-eqb, ne_eqb}
 use Rattle.std.proofs.lemmas.List.{get_or-set_other, get_or-set_same, length-set}
 use Rattle.std.proofs.lemmas.List.Elements.{filter-append}
 use Rattle.verdict_laws.proofs.Counts.{count-append, count-cons}
@@ -16,13 +16,13 @@ eqb_turned a b =
     ]
 
 module _ (f : ℕ → ℕ) where
-  abbrev told : List ℕ → ℕ → Bool
+  abbrev pub told : List ℕ → ℕ → Bool
   told es e = list_any (λ d. eqb (f d) (f e)) es
 
-  abbrev with_last : Bool → List ℕ → ℕ → List ℕ
+  abbrev pub with_last : Bool → List ℕ → ℕ → List ℕ
   with_last known es e = cond known (firsts f es) (firsts f es ++ e ∷ [])
 
-  firsts_last : (es : List ℕ) (e : ℕ) → firsts f (es ++ e ∷ []) ≡ with_last (told es e) es e
+  pub firsts_last : (es : List ℕ) (e : ℕ) → firsts f (es ++ e ∷ []) ≡ with_last (told es e) es e
   firsts_last [] e = refl
   firsts_last (x ∷ es) e =
       ap (λ ds. x ∷ filter (λ d. not (eqb (f d) (f x))) ds) (firsts_last es e) ∙ go (told es e) (eqb (f x) (f e)) refl

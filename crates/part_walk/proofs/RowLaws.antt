@@ -1,5 +1,5 @@
 -- A row of points is left behind when the loops of the cells that begin in it have their labels.
-use Rattle.std.proofs.Common.{◌≡◌, ◌≢◌, ℕ, zero, suc, ◌+◌, ◌-◌, ◌*◌, ◌/◌, ◌%◌, ◌<◌, ◌≤◌, ℤ, Bool, true, false, cond, not, List, [], ◌∷◌, map, length, get_or, refl, sym, ◌∙◌, ap, subst, inl, inr, arith, eqb}
+use Rattle.std.proofs.Common.{◌≡◌, ℕ, zero, suc, ◌+◌, ◌-◌, ◌*◌, ◌/◌, ◌%◌, ◌<◌, ◌≤◌, ℤ, Bool, true, false, cond, not, List, [], map, refl, sym, ◌∙◌, ap, subst, inl, inr, arith, eqb}
 use Rattle.std.specs.List.{filter, flat_map}
 use Rattle.std.proofs.lemmas.Bool.{both_ways, cases_Bool, cases_lt, eq-eqb, eqb-true, ne_eqb}
 use Rattle.std.proofs.Math.Nat.{mul-add, mul-le-mul_left}
@@ -7,7 +7,7 @@ use Rattle.iso_base.specs.Sizing.{IsGrid}
 use Rattle.iso_base.proofs.VolumeLaws.{grid_is_thick}
 use Rattle.iso_defs.specs.Cell.{cell_edge}
 use Rattle.iso_defs.specs.Grid.{Grid, cells, coordinate, index, is_cell, name_bound, point_count}
-use Rattle.iso_defs.specs.Lists.{below, is_in}
+use Rattle.iso_defs.specs.Lists.{below}
 use Rattle.iso_defs.specs.Scratch.{cell_loops, centre_name, crossing_edges}
 use Rattle.iso_defs.specs.Signs.{is_crossing}
 use Rattle.iso_defs.proofs.Points.{index_of_point, x_index, y_index, z_index}
@@ -22,8 +22,7 @@ use Rattle.flat_mesh.specs.Lattice.{Leveled, heights}
 use Rattle.flat_mesh.specs.declared.centres.Cell.{Cell}
 use Rattle.loop_labels.specs.Fronts.{none, room, row_name}
 use Rattle.loop_labels.specs.Labelling.{Known}
-use Rattle.loop_labels.proofs.SumLaws.{row_left}
-use Rattle.part_laws.specs.Labels.{unlabelled}
+use Rattle.loop_labels.proofs.AddedLaws.{row_left}
 use Rattle.part_laws.specs.Loops.{Loop, loops_in, mesh_loops}
 use Rattle.part_laws.specs.Meets.{is_met}
 use Rattle.part_laws.proofs.FirstMet.{edge_looped}
@@ -32,6 +31,7 @@ use Rattle.part_laws.proofs.LoopLaws.{cell_loop}
 use Rattle.part_laws.proofs.Numbered.{loops_cross}
 use Rattle.part_walk.specs.declared.passed.Passed.{Passed}
 use Rattle.part_walk.specs.Passed.{AreEdges, IsLeft, Leaving, edges_before, row_end}
+use Rattle.part_walk.specs.Components.{IsWhole}
 use Rattle.part_walk.specs.Walks.{AreTallies, IsWalked, loops_before}
 use Rattle.part_walk.proofs.CellLaws.{before_quiets}
 use Rattle.part_walk.proofs.WalkLaws.{edge_within}
@@ -263,3 +263,15 @@ pub moved : {T : Type 0} (value : T → ℕ → ℤ) (fits : ℕ → T → Type 
     → IsWalked value fits of_loop v r (loops_before v q) labels ts edges → IsWalked value fits of_loop v r' (loops_before v q') labels ts edges
 moved value fits of_loop v r r' q q' labels ts edges er eq h =
     subst (λ n. IsWalked value fits of_loop v n (loops_before v q') labels ts edges) er (subst (λ n. IsWalked value fits of_loop v r (loops_before v n) labels ts edges) eq h)
+
+-- behind the last row are the loops of all cells
+pub all_before : (v : Leveled) → loops_before v (row_start v.grid 0 v.grid.nz) ≡ mesh_loops v.grid (heights v)
+unfolding loops_before
+all_before v =
+    ap (λ n. flat_map (loops_in v.grid (heights v)) (filter (is_cell v.grid) (below n)))
+    (let e : row_start v.grid 0 v.grid.nz ≡ point_count v.grid = omega arith in e)
+
+pub whole_of : {T : Type 0} (value : T → ℕ → ℤ) (fits : ℕ → T → Type 0) (of_loop : Leveled → ℕ → Loop → ℤ) (v : Leveled) (labels : Known) (ts : List T) (edges : Passed) → IsGrid v.grid
+    → IsWalked value fits of_loop v (v.grid.ny * v.grid.nz) (loops_before v (row_start v.grid 0 v.grid.nz)) labels ts edges → IsWhole value fits of_loop v labels ts edges
+whole_of value fits of_loop v labels ts edges is h =
+    record { thick = grid_is_thick is; walked = subst (λ ls. IsWalked value fits of_loop v (v.grid.ny * v.grid.nz) ls labels ts edges) (all_before v) h }

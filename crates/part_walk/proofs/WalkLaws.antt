@@ -1,14 +1,13 @@
 -- A loop more is walked.
 use Rattle.std.proofs.Common.{◌≡◌, ◌≢◌, ℕ, zero, suc, ◌+◌, ◌*◌, ◌/◌, ◌%◌, ◌<◌, ◌≤◌, ℤ, pos, ◌+ℤ◌, Bool, true, false, cond, not, List, [], ◌∷◌, ◌++◌, map, length, get_or, set, refl, sym, ◌∙◌, ap, ap₂, subst, inl, inr, arith, eqb}
-use Rattle.std.specs.List.{AllByRecursion, count_by, filter}
-use Rattle.std.proofs.lemmas.Bool.{both_ways, cases_Bool, cases_eq, cases_lt, eq-eqb, ne_eqb, eqb-true}
+use Rattle.std.specs.List.{AllByRecursion, filter}
+use Rattle.std.proofs.lemmas.Bool.{cases_Bool, cases_eq, cases_lt, eq-eqb, ne_eqb, eqb-true}
 use Rattle.std.proofs.lemmas.Int.{ints}
 use Rattle.std.proofs.lemmas.List.{get_or-map, get_or-set_other, get_or-set_same, length-append, length-map, length-set}
 use Rattle.std.proofs.Math.Nat.{mod-lt, mul-le-mul_left}
 use Rattle.iso_defs.specs.Cell.{cell_edge, edge_corner}
 use Rattle.iso_defs.specs.Grid.{Grid}
 use Rattle.iso_defs.specs.Lists.{below, is_in}
-use Rattle.iso_defs.specs.Scratch.{centre_name}
 use Rattle.iso_defs.specs.Signs.{is_crossing}
 use Rattle.verdict_laws.proofs.Lists.{In, In-filter, In-map}
 use Rattle.verdict_laws.proofs.Counts.{count_agree, count_none}
@@ -26,8 +25,7 @@ use Rattle.flat_mesh.specs.declared.centres.Cell.{Cell}
 use Rattle.label_joins.specs.Chains.{ArePaired}
 use Rattle.loop_labels.specs.Fronts.{none, room, row_name, slot_of}
 use Rattle.loop_labels.specs.Labelling.{IsAdded, Known}
-use Rattle.loop_labels.specs.Walked.{IsLabelled}
-use Rattle.loop_labels.proofs.SumLaws.{loop_labelled}
+use Rattle.loop_labels.proofs.AddedLaws.{loop_labelled}
 use Rattle.part_laws.specs.ByLabels.{firsts}
 use Rattle.part_laws.specs.Labels.{labelled, unlabelled}
 use Rattle.part_laws.specs.Loops.{Loop}
@@ -83,7 +81,7 @@ module _ (f g : ℕ → ℕ) where
   filter_same d (x ∷ es) q h =
       ap₂ (λ b ys. cond b (x ∷ ys) ys) (ap₂ (λ a b. not (eqb a b)) (h x (inl refl)) q) (filter_same d es q (λ e i. h e (inr i)))
 
-  firsts_inside : (es : List ℕ) (e : ℕ) → In e (firsts f es) → In e es
+  pub firsts_inside : (es : List ℕ) (e : ℕ) → In e (firsts f es) → In e es
   firsts_inside [] e i = i
   firsts_inside (x ∷ es) e (inl q) = inl q
   firsts_inside (x ∷ es) e (inr i) = inr (firsts_inside es e (In-filter (λ d. not (eqb (f d) (f x))) e (firsts f es) i).0)
@@ -187,7 +185,7 @@ tallies_known value fits of_loop v row loops old new ts ts' edges edges' h longe
     (λ b d i le low. longer.values b d i (omega (arith, le, h.tallies_are.size)) low) (λ b d le low. longer.fit b d (omega (arith, le, h.tallies_are.size)) low)
 
 -- the loops of a label are no more than all
-labelled_few : (xs : List (ℕ × Loop)) (p : ℕ → Bool) → length (labelled xs p) ≤ length (unlabelled xs)
+pub labelled_few : (xs : List (ℕ × Loop)) (p : ℕ → Bool) → length (labelled xs p) ≤ length (unlabelled xs)
 labelled_few [] p = omega arith
 labelled_few (x ∷ xs) p = go (p x.0) (labelled_few xs p)
   where

@@ -1,4 +1,4 @@
-use Rattle.std.proofs.Common.{◌≡◌, ◌+◌, ◌-◌, ◌*◌, ◌≤◌, min}
+use Rattle.std.proofs.Common.{◌+◌, ◌-◌, ◌*◌, min}
 use Rattle.flat_mesh.specs.Rows.{row_start}
 use Rattle.part_walk.specs.Walks.{IsWalked, loops_before}
 use Rattle.part_walk.proofs.rows.add_row.Given as goal

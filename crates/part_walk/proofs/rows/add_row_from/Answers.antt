@@ -1,4 +1,4 @@
-use Rattle.std.proofs.Common.{◌≡◌, ◌∙◌, ◌+◌, ◌*◌, ◌<◌, ◌≤◌, ℕ, List, sym, ap, subst, arith}
+use Rattle.std.proofs.Common.{◌≡◌, ◌∙◌, ◌+◌, ◌*◌, ◌<◌, sym, ap, subst, arith}
 use Rattle.iso_defs.specs.Grid.{Grid}
 use Rattle.flat_mesh.specs.Rows.{row_start}
 use Rattle.part_walk.specs.Walks.{IsWalked, loops_before}

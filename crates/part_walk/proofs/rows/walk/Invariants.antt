@@ -1,4 +1,4 @@
-use Rattle.std.proofs.Common.{◌≡◌, ◌+◌, ◌*◌, length}
+use Rattle.std.proofs.Common.{◌≡◌, ◌*◌, length}
 use Rattle.flat_mesh.specs.Rows.{row_start}
 use Rattle.stitch_rows.specs.Bricks.{AreMarked}
 use Rattle.part_walk.specs.Walks.{IsWalked, loops_before}

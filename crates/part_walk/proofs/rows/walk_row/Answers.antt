@@ -1,7 +1,5 @@
-use Rattle.std.proofs.Common.{◌≡◌, ◌∙◌, ◌+◌, ◌-◌, ◌*◌, ◌/◌, ◌<◌, ◌≤◌, ℕ, List, min, sym, ap, subst, arith}
+use Rattle.std.proofs.Common.{◌≡◌, ◌∙◌, ◌+◌, ◌*◌, ◌≤◌, ℕ, sym, ap, subst, arith}
 use Rattle.iso_defs.specs.Grid.{Grid}
-use Rattle.iso_defs.specs.Bricks.{bricks_along}
-use Rattle.loop_labels.specs.Fronts.{row_name}
 use Rattle.flat_mesh.specs.Rows.{row_start}
 use Rattle.part_walk.specs.Walks.{IsWalked, loops_before}
 use Rattle.part_walk.proofs.RowLaws.{no_crossing, quiet_row, quiet_to, row_low, start_next}
