@@ -3,5 +3,6 @@ pub mod Counts
 pub mod Passed
 pub mod Walks
 pub mod Sweep
+pub mod Rows
 pub mod Begun
 pub mod Components
