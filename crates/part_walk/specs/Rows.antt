@@ -1,6 +1,5 @@
 -- Where a walk over rows of points is.
-use Rattle.std.specs.Prelude.{◌≡◌, ℕ, ◌+◌, ◌*◌, ℤ, length}
-use Rattle.iso_defs.specs.Grid.{Grid}
+use Rattle.std.specs.Prelude.{◌≡◌, ℕ, ℤ, length}
 use Rattle.flat_mesh.specs.Lattice.{Leveled}
 use Rattle.part_laws.specs.Loops.{Loop}
 use Rattle.stitch_rows.specs.Bricks.{AreMarked}

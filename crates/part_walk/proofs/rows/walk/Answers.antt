@@ -1,4 +1,4 @@
-use Rattle.std.proofs.Common.{◌≡◌, ◌∙◌, ◌+◌, ◌*◌, ◌<◌, ℕ, length, refl, sym, ap, subst, arith}
+use Rattle.std.proofs.Common.{◌≡◌, ◌∙◌, ◌+◌, ◌*◌, ℕ, refl, sym, ap, subst, arith}
 use Rattle.iso_defs.specs.Grid.{Grid}
 use Rattle.iso_base.specs.Sizing.{IsGrid}
 use Rattle.flat_mesh.specs.Lattice.{Leveled, heights}
@@ -6,7 +6,6 @@ use Rattle.flat_mesh.specs.Rows.{row_start}
 use Rattle.stitch_rows.specs.Named.{NamesCases}
 use Rattle.stitch_rows.specs.Rows.{at_level}
 use Rattle.part_walk.specs.Rows.{IsAt}
-use Rattle.part_walk.specs.Walks.{IsWalked, loops_before}
 use Rattle.part_walk.proofs.RowLaws.{at_moved, moved, whole_of}
 use Rattle.part_walk.proofs.rows.walk.Goals as goal
 
