@@ -12,7 +12,7 @@ ghost use Rattle.part_walk.specs.Components.{IsWhole};
 ghost use Rattle.part_walk.specs.Rows.{IsAt};
 ghost use Rattle.part_walk.specs.Walks.{IsWalked, loops_before};
 
-use crate::cells::add_cells;
+use crate::cells::{RowCells, add_cells};
 use crate::leaving::leave_edges;
 use crate::tally::Tally;
 use crate::walked::Walked;
@@ -44,12 +44,18 @@ fn add_row<T: Tally>(
 {
     let sizes = field.sizes();
     let places = walked.labels.places(y + sizes.ny() * z);
+    let row = RowCells {
+        y,
+        z,
+        places,
+        cases,
+    };
     let last = sizes.nx() - 1;
     let count = count_along(sizes.nx());
     let mut x = active.next_from(field, 0, y, z);
     while x < count {
         let end = (8 * x + 8).min(last);
-        add_cells(field, walked, &places, y, z, 8 * x, end, cases)?;
+        add_cells(field, walked, &row, 8 * x, end)?;
         x = active.next_from(field, x + 1, y, z);
     }
     Ok(())
