@@ -1,8 +1,8 @@
 -- The components that were put together are those of the classes.
-use Rattle.std.proofs.Common.{◌≡◌, ℕ, ◌+◌, ◌*◌, ◌<◌, ◌≤◌, ℤ, pos, true, cond, List, [], ◌∷◌, ◌++◌, map, take, drop, length, get_or, refl, sym, ◌∙◌, ap, subst, inl, inr, arith, eqb}
+use Rattle.std.proofs.Common.{◌≡◌, ℕ, ◌+◌, ◌*◌, ◌<◌, ◌≤◌, ℤ, pos, true, cond, List, [], ◌∷◌, map, length, get_or, refl, sym, ◌∙◌, ap, subst, inl, inr, arith, eqb}
 use Rattle.std.specs.List.{AllByRecursion, count_by, filter, sum_by}
 use Rattle.std.proofs.lemmas.Bool.{cases_eq, eq-eqb, ne_eqb}
-use Rattle.std.proofs.lemmas.List.{drop_all, get_or-map, length-map, take_all}
+use Rattle.std.proofs.lemmas.List.{get_or-map, length-map}
 use Rattle.std.proofs.lemmas.List.FromFn.{length-range_with_len}
 use Rattle.std.proofs.lemmas.List.Sums.{count_by-le-length, sum_by-cons}
 use Rattle.iso_base.specs.Sizing.{IsGrid}
@@ -44,7 +44,7 @@ use Rattle.part_walk.specs.declared.components.Component.{Component}
 use Rattle.part_walk.proofs.CellLaws.{few_before, filter_low}
 use Rattle.part_walk.proofs.FirstLaws.{firsts_again, firsts_few}
 use Rattle.part_walk.proofs.RowLaws.{all_before}
-use Rattle.part_walk.proofs.WalkLaws.{firsts_inside, firsts_same, labelled_few, none_behind}
+use Rattle.part_walk.proofs.WalkLaws.{firsts_inside, firsts_same, labelled_few}
 
 -- the smallest joined label is no greater
 joined_low : (ps : List (ℕ × ℕ)) (a : ℕ) → least_joined ps a ≤ a
@@ -63,11 +63,6 @@ in_below n a i = let r : (0 ≤ a) × (a < 0 + n) = range_at_least 0 n a i in om
 
 length_below : (n : ℕ) → length (below n) ≡ n
 length_below n = length-range_with_len 0 n
-
--- a list of which all elements were written
-pub all_written : {A : Type 0} (n : ℕ) (old new : List A) → n ≡ length old → length new ≡ length old → take n (new ++ drop (length new) old) ≡ new
-all_written n old new e l =
-    ap (λ ys. take n (new ++ ys)) (drop_all (length new) old (omega (arith, l))) ∙ (ap (take n) (none_behind new) ∙ take_all n new (omega (arith, e, l)))
 
 module _ {T : Type 0} (value : T → ℕ → ℤ) (fits : ℕ → T → Type 0) (of_loop : Leveled → ℕ → Loop → ℤ) (v : Leveled) (labels : Known) (ts : List T) (edges : Passed) (h : IsWhole value fits of_loop v labels ts edges) where
   abbrev count : ℕ

@@ -1,7 +1,8 @@
 -- A row of points is left behind when the loops of the cells that begin in it have their labels.
-use Rattle.std.proofs.Common.{◌≡◌, ℕ, zero, suc, ◌+◌, ◌-◌, ◌*◌, ◌/◌, ◌%◌, ◌<◌, ◌≤◌, ℤ, Bool, true, false, cond, not, List, [], map, refl, sym, ◌∙◌, ap, subst, inl, inr, arith, eqb}
+use Rattle.std.proofs.Common.{◌≡◌, ℕ, zero, suc, ◌+◌, ◌-◌, ◌*◌, ◌/◌, ◌%◌, ◌<◌, ◌≤◌, ℤ, Bool, true, false, cond, not, List, [], ◌++◌, map, take, drop, length, refl, sym, ◌∙◌, ap, subst, inl, inr, arith, eqb}
 use Rattle.std.specs.List.{filter, flat_map}
 use Rattle.std.proofs.lemmas.Bool.{both_ways, cases_Bool, cases_lt, eq-eqb, eqb-true, ne_eqb}
+use Rattle.std.proofs.lemmas.List.{drop_all, take_all}
 use Rattle.std.proofs.Math.Nat.{mul-add, mul-le-mul_left}
 use Rattle.iso_base.specs.Sizing.{IsGrid}
 use Rattle.iso_base.proofs.VolumeLaws.{grid_is_thick}
@@ -32,9 +33,11 @@ use Rattle.part_laws.proofs.Numbered.{loops_cross}
 use Rattle.part_walk.specs.declared.passed.Passed.{Passed}
 use Rattle.part_walk.specs.Passed.{AreEdges, IsLeft, Leaving, edges_before, row_end}
 use Rattle.part_walk.specs.Components.{IsWhole}
+use Rattle.part_walk.specs.Rows.{IsAt}
+use Rattle.part_walk.specs.declared.rows.RowWalk.{RowWalk}
 use Rattle.part_walk.specs.Walks.{AreTallies, IsWalked, loops_before}
 use Rattle.part_walk.proofs.CellLaws.{before_quiets}
-use Rattle.part_walk.proofs.WalkLaws.{edge_within}
+use Rattle.part_walk.proofs.WalkLaws.{edge_within, none_behind}
 use Rattle.part_walk.proofs.LeftLaws.{left_stills}
 
 -- a vertex of a loop of a cell is an edge of the cell
@@ -275,3 +278,11 @@ pub whole_of : {T : Type 0} (value : T → ℕ → ℤ) (fits : ℕ → T → Ty
     → IsWalked value fits of_loop v (v.grid.ny * v.grid.nz) (loops_before v (row_start v.grid 0 v.grid.nz)) labels ts edges → IsWhole value fits of_loop v labels ts edges
 whole_of value fits of_loop v labels ts edges is h =
     record { thick = grid_is_thick is; walked = subst (λ ls. IsWalked value fits of_loop v (v.grid.ny * v.grid.nz) ls labels ts edges) (all_before v) h }
+
+pub at_moved : {T : Type 0} (value : T → ℕ → ℤ) (fits : ℕ → T → Type 0) (of_loop : Leveled → ℕ → Loop → ℤ) (v : Leveled) (r r' q q' : ℕ) (w : RowWalk T) → r ≡ r' → q ≡ q' → IsAt value fits of_loop v r q w → IsAt value fits of_loop v r' q' w
+at_moved value fits of_loop v r r' q q' w er eq h = subst (λ n. IsAt value fits of_loop v n q' w) er (subst (λ n. IsAt value fits of_loop v r n w) eq h)
+
+-- a list of which all elements were written
+pub all_written : {A : Type 0} (n : ℕ) (old new : List A) → n ≡ length old → length new ≡ length old → take n (new ++ drop (length new) old) ≡ new
+all_written n old new e l =
+    ap (λ ys. take n (new ++ ys)) (drop_all (length new) old (omega (arith, l))) ∙ (ap (take n) (none_behind new) ∙ take_all n new (omega (arith, e, l)))

@@ -56,40 +56,50 @@ fn have_no_loops(cases: &[u16], from: usize) -> bool
     eight.simd_eq(u16x8::splat(case)).all()
 }
 
+/// The cells of a row: where it lies, where the labels of the edges of its first cell stand, and the cells' cases.
+#[derive(Drop)]
+pub struct RowCells<'a> {
+    pub y: u32,
+    pub z: u32,
+    pub places: [u32; 12],
+    pub cases: &'a [u16],
+}
+
 /// Labels the loops of the cells of a row from a place to before an end.
 pub fn add_cells<T: Tally, H: Heights>(
     field: &H,
     walked: &mut Walked<T>,
-    places: &[u32; 12],
-    y: u32,
-    z: u32,
+    row: &RowCells<'_>,
     from: u32,
     end: u32,
-    cases: &[u16],
 ) -> Result<(), Memory>
-    requires y { y + 1 < (H.leveled field.now).grid.ny }
-    requires z { z + 1 < (H.leveled field.now).grid.nz }
+    requires y { row.now.y + 1 < (H.leveled field.now).grid.ny }
+    requires z { row.now.z + 1 < (H.leveled field.now).grid.nz }
     requires from { from ≤ end }
     requires end { end < (H.leveled field.now).grid.nx }
-    requires count { length cases.now ≡ (H.leveled field.now).grid.nx }
-    requires cases { AreCases (H.leveled field.now) y z cases.now }
-    requires places { ArePlaces (H.leveled field.now).grid (y + (H.leveled field.now).grid.ny * z) places.now }
-    requires state { IsWalked T.value T.fits T.of_loop (H.leveled field.now) (y + (H.leveled field.now).grid.ny * z) (loops_before (H.leveled field.now) (row_start (H.leveled field.now).grid y z + from))
+    requires count { length row.now.cases.now ≡ (H.leveled field.now).grid.nx }
+    requires cases { AreCases (H.leveled field.now) row.now.y row.now.z row.now.cases.now }
+    requires places { ArePlaces (H.leveled field.now).grid (row.now.y + (H.leveled field.now).grid.ny * row.now.z) row.now.places }
+    requires state { IsWalked T.value T.fits T.of_loop (H.leveled field.now) (row.now.y + (H.leveled field.now).grid.ny * row.now.z) (loops_before (H.leveled field.now) (row_start (H.leveled field.now).grid row.now.y row.now.z + from))
         walked.old.labels walked.old.tallies.items walked.old.edges }
-    ensures { OnOk result (IsWalked T.value T.fits T.of_loop (H.leveled field.now) (y + (H.leveled field.now).grid.ny * z) (loops_before (H.leveled field.now) (row_start (H.leveled field.now).grid y z + end))
+    ensures { OnOk result (IsWalked T.value T.fits T.of_loop (H.leveled field.now) (row.now.y + (H.leveled field.now).grid.ny * row.now.z) (loops_before (H.leveled field.now) (row_start (H.leveled field.now).grid row.now.y row.now.z + end))
         walked.new.labels walked.new.tallies.items walked.new.edges) }
 {
     let sizes = field.sizes();
-    if end == from + 8 && have_no_loops(cases, from as usize) {
+    if end == from + 8 && have_no_loops(row.cases, from as usize) {
         return Ok(());
     }
-    let start = sizes.nx() * (y + sizes.ny() * z);
+    let start = sizes.nx() * (row.y + sizes.ny() * row.z);
     for x in from..end {
         let cell = Cell {
             index: start + x,
-            low: Point { x, y, z },
+            low: Point {
+                x,
+                y: row.y,
+                z: row.z,
+            },
         };
-        add_cell(field, walked, places, cell, cases[x as usize])?;
+        add_cell(field, walked, &row.places, cell, row.cases[x as usize])?;
     }
     Ok(())
 }

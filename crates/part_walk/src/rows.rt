@@ -9,9 +9,10 @@ ghost use Rattle.stitch_rows.specs.Bricks.{AreMarked, first_brick};
 ghost use Rattle.stitch_rows.specs.Named.{NamesCases};
 ghost use Rattle.stitch_rows.specs.Rows.{AreCases, at_level};
 ghost use Rattle.part_walk.specs.Components.{IsWhole};
+ghost use Rattle.part_walk.specs.Rows.{IsAt};
 ghost use Rattle.part_walk.specs.Walks.{IsWalked, loops_before};
 
-use crate::cells::add_cells;
+use crate::cells::{RowCells, add_cells};
 use crate::leaving::leave_edges;
 use crate::tally::Tally;
 use crate::walked::Walked;
@@ -43,45 +44,20 @@ fn add_row<T: Tally>(
 {
     let sizes = field.sizes();
     let places = walked.labels.places(y + sizes.ny() * z);
+    let row = RowCells {
+        y,
+        z,
+        places,
+        cases,
+    };
     let last = sizes.nx() - 1;
     let count = count_along(sizes.nx());
     let mut x = active.next_from(field, 0, y, z);
     while x < count {
         let end = (8 * x + 8).min(last);
-        add_cells(field, walked, &places, y, z, 8 * x, end, cases)?;
+        add_cells(field, walked, &row, 8 * x, end)?;
         x = active.next_from(field, x + 1, y, z);
     }
-    Ok(())
-}
-
-/// The same of the row that begins at a row of points, if these begin one.
-fn add_row_from<T: Tally, R: CellRows, L: Ledger>(
-    field: &Field,
-    active: &ActiveRow,
-    rows: &mut R,
-    walked: &mut Walked<T>,
-    y: u32,
-    z: u32,
-    cases: &mut [u16],
-    steps: &mut Steps<L>,
-) -> Result<(), Memory>
-    requires active { AreMarked field.now active.now }
-    requires first { active.now.first ≡ first_brick field.now.grid y z }
-    requires y { y < field.now.grid.ny }
-    requires z { z < field.now.grid.nz }
-    requires count { length cases.old ≡ field.now.grid.nx }
-    requires named { NamesCases (R.named rows.old) field.now.grid (heights field.now) }
-    requires state { IsWalked T.value T.fits T.of_loop field.now (y + field.now.grid.ny * z) (loops_before field.now (row_start field.now.grid y z)) walked.old.labels walked.old.tallies.items walked.old.edges }
-    ensures same { R.named rows.new ≡ R.named rows.old }
-    ensures walked { OnOk result (IsWalked T.value T.fits T.of_loop field.now (y + field.now.grid.ny * z) (loops_before field.now (row_start field.now.grid y z + field.now.grid.nx))
-        walked.new.labels walked.new.tallies.items walked.new.edges) }
-{
-    let sizes = field.sizes();
-    if y + 1 >= sizes.ny() || z + 1 >= sizes.nz() {
-        return Ok(());
-    }
-    case_row(field, active, rows, y, z, cases, steps);
-    add_row(field, active, walked, y, z, cases)?;
     Ok(())
 }
 
@@ -99,64 +75,102 @@ fn leave_row<T: Tally>(field: &Field, walked: &mut Walked<T>, y: u32, z: u32) ->
     Ok(())
 }
 
-/// Labels the loops of the row of cells that a row of points begins, if it begins one, and leaves the edges behind that begin at these
-/// points.
-fn walk_row<T: Tally, R: CellRows, L: Ledger>(
-    field: &Field,
-    active: &mut ActiveRow,
-    rows: &mut R,
-    walked: &mut Walked<T>,
-    y: u32,
-    z: u32,
-    cases: &mut [u16],
-    steps: &mut Steps<L>,
-) -> Result<(), Memory>
-    requires active { AreMarked field.now active.old }
-    requires y { y < field.now.grid.ny }
-    requires z { z < field.now.grid.nz }
-    requires count { length cases.old ≡ field.now.grid.nx }
-    requires named { NamesCases (R.named rows.old) field.now.grid (heights field.now) }
-    requires state { IsWalked T.value T.fits T.of_loop field.now (y + field.now.grid.ny * z) (loops_before field.now (row_start field.now.grid y z)) walked.old.labels walked.old.tallies.items walked.old.edges }
-    ensures active { AreMarked field.now active.new }
-    ensures same { R.named rows.new ≡ R.named rows.old }
-    ensures walked { OnOk result (IsWalked T.value T.fits T.of_loop field.now (y + field.now.grid.ny * z + 1) (loops_before field.now (row_start field.now.grid y z + field.now.grid.nx))
-        walked.new.labels walked.new.tallies.items walked.new.edges) }
-{
-    let sizes = field.sizes();
-    active.mark(field, y, z);
-    if active.next_from(field, 0, y, z) >= count_along(sizes.nx()) {
-        return Ok(());
-    }
-    add_row_from(field, active, rows, walked, y, z, cases, steps)?;
-    leave_row(field, walked, y, z)?;
-    Ok(())
+/// A walk over rows of points: the volume, its active bricks in the row at hand, a place for the cases of this row's cells, and what was
+/// walked.
+#[derive(Drop)]
+struct RowWalk<'a, T: Tally> {
+    field: Field<'a>,
+    active: ActiveRow,
+    cases: Vec<u16>,
+    walked: Walked<T>,
 }
 
-/// Labels the loops of a slice of cells, if the slice of points begins one, and leaves the edges behind that begin at these points.
-fn walk_slice<T: Tally, R: CellRows, L: Ledger>(
-    field: &Field,
-    active: &mut ActiveRow,
-    rows: &mut R,
-    walked: &mut Walked<T>,
-    z: u32,
-    cases: &mut [u16],
-    steps: &mut Steps<L>,
-) -> Result<(), Memory>
-    requires active { AreMarked field.now active.old }
-    requires z { z < field.now.grid.nz }
-    requires count { length cases.old ≡ field.now.grid.nx }
-    requires named { NamesCases (R.named rows.old) field.now.grid (heights field.now) }
-    requires state { IsWalked T.value T.fits T.of_loop field.now (field.now.grid.ny * z) (loops_before field.now (row_start field.now.grid 0 z)) walked.old.labels walked.old.tallies.items walked.old.edges }
-    ensures active { OnOk result (AreMarked field.now active.new) }
-    ensures same { OnOk result (R.named rows.new ≡ R.named rows.old) }
-    ensures walked { OnOk result (IsWalked T.value T.fits T.of_loop field.now (field.now.grid.ny * (z + 1)) (loops_before field.now (row_start field.now.grid 0 (z + 1)))
-        walked.new.labels walked.new.tallies.items walked.new.edges) }
-{
-    let sizes = field.sizes();
-    for y in 0..sizes.ny() {
-        walk_row(field, active, rows, walked, y, z, cases, steps)?;
+impl<'a, T: Tally> RowWalk<'a, T> {
+    /// Labels the loops of the row of cells that a row of points begins, if it begins one.
+    fn add_row_from<R: CellRows, L: Ledger>(
+        &mut self,
+        rows: &mut R,
+        y: u32,
+        z: u32,
+        steps: &mut Steps<L>,
+    ) -> Result<(), Memory>
+        requires first { self.old.active.first ≡ first_brick self.old.field.grid y z }
+        requires y { y < self.old.field.grid.ny }
+        requires z { z < self.old.field.grid.nz }
+        requires named { NamesCases (R.named rows.old) self.old.field.grid (heights self.old.field) }
+        requires state { IsAt T.value T.fits T.of_loop self.old.field (y + self.old.field.grid.ny * z) (row_start self.old.field.grid y z) self.old }
+        ensures same { R.named rows.new ≡ R.named rows.old }
+        ensures state { OnOk result (IsAt T.value T.fits T.of_loop self.old.field (y + self.old.field.grid.ny * z) (row_start self.old.field.grid y z + self.old.field.grid.nx) self.new) }
+    {
+        let sizes = self.field.sizes();
+        if y + 1 >= sizes.ny() || z + 1 >= sizes.nz() {
+            return Ok(());
+        }
+        case_row(
+            &self.field,
+            &self.active,
+            rows,
+            y,
+            z,
+            self.cases.as_mut_slice(),
+            steps,
+        );
+        add_row(
+            &self.field,
+            &self.active,
+            &mut self.walked,
+            y,
+            z,
+            &self.cases,
+        )?;
+        Ok(())
     }
-    Ok(())
+
+    /// Labels the loops of the row of cells that a row of points begins, if it begins one, and leaves the edges behind that begin at these
+    /// points.
+    fn walk_row<R: CellRows, L: Ledger>(
+        &mut self,
+        rows: &mut R,
+        y: u32,
+        z: u32,
+        steps: &mut Steps<L>,
+    ) -> Result<(), Memory>
+        requires y { y < self.old.field.grid.ny }
+        requires z { z < self.old.field.grid.nz }
+        requires named { NamesCases (R.named rows.old) self.old.field.grid (heights self.old.field) }
+        requires state { IsAt T.value T.fits T.of_loop self.old.field (y + self.old.field.grid.ny * z) (row_start self.old.field.grid y z) self.old }
+        ensures same { R.named rows.new ≡ R.named rows.old }
+        ensures state { OnOk result (IsAt T.value T.fits T.of_loop self.old.field (y + self.old.field.grid.ny * z + 1) (row_start self.old.field.grid y z + self.old.field.grid.nx) self.new) }
+    {
+        let sizes = self.field.sizes();
+        self.active.mark(&self.field, y, z);
+        if self.active.next_from(&self.field, 0, y, z) >= count_along(sizes.nx()) {
+            return Ok(());
+        }
+        self.add_row_from(rows, y, z, steps)?;
+        leave_row(&self.field, &mut self.walked, y, z)?;
+        Ok(())
+    }
+
+    /// Labels the loops of a slice of cells, if the slice of points begins one, and leaves the edges behind that begin at these points.
+    fn walk_slice<R: CellRows, L: Ledger>(
+        &mut self,
+        rows: &mut R,
+        z: u32,
+        steps: &mut Steps<L>,
+    ) -> Result<(), Memory>
+        requires z { z < self.old.field.grid.nz }
+        requires named { NamesCases (R.named rows.old) self.old.field.grid (heights self.old.field) }
+        requires state { IsAt T.value T.fits T.of_loop self.old.field (self.old.field.grid.ny * z) (row_start self.old.field.grid 0 z) self.old }
+        ensures same { OnOk result (R.named rows.new ≡ R.named rows.old) }
+        ensures state { OnOk result (IsAt T.value T.fits T.of_loop self.old.field (self.old.field.grid.ny * (z + 1)) (row_start self.old.field.grid 0 (z + 1)) self.new) }
+    {
+        let sizes = self.field.sizes();
+        for y in 0..sizes.ny() {
+            self.walk_row(rows, y, z, steps)?;
+        }
+        Ok(())
+    }
 }
 
 /// Labels the loops of all cells.
@@ -173,20 +187,16 @@ pub fn walk<T: Tally, R: CellRows, L: Ledger>(
     ensures { IfOk result (λ w. IsWhole T.value T.fits T.of_loop (at_level store.now level) w.labels w.tallies.items w.edges) }
 {
     let sizes = store.sizes();
-    let field = Field::new(store, tree, level);
-    let mut walked = Walked::new(alloc, sizes)?;
-    let mut cases = vec![in alloc; 0u16; sizes.nx() as usize]?;
-    let mut active = ActiveRow::new();
+    let walked = Walked::new(alloc, sizes)?;
+    let cases = vec![in alloc; 0u16; sizes.nx() as usize]?;
+    let mut walk = RowWalk {
+        field: Field::new(store, tree, level),
+        active: ActiveRow::new(),
+        cases,
+        walked,
+    };
     for z in 0..sizes.nz() {
-        walk_slice(
-            &field,
-            &mut active,
-            rows,
-            &mut walked,
-            z,
-            cases.as_mut_slice(),
-            steps,
-        )?;
+        walk.walk_slice(rows, z, steps)?;
     }
-    Ok(walked)
+    Ok(walk.walked)
 }

@@ -6,4 +6,4 @@ use Rattle.part_walk.proofs.cells.add_cells.Given as goal
 abbrev pub invariant-loop-x : goal.invariant-loop-x
 invariant-loop-x g l =
     let v = g.H.Heights.leveled l.field in
-    IsWalked g.T.Tally.value g.T.Tally.fits g.T.Tally.of_loop v (l.y + v.grid.ny * l.z) (loops_before v (row_start v.grid l.y l.z + l.x)) l.walked.labels l.walked.tallies.items l.walked.edges
+    IsWalked g.T.Tally.value g.T.Tally.fits g.T.Tally.of_loop v (l.row.y + v.grid.ny * l.row.z) (loops_before v (row_start v.grid l.row.y l.row.z + l.x)) l.walked.labels l.walked.tallies.items l.walked.edges

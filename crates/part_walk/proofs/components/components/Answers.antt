@@ -9,7 +9,8 @@ use Rattle.part_laws.specs.ByLabels.{firsts}
 use Rattle.part_walk.specs.Begun.{AreAdded, AreBegun, AreFew, IsEmpty}
 use Rattle.part_walk.specs.Components.{AreComponents, edges_of}
 use Rattle.part_walk.proofs.AddedLaws.{added_same}
-use Rattle.part_walk.proofs.ComponentLaws.{all_written, components_are, crossings_few, joined_inside, loops_few, order_few, order_inside, order_is}
+use Rattle.part_walk.proofs.ComponentLaws.{components_are, crossings_few, joined_inside, loops_few, order_few, order_inside, order_is}
+use Rattle.part_walk.proofs.RowLaws.{all_written}
 use Rattle.part_walk.proofs.components.components.Goals as goal
 
 pub begin_all-requires-clause-few : goal.begin_all-requires-clause-few
