@@ -19,7 +19,7 @@ use crate::contour::plane_contours;
 use crate::edits::{area_change, is_in_range, one_change};
 use crate::fault::BeginFault;
 use crate::follow::follow;
-use crate::summary::mesh_numbers;
+use crate::walked::{walked_measures, walked_numbers};
 use crate::windows::write_window;
 use brick_store::BrickStore;
 use edge_points::RowRanks;
@@ -30,7 +30,6 @@ use iso_io::Shelf;
 use kept_mesh::{refresh_bricks, write_mesh};
 use measure::Measures;
 use mesh_cache::{Capacity, MeshCache};
-use mesh_measures::mesh_measures;
 use mesh_report::Report;
 use mesh_text::TwoWayFormat;
 use plane_contour::Contours;
@@ -436,8 +435,7 @@ impl Bench {
         ensures memory { IfErr result (λ fault. fault ≡ BenchFault.Memory) }
         ensures not_shelf { IsErrOf result BenchFault.ShelfFailed → ⊥ }
     {
-        let volume = self.store.flat(self.alloc)?;
-        Ok(mesh_numbers(self.alloc, &volume, self.level)?)
+        Ok(walked_numbers(self.alloc, &self.store, &self.tree, &self.cache, self.level)?)
     }
 
     /// The signed volume, the area and the border of each component of the mesh, by its least vertex, at the positions
@@ -452,8 +450,7 @@ impl Bench {
         ensures memory { IfErr result (λ fault. fault ≡ BenchFault.Memory) }
         ensures not_shelf { IsErrOf result BenchFault.ShelfFailed → ⊥ }
     {
-        let volume = self.store.flat(self.alloc)?;
-        Ok(mesh_measures(self.alloc, &volume, self.level)?)
+        Ok(walked_measures(self.alloc, &self.store, &self.tree, &self.cache, self.level)?)
     }
 
     /// The stored plane of one that does not count the pad's layer.

@@ -8,8 +8,8 @@ mod contour;
 mod edits;
 mod fault;
 mod follow;
-mod summary;
 mod surface;
+mod walked;
 mod windows;
 
 pub use bench::Bench;

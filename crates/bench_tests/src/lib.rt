@@ -8,3 +8,5 @@ mod asked;
 mod bench;
 #[cfg(test)]
 mod windows;
+#[cfg(test)]
+mod walked;

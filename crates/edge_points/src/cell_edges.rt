@@ -2,6 +2,9 @@
 ghost use Rattle.std.specs.Prelude.{◌≡◌, ◌<◌, ◌≤◌};
 ghost use Rattle.edge_points.specs.Points.{local_coordinate};
 
+// The coordinates of a vertex are told by tables alone: the axis of an edge cannot be foreseen, so each choice by it would cost more
+// than two products.
+
 /// Where the edges of a cell are along x. The first four run along x, and this is where they begin.
 const X: [u32; 12] = [0, 0, 0, 0, 0, 1000, 0, 1000, 0, 1000, 0, 1000];
 
@@ -11,6 +14,15 @@ const Y: [u32; 12] = [0, 1000, 0, 1000, 0, 0, 0, 0, 0, 0, 1000, 1000];
 /// And along z, as the last four run.
 const Z: [u32; 12] = [0, 0, 1000, 1000, 0, 0, 1000, 1000, 0, 0, 0, 0];
 
+/// Whether the edges run along x: 1 where they do, and else 0.
+const ALONG_X: [u32; 12] = [1, 1, 1, 1, 0, 0, 0, 0, 0, 0, 0, 0];
+
+/// And along y.
+const ALONG_Y: [u32; 12] = [0, 0, 0, 0, 1, 1, 1, 1, 0, 0, 0, 0];
+
+/// And along z.
+const ALONG_Z: [u32; 12] = [0, 0, 0, 0, 0, 0, 0, 0, 1, 1, 1, 1];
+
 /// Where the crossing of an edge of a cell is along x, in thousandths from the cell's lowest point, by its place on the edge.
 #[inline(always)]
 pub fn x_in_cell(edge: u8, place: u16) -> u32
@@ -19,11 +31,7 @@ pub fn x_in_cell(edge: u8, place: u16) -> u32
     ensures value { result ≡ local_coordinate (λ _. place) 0 edge }
     ensures bound { result ≤ 1000 }
 {
-    if edge < 4 {
-        u32::from(place)
-    } else {
-        X[edge as usize]
-    }
+    X[edge as usize] + ALONG_X[edge as usize] * u32::from(place)
 }
 
 /// The same along y.
@@ -34,11 +42,7 @@ pub fn y_in_cell(edge: u8, place: u16) -> u32
     ensures value { result ≡ local_coordinate (λ _. place) 1 edge }
     ensures bound { result ≤ 1000 }
 {
-    if 4 <= edge && edge < 8 {
-        u32::from(place)
-    } else {
-        Y[edge as usize]
-    }
+    Y[edge as usize] + ALONG_Y[edge as usize] * u32::from(place)
 }
 
 /// The same along z.
@@ -49,9 +53,5 @@ pub fn z_in_cell(edge: u8, place: u16) -> u32
     ensures value { result ≡ local_coordinate (λ _. place) 2 edge }
     ensures bound { result ≤ 1000 }
 {
-    if 8 <= edge {
-        u32::from(place)
-    } else {
-        Z[edge as usize]
-    }
+    Z[edge as usize] + ALONG_Z[edge as usize] * u32::from(place)
 }

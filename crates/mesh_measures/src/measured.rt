@@ -8,6 +8,7 @@ ghost use Rattle.fan_laws.specs.Padded.{HasPadBelow};
 ghost use Rattle.measure.specs.Measures.{HasNoArea};
 ghost use Rattle.mesh_measures.specs.Printed.{HasNoBorder, HasOneVolumeIn, measures_at, printed_positions as positions_of};
 
+use crate::laws::parts_without_border;
 use crate::positions::printed_positions;
 use fan_laws::{mesh_sizes, one_fan};
 use flat_mesh::extract_flat;
@@ -31,6 +32,17 @@ fn placed_triangles(
     Ok((mesh.triangle_list(alloc)?, at))
 }
 
+/// What is measured of the mesh.
+fn measured_mesh(alloc: Global, volume: &VoxelList, level: Level) -> Result<Measures, Memory>
+    ensures { IfOk result (λ m. m ≡ measures_at volume.now level) }
+{
+    one_fan(volume, level);
+    mesh_sizes();
+    let _ = volume.sizes();
+    let (triangles, at) = placed_triangles(alloc, volume, level)?;
+    measure(alloc, &triangles, at.as_slice())
+}
+
 /// The measures of the mesh of a volume at a level, at the positions that are printed, in thousandths of the distance of
 /// two samples.
 ///
@@ -42,9 +54,7 @@ pub fn mesh_measures(alloc: Global, volume: &VoxelList, level: Level) -> Result<
     ensures volumes { IfOk result (λ m. All (HasOneVolumeIn volume.now level) m) }
     ensures closed { HasPadBelow volume.now level → IfOk result (λ m. All HasNoBorder m) }
 {
-    one_fan(volume, level);
-    mesh_sizes();
+    parts_without_border();
     let _ = volume.sizes();
-    let (triangles, at) = placed_triangles(alloc, volume, level)?;
-    measure(alloc, &triangles, at.as_slice())
+    measured_mesh(alloc, volume, level)
 }

@@ -40,7 +40,7 @@ impl Model for Report {
 }
 
 /// Puts a component behind those that were met before it, whose least vertices are less than its own.
-pub(crate) fn add_part(parts: &mut IndexMap<u32, Part>, part: Part) -> Result<(), Memory>
+pub fn add_part(parts: &mut IndexMap<u32, Part>, part: Part) -> Result<(), Memory>
     requires { All (λ v. v < part.least) (keys parts.old) }
     ensures parts { OnOk result (values parts.new ≡ values parts.old ++ part ∷ []) }
     ensures below { OnOk result (All (λ v. v ≤ part.least) (keys parts.new)) }
@@ -51,7 +51,7 @@ pub(crate) fn add_part(parts: &mut IndexMap<u32, Part>, part: Part) -> Result<()
 
 impl Report {
     /// A report of these numbers.
-    pub(crate) fn new(total: Part, parts: IndexMap<u32, Part>) -> Report
+    pub fn new(total: Part, parts: IndexMap<u32, Part>) -> Report
         ensures { result ≡ record { total = total; parts = values parts } }
     {
         Report { total, parts }

@@ -103,7 +103,7 @@ module _ (g : Grid) (s : ℕ → ℤ) where
       (distinct_map (cell_edge g q.0) l.0.1 (λ a b j k e. edge_injective g q.0 a b (cell_in g q.0 q.1).0 (c.edges a j) (c.edges b k) e) (distinct_from l.0.1 c.apart))
 
   -- each crossing edge is a vertex of a loop
-  edge_looped : (e : ℕ) → IsThick g → In e (crossing_edges g s) → (m : Loop) × In m (mesh_loops g s) × In e m.1
+  pub edge_looped : (e : ℕ) → IsThick g → In e (crossing_edges g s) → (m : Loop) × In m (mesh_loops g s) × In e m.1
   edge_looped e thick i =
       let c : (r : ℕ) × In r (cells g) × ((x : ℕ) × (x < 12) × (cell_edge g r x ≡ e) × (crosses (cell_signs g s r) x ≡ true)) = cell_of_edge g s e thick i in
       let r : ℕ = c.0 in

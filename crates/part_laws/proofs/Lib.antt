@@ -17,3 +17,5 @@ pub mod FirstMet
 pub mod Moves
 pub mod LabelSums
 pub mod CellOrder
+pub mod LabelLaws
+pub mod NamedParts

@@ -4,4 +4,6 @@ pub mod Parts
 pub mod Swept
 pub mod Triangles
 pub mod Labels
+pub mod Meets
+pub mod ByLabels
 pub mod FirstCells

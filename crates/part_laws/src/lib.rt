@@ -2,10 +2,12 @@
 //! Each call says its law and does nothing else.
 #![tactic(auto)]
 
+mod labels;
 mod lists;
 mod loops;
 mod meshes;
 
+pub use labels::{labelling_grows, labelling_told, parts_by_labels};
 pub use lists::edges_by_faces;
 pub use loops::{
     classes_by_chains, classes_told, faces_by_steps, loops_meet, loops_moved, sums_by_labels,

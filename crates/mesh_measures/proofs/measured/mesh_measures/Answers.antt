@@ -1,35 +1,19 @@
-use Rattle.std.proofs.Common.{◌≡◌, ◌^◌, ℕ, ℤ, All, is_some, sym, subst, ◌∙◌}
-use Rattle.iso_defs.specs.Scratch.{triangles, vertices}
-use Rattle.iso_base.specs.Shifted.{field}
-use Rattle.iso_base.specs.Triangles.{triangles_of}
-use Rattle.measure.specs.Positions.{IsWithin, vector_of}
-use Rattle.mesh_measures.specs.Printed.{printed_positions}
-use Rattle.mesh_measures.proofs.Triangles.{all_different}
-use Rattle.mesh_measures.proofs.MeshLaws.{closed_parts, measured_is}
-use Rattle.mesh_measures.proofs.PositionLaws.{positions_within}
+use Rattle.std.proofs.Common.{All}
+use Rattle.measure.specs.Measures.{HasNoArea}
+use Rattle.mesh_measures.specs.Printed.{HasNoBorder, HasOneVolumeIn, measures_at}
+use Rattle.mesh_measures.proofs.MeshLaws.{of_measures}
 use Rattle.mesh_measures.proofs.measured.mesh_measures.Goals as goal
 
-pub measure-requires-clause-small : goal.measure-requires-clause-small
-measure-requires-clause-small c =
-    let s : ℕ → ℤ = field c.args.volume.now.samples c.args.level in
-    let at : c.as_slice.result.now ≡ printed_positions (is_some c.args.volume.now.pad) (vertices c.args.volume.now.grid s)
-    = c.as_slice.ensures.value ∙ c.in_ok-triangles.ensures.positions in
-    subst (All (λ p. IsWithin (2 ^ 21) (vector_of p))) (sym at) (positions_within c.args.volume.now.grid c.sizes.ensures.volume.grid s (is_some c.args.volume.now.pad))
+pub returns-clause-areas : goal.returns-clause-areas
+returns-clause-areas c =
+    of_measures c.measured_mesh.result (measures_at c.args.volume.now c.args.level) (All HasNoArea) (c.parts_without_border.ensures.areas c.args.volume.now c.args.level) c.measured_mesh.ensures
 
-pub measure-requires-clause-different : goal.measure-requires-clause-different
-measure-requires-clause-different c =
-    all_different c.in_ok-triangles.triangles.triangles (triangles c.args.volume.now.grid (field c.args.volume.now.samples c.args.level))
-    c.in_ok-triangles.ensures.triangles c.one_fan.ensures.surface.manifold.corners
-
-pub returns-clause-measures : goal.returns-clause-measures
-returns-clause-measures c =
-    measured_is c.measure.result c.args.volume.now c.args.level c.in_ok-triangles.triangles.vertex_count (triangles_of c.in_ok-triangles.triangles.triangles) c.as_slice.result.now
-    c.in_ok-triangles.ensures.count c.in_ok-triangles.ensures.triangles (c.as_slice.ensures.value ∙ c.in_ok-triangles.ensures.positions)
-    c.measure.ensures.shares
+pub returns-clause-volumes : goal.returns-clause-volumes
+returns-clause-volumes c =
+    of_measures c.measured_mesh.result (measures_at c.args.volume.now c.args.level) (All (HasOneVolumeIn c.args.volume.now c.args.level))
+    (c.parts_without_border.ensures.volumes c.args.volume.now c.args.level) c.measured_mesh.ensures
 
 pub returns-clause-closed : goal.returns-clause-closed
 returns-clause-closed c pad =
-    closed_parts c.measure.result c.args.volume.now c.args.level c.sizes.ensures.volume pad c.one_fan.ensures.surface.manifold
-    (measured_is c.measure.result c.args.volume.now c.args.level c.in_ok-triangles.triangles.vertex_count (triangles_of c.in_ok-triangles.triangles.triangles) c.as_slice.result.now
-    c.in_ok-triangles.ensures.count c.in_ok-triangles.ensures.triangles (c.as_slice.ensures.value ∙ c.in_ok-triangles.ensures.positions)
-    c.measure.ensures.shares)
+    of_measures c.measured_mesh.result (measures_at c.args.volume.now c.args.level) (All HasNoBorder)
+    (c.parts_without_border.ensures.closed c.args.volume.now c.args.level c.sizes.ensures.volume pad) c.measured_mesh.ensures

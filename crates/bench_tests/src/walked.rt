@@ -1,0 +1,74 @@
+//! What the bench answers of random volumes, beside what is told by the triangles of extraction from scratch.
+
+ghost use Rattle.std.specs.Prelude.{◌≡◌, IfSome, None};
+
+use crate::asked::begin;
+use bench_core::{Bench, Capacity};
+use flat_mesh::extract_flat;
+use iso_base::{Level, SampleKind, Sizes, VoxelData};
+use mesh_measures::mesh_measures;
+use mesh_report::report;
+use std::alloc::Global;
+use std::process::Abort;
+use std::test::Fail;
+use voxel_list::VoxelList;
+
+/// The next number of a series, and a part of it.
+fn next(seed: &mut u64, bound: u64) -> u64 {
+    *seed = seed
+        .wrapping_mul(6_364_136_223_846_793_005)
+        .wrapping_add(1_442_695_040_888_963_407);
+    (*seed >> 33) % bound
+}
+
+/// Samples of 0 to 4, of which the lower ones are more or less frequent.
+fn samples_of(alloc: Global, seed: &mut u64, count: u64) -> Result<Vec<i64>, Fail> {
+    let mut samples = Vec::with_capacity(alloc, count as usize)?;
+    let most = 2 + next(seed, 4);
+    for _ in 0..count {
+        let (a, b) = (next(seed, most), next(seed, 5));
+        samples.push((a.min(b)) as i64)?;
+    }
+    Ok(samples)
+}
+
+/// A volume of 2 to 10 points along each axis, with a pad or without one.
+fn volume_of(rt: &impl Abort, alloc: Global, seed: &mut u64) -> Result<VoxelList, Fail> {
+    let (nx, ny, nz) = (2 + next(seed, 9), 2 + next(seed, 5), 2 + next(seed, 9));
+    let sizes = Sizes::new(nx, ny, nz).ok().expect(rt, "these are sizes");
+    let samples = samples_of(alloc, seed, nx * ny * nz)?;
+    let volume = VoxelList::of(VoxelData::new(sizes, SampleKind::U8, samples));
+    if next(seed, 3) == 0 {
+        return Ok(volume.padded(alloc, 0).ok().expect(rt, "there is room for a pad"));
+    }
+    Ok(volume)
+}
+
+/// Whether the bench answers what the triangles tell.
+fn has_answers(alloc: Global, bench: &Bench, volume: &VoxelList, level: Level) -> Result<bool, Fail> {
+    let triangles = extract_flat(alloc, volume, level)?.triangle_list(alloc)?;
+    let wanted = report(alloc, &triangles)?;
+    let measured = mesh_measures(alloc, volume, level)?;
+    let (Ok(told), Ok(shares)) = (bench.report(), bench.measure()) else {
+        return Ok(false);
+    };
+    Ok(told.total() == wanted.total() && told.parts() == wanted.parts() && shares.shares() == measured.shares())
+}
+
+#[test]
+fn random_volumes(rt: HostRuntime) -> Result<(), Fail> {
+    let alloc = rt.alloc();
+    let mut seed = 48;
+    for _ in 0..100 {
+        let from = seed;
+        let volume = volume_of(&rt, alloc, &mut seed)?;
+        let mut again = from;
+        let same = volume_of(&rt, alloc, &mut again)?;
+        let thousandths = 500 + 250 * next(&mut seed, 14) as i128;
+        let level = Level::new(thousandths).expect(&rt, "it is a level");
+        let capacity = Capacity::new(16, 64).expect(&rt, "it is a capacity");
+        let bench = begin(alloc, volume, thousandths, capacity).expect(&rt, "a bench is opened");
+        assert!(rt; has_answers(alloc, &bench, &same, level)?, "{from}");
+    }
+    Ok(())
+}

@@ -1,0 +1,4 @@
+pub mod PlaceLaws
+pub mod MeetLaws
+pub mod SoFarLaws
+pub mod AddedLaws

@@ -1,0 +1,3 @@
+pub mod Fronts
+pub mod Labelling
+pub mod Walked

@@ -1,0 +1,45 @@
+use Rattle.std.proofs.Common.{◌≡◌, ◌∙◌, ◌+◌, ◌*◌, ◌≤◌, ℕ, refl, sym, ap, subst, arith}
+use Rattle.iso_defs.specs.Grid.{Grid}
+use Rattle.flat_mesh.specs.Lattice.{Leveled}
+use Rattle.flat_mesh.specs.Rows.{row_start}
+use Rattle.part_walk.specs.Walks.{IsWalked, loops_before}
+use Rattle.part_walk.proofs.RowLaws.{no_crossing, quiet_row, quiet_to, row_low, start_next}
+use Rattle.part_walk.proofs.rows.RowWalk.walk_row.Goals as goal
+
+pub returns-then-next_from-count_along-clause-state : goal.returns-then-next_from-count_along-clause-state
+returns-then-next_from-count_along-clause-state g c =
+    let v = c.args.self.now.field in
+    let row : ℕ = c.args.y + v.grid.ny * c.args.z in
+    let is = c.sizes-sizes.ensures.leveled.grid in
+    let low = row_low v.grid c.args.y c.args.z c.requires.y c.requires.z in
+    let l = c.args.self.now.walked in
+    let nx : c.nx.result ≡ v.grid.nx = c.nx.ensures.value ∙ ap (λ (s : Grid). s.nx) c.sizes-sizes.ensures.value in
+    let far : v.grid.nx ≤ 8 * c.next_from.result + 1 = omega (arith, c.if-next_from-count_along.true, c.count_along.ensures.value, nx) in
+    let start : row_start v.grid c.args.y c.args.z + 0 ≡ row_start v.grid c.args.y c.args.z = omega arith in
+    let quiet : loops_before v (row_start v.grid c.args.y c.args.z + v.grid.nx) ≡ loops_before v (row_start v.grid c.args.y c.args.z)
+    = quiet_to v c.args.y c.args.z c.requires.y c.requires.z 0 v.grid.nx (omega arith) (omega arith) (λ x wide from low hy hz. c.next_from.ensures.cells x wide (omega arith) (omega (arith, wide, far)) hy hz) ∙ ap (loops_before v) start in
+    let next = start_next v c.args.y c.args.z c.requires.y c.requires.z in
+    let h : IsWalked g.T.Tally.value g.T.Tally.fits g.T.Tally.of_loop v row (loops_before v (v.grid.nx * (row + 1))) l.labels l.tallies.items l.edges
+    = subst (λ ls. IsWalked g.T.Tally.value g.T.Tally.fits g.T.Tally.of_loop v row ls l.labels l.tallies.items l.edges) (sym quiet ∙ ap (loops_before v) next) c.requires.state.walked in
+    record {
+      field = refl;
+      active = c.mark.ensures.marked;
+      count = c.requires.state.count;
+      walked = subst (λ q. IsWalked g.T.Tally.value g.T.Tally.fits g.T.Tally.of_loop v (row + 1) (loops_before v q) l.labels l.tallies.items l.edges) (sym next)
+          (quiet_row v g.T.Tally.value g.T.Tally.fits g.T.Tally.of_loop row l.labels l.tallies.items l.edges is low h
+          (λ m first last. no_crossing v c.args.y c.args.z c.requires.y c.requires.z
+          (λ x wide. c.next_from.ensures.points x wide (omega arith) (omega (arith, far, wide, is.x.least))) m first (omega (arith, last, next))));
+    }
+
+pub returns-clause-state : goal.returns-clause-state
+returns-clause-state g c =
+    let h = c.in_ok-add_row_from.ensures.state in
+    let l = c.leave_row.new.walked in
+    record {
+      field = h.field;
+      active = h.active;
+      count = h.count;
+      walked = subst
+          (λ (v : Leveled). IsWalked g.T.Tally.value g.T.Tally.fits g.T.Tally.of_loop v (c.args.y + v.grid.ny * c.args.z + 1) (loops_before v (row_start v.grid c.args.y c.args.z + v.grid.nx)) l.labels l.tallies.items l.edges)
+          h.field c.in_ok-leave_row.ensures;
+    }

@@ -1,0 +1,12 @@
+use Rattle.std.proofs.Common.{◌≡◌, ◌+◌, ◌*◌}
+use Rattle.flat_mesh.specs.Rows.{row_start}
+use Rattle.part_walk.specs.Rows.{IsAt}
+use Rattle.part_walk.proofs.rows.RowWalk.walk_slice.Given as goal
+
+abbrev pub invariant-loop-y : goal.invariant-loop-y
+invariant-loop-y g l =
+    let v = l.initial.self.field in
+    record {
+      same : g.R.CellRows.named l.rows ≡ g.R.CellRows.named l.initial.rows;
+      at : IsAt g.T.Tally.value g.T.Tally.fits g.T.Tally.of_loop v (l.y + v.grid.ny * l.z) (row_start v.grid l.y l.z) l.self;
+    }

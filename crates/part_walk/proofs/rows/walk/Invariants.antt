@@ -1,0 +1,12 @@
+use Rattle.std.proofs.Common.{◌≡◌, ◌*◌}
+use Rattle.flat_mesh.specs.Rows.{row_start}
+use Rattle.part_walk.specs.Rows.{IsAt}
+use Rattle.part_walk.proofs.rows.walk.Given as goal
+
+abbrev pub invariant-loop-z : goal.invariant-loop-z
+invariant-loop-z g l =
+    let v = l.initial.walk.field in
+    record {
+      same : g.R.CellRows.named l.rows ≡ g.R.CellRows.named l.initial.rows;
+      at : IsAt g.T.Tally.value g.T.Tally.fits g.T.Tally.of_loop v (v.grid.ny * l.z) (row_start v.grid 0 l.z) l.walk;
+    }

@@ -1,0 +1,4 @@
+use Rattle.part_walk.proofs.sweep.SweptTally.add_loop.Goals as goal
+
+pub returns-clause-fits : goal.returns-clause-fits
+returns-clause-fits g c = λ n small. c.together.ensures.fits n 1 small c.of_one.ensures.fits

@@ -1,0 +1,78 @@
+//! The numbers of a mesh and of its components.
+
+ghost use Rattle.std.specs.Prelude.{◌≡◌, ℕ, ◌<◌, All, IfOk, length, map, slice_index_or};
+ghost use Rattle.indexmap.specs.IndexMap.{values};
+ghost use Rattle.iso_defs.specs.Scratch.{triangles, vertices};
+ghost use Rattle.iso_base.specs.Shifted.{field};
+ghost use Rattle.mesh_report.specs.Report.{summary_of};
+ghost use Rattle.span_tree.specs.Spans.{IsRightFor};
+ghost use Rattle.stitch_rows.specs.Named.{NamesCases};
+ghost use Rattle.part_walk.specs.Counts.{AreFew, part_with};
+ghost use Rattle.part_walk.specs.declared.components.Component.{Component as ComponentOf};
+ghost use Rattle.part_walk.specs.declared.tally.Counts.{Counts as CountsOf};
+
+use crate::components::{Component, components};
+use crate::rows::walk;
+use crate::tally::{Counts, added};
+use brick_store::BrickStore;
+use indexmap::IndexMap;
+use iso_base::{Level, Memory, Steps};
+use mesh_report::{Part, Report, add_part};
+use span_tree::SpanTree;
+use std::alloc::Global;
+use std::sync::ledger::Ledger;
+use stitch_rows::CellRows;
+
+/// The numbers of a part, by its crossing edges and what is counted of its loops.
+fn part_of(least: u32, crossings: u32, counts: &Counts) -> Part
+    requires { AreFew crossings counts.now }
+    ensures { result ≡ part_with least crossings counts.now }
+{
+    let vertices = crossings + counts.centres as u32;
+    let rims = 3 * counts.threes + counts.spokes;
+    let edges = (rims + counts.border) / 2 + counts.spokes;
+    let faces = (counts.threes + counts.spokes) as u32;
+    Part {
+        least,
+        vertices,
+        edges,
+        faces,
+        border: counts.border,
+        euler: i64::from(vertices) - edges as i64 + i64::from(faces),
+    }
+}
+
+/// The numbers of components whose smallest vertices ascend.
+fn parts_of(alloc: Global, components: &[Component<Counts>]) -> Result<IndexMap<u32, Part>, Memory>
+    requires few { All (λ c. AreFew c.crossings c.tally) components.now }
+    requires ascending { (i j : ℕ) (d : ComponentOf CountsOf) → i < j → j < length components.now → (slice_index_or components.now i d).least < (slice_index_or components.now j d).least }
+    ensures { IfOk result (λ parts. values parts ≡ map (λ c. part_with c.least c.crossings c.tally) components.now) }
+{
+    let mut parts = IndexMap::new(alloc);
+    for component in components {
+        let part = part_of(component.least, component.crossings, &component.tally);
+        add_part(&mut parts, part)?;
+    }
+    Ok(parts)
+}
+
+/// The numbers of the mesh of a volume at a level, and of each of its components.
+pub fn numbered<R: CellRows, L: Ledger>(
+    alloc: Global,
+    store: &BrickStore,
+    tree: &SpanTree,
+    level: Level,
+    rows: &mut R,
+    steps: &mut Steps<L>,
+) -> Result<Report, Memory>
+    requires tree { IsRightFor tree.now store.now }
+    requires named { NamesCases (R.named rows.old) store.now.grid (field store.now.samples level) }
+    ensures { IfOk result (λ r. r ≡ summary_of
+        (length (vertices store.now.grid (field store.now.samples level))) (triangles store.now.grid (field store.now.samples level))) }
+{
+    let _ = store.sizes();
+    let walked = walk::<Counts, R, L>(alloc, store, tree, level, rows, steps)?;
+    let parts = parts_of(alloc, components(alloc, &walked)?.as_slice())?;
+    let all = added(walked.tallies.as_slice());
+    Ok(Report::new(part_of(0, walked.edges.count, &all), parts))
+}

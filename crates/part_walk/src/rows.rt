@@ -1,0 +1,202 @@
+//! The walk over the rows of points.
+
+ghost use Rattle.std.specs.Prelude.{◌≡◌, ℕ, ◌+◌, ◌*◌, ◌<◌, ◌≤◌, IfOk, OnOk, length};
+ghost use Rattle.flat_mesh.specs.Lattice.{heights};
+ghost use Rattle.flat_mesh.specs.Rows.{row_start};
+ghost use Rattle.span_tree.specs.Spans.{IsRightFor};
+ghost use Rattle.iso_base.specs.Shifted.{field as field_of};
+ghost use Rattle.stitch_rows.specs.Bricks.{AreMarked, first_brick};
+ghost use Rattle.stitch_rows.specs.Named.{NamesCases};
+ghost use Rattle.stitch_rows.specs.Rows.{AreCases, at_level};
+ghost use Rattle.part_walk.specs.Components.{IsWhole};
+ghost use Rattle.part_walk.specs.Rows.{IsAt};
+ghost use Rattle.part_walk.specs.Walks.{IsWalked, loops_before};
+
+use crate::cells::{RowCells, add_cells};
+use crate::leaving::leave_edges;
+use crate::tally::Tally;
+use crate::walked::Walked;
+use brick_store::BrickStore;
+use iso_base::{Level, Memory, Steps};
+use span_tree::SpanTree;
+use std::alloc::Global;
+use std::sync::ledger::Ledger;
+use stitch_rows::{ActiveRow, CellRows, Field, case_row, count_along};
+
+/// Labels the loops of the cells of a row, from their cases.
+fn add_row<T: Tally>(
+    field: &Field,
+    active: &ActiveRow,
+    walked: &mut Walked<T>,
+    y: u32,
+    z: u32,
+    cases: &[u16],
+) -> Result<(), Memory>
+    requires active { AreMarked field.now active.now }
+    requires first { active.now.first ≡ first_brick field.now.grid y z }
+    requires y { y + 1 < field.now.grid.ny }
+    requires z { z + 1 < field.now.grid.nz }
+    requires count { length cases.now ≡ field.now.grid.nx }
+    requires cases { AreCases field.now y z cases.now }
+    requires state { IsWalked T.value T.fits T.of_loop field.now (y + field.now.grid.ny * z) (loops_before field.now (row_start field.now.grid y z)) walked.old.labels walked.old.tallies.items walked.old.edges }
+    ensures { OnOk result (IsWalked T.value T.fits T.of_loop field.now (y + field.now.grid.ny * z) (loops_before field.now (row_start field.now.grid y z + field.now.grid.nx))
+        walked.new.labels walked.new.tallies.items walked.new.edges) }
+{
+    let sizes = field.sizes();
+    let places = walked.labels.places(y + sizes.ny() * z);
+    let row = RowCells {
+        y,
+        z,
+        places,
+        cases,
+    };
+    let last = sizes.nx() - 1;
+    let count = count_along(sizes.nx());
+    let mut x = active.next_from(field, 0, y, z);
+    while x < count {
+        let end = (8 * x + 8).min(last);
+        add_cells(field, walked, &row, 8 * x, end)?;
+        x = active.next_from(field, x + 1, y, z);
+    }
+    Ok(())
+}
+
+/// Leaves the edges behind that begin in a row of points.
+fn leave_row<T: Tally>(field: &Field, walked: &mut Walked<T>, y: u32, z: u32) -> Result<(), Memory>
+    requires y { y < field.now.grid.ny }
+    requires z { z < field.now.grid.nz }
+    requires state { IsWalked T.value T.fits T.of_loop field.now (y + field.now.grid.ny * z) (loops_before field.now (row_start field.now.grid y z + field.now.grid.nx)) walked.old.labels walked.old.tallies.items walked.old.edges }
+    ensures { OnOk result (IsWalked T.value T.fits T.of_loop field.now (y + field.now.grid.ny * z + 1) (loops_before field.now (row_start field.now.grid y z + field.now.grid.nx))
+        walked.new.labels walked.new.tallies.items walked.new.edges) }
+{
+    let sizes = field.sizes();
+    let place = walked.labels.row_place(y + sizes.ny() * z);
+    leave_edges(&mut walked.labels, &mut walked.edges, place, 3 * sizes.nx())?;
+    Ok(())
+}
+
+/// A walk over rows of points: the volume, its active bricks in the row at hand, a place for the cases of this row's cells, and what was
+/// walked.
+#[derive(Drop)]
+struct RowWalk<'a, T: Tally> {
+    field: Field<'a>,
+    active: ActiveRow,
+    cases: Vec<u16>,
+    walked: Walked<T>,
+}
+
+impl<'a, T: Tally> RowWalk<'a, T> {
+    /// Labels the loops of the row of cells that a row of points begins, if it begins one.
+    fn add_row_from<R: CellRows, L: Ledger>(
+        &mut self,
+        rows: &mut R,
+        y: u32,
+        z: u32,
+        steps: &mut Steps<L>,
+    ) -> Result<(), Memory>
+        requires first { self.old.active.first ≡ first_brick self.old.field.grid y z }
+        requires y { y < self.old.field.grid.ny }
+        requires z { z < self.old.field.grid.nz }
+        requires named { NamesCases (R.named rows.old) self.old.field.grid (heights self.old.field) }
+        requires state { IsAt T.value T.fits T.of_loop self.old.field (y + self.old.field.grid.ny * z) (row_start self.old.field.grid y z) self.old }
+        ensures same { R.named rows.new ≡ R.named rows.old }
+        ensures state { OnOk result (IsAt T.value T.fits T.of_loop self.old.field (y + self.old.field.grid.ny * z) (row_start self.old.field.grid y z + self.old.field.grid.nx) self.new) }
+    {
+        let sizes = self.field.sizes();
+        if y + 1 >= sizes.ny() || z + 1 >= sizes.nz() {
+            return Ok(());
+        }
+        case_row(
+            &self.field,
+            &self.active,
+            rows,
+            y,
+            z,
+            self.cases.as_mut_slice(),
+            steps,
+        );
+        add_row(
+            &self.field,
+            &self.active,
+            &mut self.walked,
+            y,
+            z,
+            &self.cases,
+        )?;
+        Ok(())
+    }
+
+    /// Labels the loops of the row of cells that a row of points begins, if it begins one, and leaves the edges behind that begin at these
+    /// points.
+    fn walk_row<R: CellRows, L: Ledger>(
+        &mut self,
+        rows: &mut R,
+        y: u32,
+        z: u32,
+        steps: &mut Steps<L>,
+    ) -> Result<(), Memory>
+        requires y { y < self.old.field.grid.ny }
+        requires z { z < self.old.field.grid.nz }
+        requires named { NamesCases (R.named rows.old) self.old.field.grid (heights self.old.field) }
+        requires state { IsAt T.value T.fits T.of_loop self.old.field (y + self.old.field.grid.ny * z) (row_start self.old.field.grid y z) self.old }
+        ensures same { R.named rows.new ≡ R.named rows.old }
+        ensures state { OnOk result (IsAt T.value T.fits T.of_loop self.old.field (y + self.old.field.grid.ny * z + 1) (row_start self.old.field.grid y z + self.old.field.grid.nx) self.new) }
+    {
+        let sizes = self.field.sizes();
+        self.active.mark(&self.field, y, z);
+        if self.active.next_from(&self.field, 0, y, z) >= count_along(sizes.nx()) {
+            return Ok(());
+        }
+        self.add_row_from(rows, y, z, steps)?;
+        leave_row(&self.field, &mut self.walked, y, z)?;
+        Ok(())
+    }
+
+    /// Labels the loops of a slice of cells, if the slice of points begins one, and leaves the edges behind that begin at these points.
+    fn walk_slice<R: CellRows, L: Ledger>(
+        &mut self,
+        rows: &mut R,
+        z: u32,
+        steps: &mut Steps<L>,
+    ) -> Result<(), Memory>
+        requires z { z < self.old.field.grid.nz }
+        requires named { NamesCases (R.named rows.old) self.old.field.grid (heights self.old.field) }
+        requires state { IsAt T.value T.fits T.of_loop self.old.field (self.old.field.grid.ny * z) (row_start self.old.field.grid 0 z) self.old }
+        ensures same { OnOk result (R.named rows.new ≡ R.named rows.old) }
+        ensures state { OnOk result (IsAt T.value T.fits T.of_loop self.old.field (self.old.field.grid.ny * (z + 1)) (row_start self.old.field.grid 0 (z + 1)) self.new) }
+    {
+        let sizes = self.field.sizes();
+        for y in 0..sizes.ny() {
+            self.walk_row(rows, y, z, steps)?;
+        }
+        Ok(())
+    }
+}
+
+/// Labels the loops of all cells.
+pub fn walk<T: Tally, R: CellRows, L: Ledger>(
+    alloc: Global,
+    store: &BrickStore,
+    tree: &SpanTree,
+    level: Level,
+    rows: &mut R,
+    steps: &mut Steps<L>,
+) -> Result<Walked<T>, Memory>
+    requires tree { IsRightFor tree.now store.now }
+    requires named { NamesCases (R.named rows.old) store.now.grid (field_of store.now.samples level) }
+    ensures { IfOk result (λ w. IsWhole T.value T.fits T.of_loop (at_level store.now level) w.labels w.tallies.items w.edges) }
+{
+    let sizes = store.sizes();
+    let walked = Walked::new(alloc, sizes)?;
+    let cases = vec![in alloc; 0u16; sizes.nx() as usize]?;
+    let mut walk = RowWalk {
+        field: Field::new(store, tree, level),
+        active: ActiveRow::new(),
+        cases,
+        walked,
+    };
+    for z in 0..sizes.nz() {
+        walk.walk_slice(rows, z, steps)?;
+    }
+    Ok(walk.walked)
+}
