@@ -64,11 +64,6 @@ module _ (v : Leveled) (ls : List Loop) (long : (l : Loop) → In l ls → 3 ≤
   rims_are : 3 * c.threes + c.spokes ≡ rims ls
   rims_are = omega (arith, faces_are, spokes_are, sides_round ls long)
 
-  border_in : rims_where (is_border v.grid) ls ≤ rims ls
-  border_in =
-      sum_by-le-sum_by (λ (l : Loop). count_by (λ (p : ℕ × ℕ). is_border v.grid p.0 p.1) (around l.1)) (λ (l : Loop). length l.1) ls
-      (λ l. omega (arith, count_by-le-length (λ (p : ℕ × ℕ). is_border v.grid p.0 p.1) (around l.1), length_around l.1))
-
   pub part_is : (least crossings : ℕ) → part_with least crossings c ≡ part_by (is_border v.grid) least crossings ls
   part_is least crossings =
       let steps : 3 * c.threes + c.spokes + c.border ≡ rims ls + rims_where (is_border v.grid) ls = omega (arith, rims_are, border_is) in
@@ -82,5 +77,4 @@ module _ (v : Leveled) (ls : List Loop) (long : (l : Loop) → In l ls → 3 ≤
   few_are crossings vertices triangles = record {
     vertices = omega (arith, vertices, centres_are);
     faces = omega (arith, triangles, faces_are);
-    border = omega (arith, triangles, faces_are, rims_are, border_in, border_is);
   }

@@ -39,7 +39,7 @@ impl<T: Tally> Component<T> {
     /// With the crossing edges and the loops of a label.
     fn add(&mut self, crossings: u32, tally: &T)
         requires few { self.old.crossings + crossings < 2 ^ 32 }
-        requires room { (n m : ℕ) × (n + m < 2 ^ 40) × T.fits n self.old.tally × T.fits m tally.now }
+        requires room { (n m : ℕ) × (n + m < 2 ^ 31) × T.fits n self.old.tally × T.fits m tally.now }
         ensures least { self.new.least ≡ self.old.least }
         ensures crossings { self.new.crossings ≡ self.old.crossings + crossings }
         ensures values { (i : ℕ) → T.value self.new.tally i ≡ T.value self.old.tally i +ℤ T.value tally.now i }
@@ -90,7 +90,7 @@ fn add_all<T: Tally>(
     requires tallies { length tallies.now ≡ length joined.now }
     requires empty { (i : ℕ) (d : Component T) → i < length components.old → IsEmpty T.value T.fits (slice_index_or components.old i d) }
     requires few_edges { sum_by (slice_index crossings.now) (below (length joined.now)) < 2 ^ 32 }
-    requires few_loops { AreFew T.fits (length joined.now) tallies.now }
+    requires few_steps { AreFew T.fits (length joined.now) tallies.now }
     ensures { AreAdded T.value T.fits (λ a. slice_index places.now (slice_index joined.now a)) (length joined.now) crossings.now tallies.now components.old components.new }
 {
     for label in 0..joined.len() {

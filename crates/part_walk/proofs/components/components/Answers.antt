@@ -9,7 +9,7 @@ use Rattle.part_laws.specs.ByLabels.{firsts}
 use Rattle.part_walk.specs.Begun.{AreAdded, AreBegun, AreFew, IsEmpty}
 use Rattle.part_walk.specs.Components.{AreComponents, edges_of}
 use Rattle.part_walk.proofs.AddedLaws.{added_same}
-use Rattle.part_walk.proofs.ComponentLaws.{components_are, crossings_few, joined_inside, loops_few, order_few, order_inside, order_is}
+use Rattle.part_walk.proofs.ComponentLaws.{components_are, crossings_few, joined_inside, steps_few, order_few, order_inside, order_is}
 use Rattle.part_walk.proofs.RowLaws.{all_written}
 use Rattle.part_walk.proofs.components.components.Goals as goal
 
@@ -63,14 +63,14 @@ add_all-requires-clause-few_edges g c =
     = ap₂ (λ xs n. sum_by (λ a. get_or xs a 0) (below n)) c.deref-5.ensures.value size in
     omega (arith, same, crossings_few g.T.Tally.value g.T.Tally.fits g.T.Tally.of_loop h.0 w.labels w.tallies.items w.edges h.1 is)
 
-pub add_all-requires-clause-few_loops : goal.add_all-requires-clause-few_loops
-add_all-requires-clause-few_loops g c =
+pub add_all-requires-clause-few_steps : goal.add_all-requires-clause-few_steps
+add_all-requires-clause-few_steps g c =
     let w = c.args.walked.now in
     let h = c.requires.whole in
     let is : IsGrid h.0.grid = subst IsGrid (c.sizes.ensures ∙ h.1.walked.labelled_are.grid) c.nx.ensures.grid in
     let size : length c.deref-3.result.now ≡ w.labels.count = ap length c.deref-3.ensures.value ∙ (c.in_ok-joined.ensures.count ∙ c.count-count.ensures.value) in
     subst (λ n. AreFew g.T.Tally.fits n c.deref-6.result.now) (sym size) (subst (AreFew g.T.Tally.fits w.labels.count) (sym c.deref-6.ensures.value)
-    (loops_few g.T.Tally.value g.T.Tally.fits g.T.Tally.of_loop h.0 w.labels w.tallies.items w.edges h.1 is))
+    (steps_few g.T.Tally.value g.T.Tally.fits g.T.Tally.of_loop h.0 w.labels w.tallies.items w.edges h.1 is))
 
 pub returns : goal.returns
 returns g c = λ v h.

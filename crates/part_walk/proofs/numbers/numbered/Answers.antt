@@ -8,7 +8,7 @@ use Rattle.part_walk.specs.Components.{AreComponents}
 use Rattle.part_walk.specs.Counts.{counted, fit, number}
 use Rattle.part_walk.specs.Sums.{FitEach}
 use Rattle.part_walk.specs.declared.tally.Counts.{Counts}
-use Rattle.part_walk.proofs.MeshCounts.{added_is, crossings_are, labelled_count, parts_ascend, parts_few, parts_told, tallies_few, tallies_fit, whole_few, whole_is}
+use Rattle.part_walk.proofs.MeshCounts.{added_is, crossings_are, parts_ascend, parts_few, parts_told, tallies_fit, whole_few, whole_is}
 use Rattle.part_walk.proofs.numbers.numbered.Goals as goal
 
 pub parts_of-requires-clause-few : goal.parts_of-requires-clause-few
@@ -26,10 +26,9 @@ added-all-requires g c =
     let v : Leveled = at_level c.args.store.now c.args.level in
     let w = c.in_ok-walked.walked in
     let h = c.in_ok-walked.ensures in
-    let n : ℕ → ℕ = labelled_count v c.sizes.ensures.volume.grid number fit counted w.labels w.tallies.items w.edges h in
     record {
-      room = subst (λ (ts : List Counts). (n : ℕ → ℕ) × (sum_by n (below (length ts)) < 1099511627776) × FitEach fit n ts) (sym c.as_slice-2.ensures.value)
-          (n, tallies_few v c.sizes.ensures.volume.grid number fit counted w.labels w.tallies.items w.edges h, record { each = tallies_fit v c.sizes.ensures.volume.grid number fit counted w.labels w.tallies.items w.edges h });
+      room = subst (λ (ts : List Counts). (n : ℕ → ℕ) × (sum_by n (below (length ts)) < 2147483648) × FitEach fit n ts) (sym c.as_slice-2.ensures.value)
+          (tallies_fit v c.sizes.ensures.volume.grid number fit counted w.labels w.tallies.items w.edges h);
     }
 
 pub part_of-requires : goal.part_of-requires
