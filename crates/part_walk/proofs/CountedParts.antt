@@ -1,7 +1,7 @@
 -- The numbers of a part, by what is counted of its loops.
-use Rattle.std.proofs.Common.{◌≡◌, ◌∙◌, ℕ, ◌+◌, ◌*◌, ◌/◌, ◌<◌, ◌≤◌, ℤ, pos, ◌+ℤ◌, ◌-ℤ◌, Bool, true, false, cond, List, [], ◌∷◌, length, refl, ap, arith}
+use Rattle.std.proofs.Common.{◌≡◌, ◌∙◌, ℕ, ◌+◌, ◌*◌, ◌/◌, ◌<◌, ◌≤◌, pos, ◌+ℤ◌, ◌-ℤ◌, Bool, true, false, cond, List, [], ◌∷◌, length, refl, ap, arith}
 use Rattle.std.proofs.lemmas.Int.{ints}
-use Rattle.std.proofs.lemmas.List.Sums.{count_by-le-length, sum_by-cons, sum_by-le-sum_by}
+use Rattle.std.proofs.lemmas.List.Sums.{sum_by-cons}
 use Rattle.std.specs.List.{count_by, sum_by}
 use Rattle.iso_defs.specs.Lists.{around}
 use Rattle.iso_defs.specs.Scratch.{has_centre}
@@ -15,7 +15,6 @@ use Rattle.flat_mesh.specs.Lattice.{Leveled}
 use Rattle.part_laws.specs.Loops.{Loop, centres, faces, rims, rims_where, spokes}
 use Rattle.part_laws.specs.Parts.{part_by}
 use Rattle.part_laws.proofs.Counted.{sides_round}
-use Rattle.part_laws.proofs.Rounds.{length_around}
 use Rattle.part_walk.specs.Counts.{AreFew, counted, number, part_with}
 use Rattle.part_walk.specs.declared.tally.Counts.{Counts}
 

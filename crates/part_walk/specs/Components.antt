@@ -1,7 +1,6 @@
 -- The components of a mesh, and what is added up of their loops.
 use Rattle.std.specs.Prelude.{◌≡◌, ℕ, ◌*◌, ◌<◌, ◌==◌, ℤ, List, length, slice_index_or}
 use Rattle.std.specs.List.{count_by}
-use Rattle.iso_defs.specs.Grid.{Grid}
 use Rattle.iso_defs.specs.Outside.{IsThick}
 use Rattle.iso_defs.specs.Scratch.{crossing_edges, number_of}
 use Rattle.flat_mesh.specs.Lattice.{Leveled, heights}

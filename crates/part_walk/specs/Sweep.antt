@@ -1,5 +1,5 @@
 -- What is measured of loops.
-use Rattle.std.specs.Prelude.{ℕ, zero, suc, ◌+◌, ◌-◌, ◌*◌, ◌/◌, ◌%◌, ◌^◌, ◌≤◌, ℤ, pos, List, [], map, nat_lt, slice_index_or, unsigned_abs, if◌then◌else◌}
+use Rattle.std.specs.Prelude.{ℕ, zero, suc, ◌-◌, ◌*◌, ◌/◌, ◌%◌, ◌^◌, ◌≤◌, ℤ, pos, [], map, nat_lt, slice_index_or, unsigned_abs, if◌then◌else◌}
 use Rattle.std.specs.List.{count_by}
 use Rattle.iso_defs.specs.Cell.{cell_edge}
 use Rattle.iso_defs.specs.Grid.{name_bound}

@@ -73,7 +73,8 @@ pub fn numbered<R: CellRows, L: Ledger>(
 {
     let _ = store.sizes();
     let walked = walk::<Counts, R, L>(alloc, store, tree, level, rows, steps)?;
-    let parts = parts_of(alloc, components(alloc, &walked)?.as_slice())?;
     let all = added(walked.tallies.as_slice());
-    Ok(Report::new(part_of(0, walked.edges.count, &all), parts))
+    let total = part_of(0, walked.edges.count, &all);
+    let parts = parts_of(alloc, components(alloc, walked)?.as_slice())?;
+    Ok(Report::new(total, parts))
 }

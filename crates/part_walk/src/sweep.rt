@@ -116,7 +116,7 @@ pub fn measured<R: CellRows, L: Ledger>(
 {
     let _ = store.sizes();
     let walked = walk::<Swept, R, L>(alloc, store, tree, level, rows, steps)?;
-    let components = components(alloc, &walked)?;
+    let components = components(alloc, walked)?;
     let shares = shares_of(alloc, store.pad().is_some(), components.as_slice())?;
     Ok(Measures::new(shares))
 }
