@@ -8,7 +8,6 @@ mod contour;
 mod edits;
 mod fault;
 mod follow;
-mod summary;
 mod surface;
 mod walked;
 mod windows;

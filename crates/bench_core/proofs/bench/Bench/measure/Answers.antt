@@ -10,14 +10,10 @@ use Rattle.bench_core.proofs.bench.Bench.measure.Goals as goal
 
 pub returns-clause-measures : goal.returns-clause-measures
 unfolding measure_of
-returns-clause-measures c =
-    let level : ℤ = c.self.inside.level in
-    rw (← c.self.view_is) (c.in_ok-mesh_measures.ensures.measures ∙ ap (λ (v : Volume). measures_at v level) c.in_ok-volume.ensures)
+returns-clause-measures c = rw (← c.self.view_is) c.in_ok-walked_measures.ensures.measures
 
 pub returns-clause-volumes : goal.returns-clause-volumes
-returns-clause-volumes c =
-    let level : ℤ = c.self.inside.level in
-    rw (← c.self.view_is) (subst (λ (v : Volume). All (HasOneVolumeIn v level) c.in_ok-mesh_measures.field-0) c.in_ok-volume.ensures c.in_ok-mesh_measures.ensures.volumes)
+returns-clause-volumes c = rw (← c.self.view_is) c.in_ok-walked_measures.ensures.volumes
 
 -- with a pad there is one below the level
 closed_by : (v : Volume) (level : ℤ) (m : List Share) (pad : Option ℤ) → v.pad ≡ pad → IsAbovePad pad level → (HasPadBelow v level → All HasNoBorder m)
@@ -28,7 +24,6 @@ closed_by v level m (Some pad) e above closed = closed (pad, e, above)
 pub returns-clause-closed : goal.returns-clause-closed
 returns-clause-closed c =
     let level : ℤ = c.self.inside.level in
-    let m : List Share = c.in_ok-mesh_measures.field-0 in
+    let m : List Share = c.in_ok-walked_measures.field-0 in
     rw (← c.self.view_is)
-    (closed_by c.self.inside.store level m c.self.inside.store.pad refl c.self.invariant.0.state.above
-    (subst (λ (v : Volume). HasPadBelow v level → All HasNoBorder m) c.in_ok-volume.ensures c.in_ok-mesh_measures.ensures.closed))
+    (closed_by c.self.inside.store level m c.self.inside.store.pad refl c.self.invariant.0.state.above c.in_ok-walked_measures.ensures.closed)
