@@ -282,6 +282,7 @@ distinct_flat f (q ∷ qs) d one same =
     (λ v i j. let r : (r : ℕ) × In r qs × In v (f r) = In-flat_map f v qs j in d.0 (subst (λ z. In z qs) (sym (same q r.0 v (inl refl) (inr r.1) i r.2)) r.1))
 
 module _ (g : Grid) (s : ℕ → ℤ) where
+  -- the edges of the loops of a cell, which are different
   abbrev pub looped : ℕ → List ℕ
   looped q = flat_map (λ (l : ℕ × List ℕ). l.1) (cell_loops g s q)
 
