@@ -99,6 +99,17 @@ impl Labels {
         &self.pairs
     }
 
+    /// How many labels there are, and the pairs of them that met, each in both orders. All else is given up.
+    pub fn into_pairs(self) -> (u32, Vec<(u32, u32)>)
+        ensures count { result.0 ≡ self.count }
+        ensures few { result.0 < none }
+        ensures pairs { result.1.items ≡ self.pairs }
+        ensures few_pairs { length result.1.items < 4294967296 }
+        ensures paired { ArePaired self.count result.1.items }
+    {
+        (self.met.len() as u32, self.pairs)
+    }
+
     /// A new label.
     fn start(&mut self) -> Result<u32, Memory>
         ensures marks { OnOk result (self.new.marks ≡ self.old.marks) }

@@ -282,10 +282,14 @@ distinct_flat f (q ∷ qs) d one same =
     (λ v i j. let r : (r : ℕ) × In r qs × In v (f r) = In-flat_map f v qs j in d.0 (subst (λ z. In z qs) (sym (same q r.0 v (inl refl) (inr r.1) i r.2)) r.1))
 
 module _ (g : Grid) (s : ℕ → ℤ) where
-  abbrev looped : ℕ → List ℕ
+  -- the edges of the loops of a cell, which are different
+  abbrev pub looped : ℕ → List ℕ
   looped q = flat_map (λ (l : ℕ × List ℕ). l.1) (cell_loops g s q)
 
-  looped_low : (q e : ℕ) → In e (looped q) → e < 12
+  pub looped_apart : (q : ℕ) → Distinct (looped q)
+  looped_apart q = distinct_from (looped q) (cell_passes apart_test apart_all g s q)
+
+  pub looped_low : (q e : ℕ) → In e (looped q) → e < 12
   looped_low q e i = let l : (l : ℕ × List ℕ) × In l (cell_loops g s q) × In e l.1 = In-flat_map (λ (l : ℕ × List ℕ). l.1) e (cell_loops g s q) i in (cell_loop g s q l.0 l.1).edges e l.2
 
   crossing_looped : (q x : ℕ) → x < 12 → crosses (cell_signs g s q) x ≡ true → In x (looped q)
@@ -316,7 +320,7 @@ module _ (g : Grid) (s : ℕ → ℤ) where
   firsts_distinct q i =
       let low : (x : ℕ) → In x (filter (is_first_at g q) (looped q)) → x < 12 = λ x j. looped_low q x (In-filter (is_first_at g q) x (looped q) j).0 in
       distinct_map (cell_edge g q) (filter (is_first_at g q) (looped q)) (λ a b j k e. edge_injective g q a b (cell_in g q i).0 (low a j) (low b k) e)
-      (Distinct-filter (is_first_at g q) (looped q) (distinct_from (looped q) (cell_passes apart_test apart_all g s q)))
+      (Distinct-filter (is_first_at g q) (looped q) (looped_apart q))
 
   one_first : (q r v : ℕ) → In q (cells g) → In r (cells g) → In v (first_edges g s q) → In v (first_edges g s r) → q ≡ r
   one_first q r v i j a b =

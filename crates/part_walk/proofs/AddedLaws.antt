@@ -143,7 +143,7 @@ module _ {T : Type 0} (value : T → ℕ → ℤ) (fits : ℕ → T → Type 0) 
         omega (arith, e, part_low (λ a. eqb (place a) (place n)) (λ a. get_or xs a 0) n m low, few)
 
     pub tallies_fit : (m : ℕ) (d : Component T) (t : T) → n < m → place n < length cs' → AreFew fits m ts
-        → (k k' : ℕ) × (k + k' < 1099511627776) × fits k (get_or cs' (place n) d).tally × fits k' (get_or ts n t)
+        → (k k' : ℕ) × (k + k' < 2147483648) × fits k (get_or cs' (place n) d).tally × fits k' (get_or ts n t)
     tallies_fit m d t low inside few = (
       sum_by (λ a. cond (eqb (place a) (place n)) (few.of a) 0) (below n),
       few.of n,

@@ -1,9 +1,9 @@
 -- The steps of a loop of a cell that lie in the border.
-use Rattle.std.proofs.Common.{◌≡◌, ℕ, suc, inl, inr, All, ◌+◌, ◌-◌, ◌*◌, ◌/◌, ◌<◌, ◌≤◌, Bool, true, false, cond, ◌&&◌, ◌||◌, not, List, [], ◌∷◌, map, length, get_or, drop, refl, sym, ◌∙◌, ap, subst, arith, eqb, ltb, zero-add}
+use Rattle.std.proofs.Common.{◌≡◌, ℕ, suc, inl, inr, All, ◌+◌, ◌-◌, ◌*◌, ◌/◌, ◌<◌, ◌≤◌, Bool, true, false, cond, ◌&&◌, ◌||◌, not, List, [], ◌∷◌, map, length, get_or, drop, refl, sym, ◌∙◌, ap, subst, arith, eqb, ltb}
 use Rattle.std.specs.List.{list_any, count_by}
 use Rattle.std.proofs.lemmas.Bool.{both_ways, lt-ltb, ne_eqb}
 use Rattle.std.proofs.lemmas.List.{at_drop_more, at_drop_all}
-use Rattle.iso_defs.specs.Grid.{Grid, cells, coordinate, index, name_bound, size}
+use Rattle.iso_defs.specs.Grid.{Grid, cells, coordinate, name_bound, size}
 use Rattle.iso_defs.specs.Cell.{cell_edge, edge_corner}
 use Rattle.iso_defs.specs.Lists.{around, below, closing}
 use Rattle.iso_defs.specs.Surface.{is_border, lies_in_plane}

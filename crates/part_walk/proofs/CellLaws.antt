@@ -4,30 +4,38 @@ use Rattle.std.specs.List.{count_by, enumerate_from, filter, flat_map, range_wit
 use Rattle.std.proofs.lemmas.Bool.{cases_Bool}
 use Rattle.std.proofs.lemmas.List.{get_or-map, length-append, length-map, take_all, take_more}
 use Rattle.std.proofs.lemmas.List.Elements.{filter-append}
-use Rattle.std.proofs.lemmas.List.Sums.{count_by-le-length, length-filter}
+use Rattle.std.proofs.lemmas.List.Sums.{count_by-le-length, length-filter, sum_by-append, sum_by-cons, sum_by-take-le}
 use Rattle.std.proofs.lemmas.List.FromFn.{get_or-enumerate_from, length-enumerate_from}
 use Rattle.std.proofs.lemmas.Grind.{flat_map-append}
-use Rattle.iso_defs.specs.Cell.{case_loops, cell_edge, cell_joined, cell_signs, is_least, loop_of, next_pairs}
+use Rattle.iso_defs.specs.Cell.{case_loops, cell_edge, cell_joined, cell_signs}
 use Rattle.iso_defs.specs.Grid.{Grid, is_cell}
-use Rattle.iso_defs.specs.Lists.{begins, below}
+use Rattle.iso_defs.specs.Lists.{below}
 use Rattle.iso_defs.specs.Scratch.{cell_loops, centre_name}
 use Rattle.iso_base.specs.Sizing.{IsGrid}
-use Rattle.mesh_laws.proofs.Cells.{cell_in}
+use Rattle.verdict_laws.proofs.FanWalk.{no_longer}
+use Rattle.mesh_laws.proofs.Cells.{cell_in, range_in}
 use Rattle.flat_mesh.specs.Centres.{IsCellAt}
 use Rattle.flat_mesh.specs.Faces.{loops_at}
 use Rattle.flat_mesh.specs.Lattice.{Leveled, heights}
 use Rattle.flat_mesh.specs.declared.centres.Cell.{Cell}
 use Rattle.part_laws.proofs.Counted.{range_join}
-use Rattle.part_laws.specs.Loops.{Loop, loops_in}
+use Rattle.part_laws.specs.Loops.{Loop, loops_in, rims}
+use Rattle.part_laws.proofs.CellOrder.{looped, looped_apart, looped_low}
 use Rattle.part_walk.specs.Sums.{IsLoopIn}
 use Rattle.part_walk.specs.Walks.{loops_before}
 use Rattle.part_walk.proofs.BorderSteps.{in_cells}
 use Rattle.part_walk.proofs.WalkLaws.{none_behind}
 
-take_low : (n : ℕ) (ls : List Loop) → length (take n ls) ≤ length ls
-take_low zero ls = omega arith
-take_low (suc n) [] = omega arith
-take_low (suc n) (l ∷ ls) = let h : length (take n ls) ≤ length ls = take_low n ls in omega (arith, h)
+-- the steps round loops of a cell, by its edges
+rims_named : (g : Grid) (q : ℕ) (ls : List (ℕ × List ℕ)) → rims (map (λ (l : ℕ × List ℕ). (centre_name g q l.0, map (cell_edge g q) l.1)) ls) ≡ length (flat_map (λ (l : ℕ × List ℕ). l.1) ls)
+rims_named g q [] = refl
+rims_named g q (l ∷ ls) =
+    let named : ℕ × List ℕ → Loop = λ l. (centre_name g q l.0, map (cell_edge g q) l.1) in
+    let a : rims (named l ∷ map named ls) ≡ length (map (cell_edge g q) l.1) + rims (map named ls) = sum_by-cons (λ (k : Loop). length k.1) (named l) (map named ls) in
+    omega (arith, a, length-map l.1 (cell_edge g q), rims_named g q ls, length-append l.1 (flat_map (λ (l : ℕ × List ℕ). l.1) ls))
+
+rims_join : (ls ks : List Loop) → rims (ls ++ ks) ≡ rims ls + rims ks
+rims_join ls ks = sum_by-append (λ (l : Loop). length l.1) ls ks
 
 pub filter_low : (p : ℕ → Bool) (xs : List ℕ) → length (filter p xs) ≤ length xs
 filter_low p xs = let a : length (filter p xs) ≡ count_by p xs = length-filter p xs in let b : count_by p xs ≤ length xs = count_by-le-length p xs in omega (arith, a, b)
@@ -116,44 +124,41 @@ module _ (v : Leveled) where
   pub no_turns : (q : ℕ) (before : List Loop) → before ++ take 0 (loops_of q) ≡ before
   no_turns q before = none_behind before
 
-  -- there are few loops
-  few_of : (q : ℕ) → length (loops_of q) ≤ 12
-  unfolding loops_at
+  -- the edges of a cell's loops are different, so their steps are few
+  few_of : (q : ℕ) → rims (loops_of q) ≤ 12
   few_of q =
-      let ps = next_pairs (cell_signs v.grid (heights v) q) (cell_joined v.grid (heights v) q) in
-      let starts : List ℕ = filter (begins ps) (below 12) in
-      let a : length (loops_of q) ≡ length (loops_at v q) = count_is q in
-      let b : length (case_loops (cell_signs v.grid (heights v) q) (cell_joined v.grid (heights v) q)) ≡ length (filter (is_least ps) starts) = length-map (filter (is_least ps) starts) (loop_of ps) in
-      let c : length (filter (is_least ps) starts) ≤ length starts = filter_low (is_least ps) starts in
-      let d : length starts ≤ length (below 12) = filter_low (begins ps) (below 12) in
-      omega (arith, a, b, c, d)
+      let es : List ℕ = looped v.grid (heights v) q in
+      let a : rims (loops_of q) ≡ length es = rims_named v.grid q (cell_loops v.grid (heights v) q) in
+      let b : length es ≤ length (below 12)
+      = no_longer es (below 12) (looped_apart v.grid (heights v) q) (λ e i. range_in 0 12 e (omega arith) (let l : e < 12 = looped_low v.grid (heights v) q e i in omega (arith, l))) in
+      omega (arith, a, b)
 
-  few_none : length (loops_before v 0) ≤ 12 * 0
+  few_none : rims (loops_before v 0) ≤ 12 * 0
   unfolding loops_before
   few_none = omega arith
 
-  pub few_before : (q : ℕ) → length (loops_before v q) ≤ 12 * q
+  pub few_before : (q : ℕ) → rims (loops_before v q) ≤ 12 * q
   few_before zero = few_none
   few_before (suc q) =
       elim (cases_Bool (is_cell v.grid q)) [
         | inl t ↦ (
-            let e : length (loops_before v (suc q)) ≡ length (loops_before v q) + length (loops_of q)
-            = ap (λ k. length (loops_before v k)) (let z : suc q ≡ q + 1 = omega arith in z) ∙ (ap (λ (l : List Loop). length l) (next q true t) ∙ length-append (loops_before v q) (loops_of q)) in
-            let a : length (loops_of q) ≤ 12 = few_of q in
-            let b : length (loops_before v q) ≤ 12 * q = few_before q in
+            let e : rims (loops_before v (suc q)) ≡ rims (loops_before v q) + rims (loops_of q)
+            = ap (λ k. rims (loops_before v k)) (let z : suc q ≡ q + 1 = omega arith in z) ∙ (ap rims (next q true t) ∙ rims_join (loops_before v q) (loops_of q)) in
+            let a : rims (loops_of q) ≤ 12 = few_of q in
+            let b : rims (loops_before v q) ≤ 12 * q = few_before q in
             omega (arith, e, a, b))
         | inr f ↦ (
-            let e : length (loops_before v (suc q)) ≡ length (loops_before v q)
-            = ap (λ k. length (loops_before v k)) (let z : suc q ≡ q + 1 = omega arith in z) ∙ ap (λ (l : List Loop). length l) (next q false f ∙ none_behind (loops_before v q)) in
-            let b : length (loops_before v q) ≤ 12 * q = few_before q in
+            let e : rims (loops_before v (suc q)) ≡ rims (loops_before v q)
+            = ap (λ k. rims (loops_before v k)) (let z : suc q ≡ q + 1 = omega arith in z) ∙ ap rims (next q false f ∙ none_behind (loops_before v q)) in
+            let b : rims (loops_before v q) ≤ 12 * q = few_before q in
             omega (arith, e, b))
       ]
 
   -- those of a cell among the others are few too
-  pub few_so_far : (q n : ℕ) → q < 160000000 → length (loops_before v q ++ take n (loops_of q)) < 2000000000
+  pub few_so_far : (q n : ℕ) → q < 160000000 → rims (loops_before v q ++ take n (loops_of q)) < 2000000000
   few_so_far q n low =
-      let e : length (loops_before v q ++ take n (loops_of q)) ≡ length (loops_before v q) + length (take n (loops_of q)) = length-append (loops_before v q) (take n (loops_of q)) in
-      let a : length (take n (loops_of q)) ≤ length (loops_of q) = take_low n (loops_of q) in
+      let e : rims (loops_before v q ++ take n (loops_of q)) ≡ rims (loops_before v q) + rims (take n (loops_of q)) = rims_join (loops_before v q) (take n (loops_of q)) in
+      let a : rims (take n (loops_of q)) ≤ rims (loops_of q) = sum_by-take-le (λ (l : Loop). length l.1) (loops_of q) n in
       omega (arith, e, a, few_of q, few_before q, low)
 
   -- a cell by its point

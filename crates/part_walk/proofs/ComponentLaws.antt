@@ -1,10 +1,10 @@
 -- The components that were put together are those of the classes.
-use Rattle.std.proofs.Common.{◌≡◌, ℕ, ◌+◌, ◌*◌, ◌<◌, ◌≤◌, ℤ, pos, true, cond, List, [], ◌∷◌, map, length, get_or, refl, sym, ◌∙◌, ap, subst, inl, inr, arith, eqb}
+use Rattle.std.proofs.Common.{◌≡◌, ℕ, ◌+◌, ◌*◌, ◌<◌, ◌≤◌, ℤ, pos, true, cond, List, map, length, get_or, sym, ◌∙◌, ap, subst, inl, inr, arith, eqb}
 use Rattle.std.specs.List.{AllByRecursion, count_by, filter, sum_by}
 use Rattle.std.proofs.lemmas.Bool.{cases_eq, eq-eqb, ne_eqb}
 use Rattle.std.proofs.lemmas.List.{get_or-map, length-map}
 use Rattle.std.proofs.lemmas.List.FromFn.{length-range_with_len}
-use Rattle.std.proofs.lemmas.List.Sums.{count_by-le-length, sum_by-cons}
+use Rattle.std.proofs.lemmas.List.Sums.{count_by-le-length}
 use Rattle.iso_base.specs.Sizing.{IsGrid}
 use Rattle.iso_defs.specs.Grid.{name_bound}
 use Rattle.iso_defs.specs.Lists.{below}
@@ -24,7 +24,7 @@ use Rattle.mesh_report.proofs.Sums.{sum_agree}
 use Rattle.part_laws.specs.ByLabels.{firsts}
 use Rattle.part_laws.specs.Classes.{class_of}
 use Rattle.part_laws.specs.Labels.{labelled, unlabelled}
-use Rattle.part_laws.specs.Loops.{Loop}
+use Rattle.part_laws.specs.Loops.{Loop, rims}
 use Rattle.part_laws.specs.Meets.{least_joined, pair_loop}
 use Rattle.part_laws.specs.Parts.{class_loops, classes}
 use Rattle.part_laws.proofs.ClassLaws.{class_low}
@@ -53,10 +53,6 @@ joined_low ps a = class_low (map pair_loop ps) a
 
 pub joined_inside : (n : ℕ) (ps : List (ℕ × ℕ)) (joined : List ℕ) → IsLeast n ps joined → (a : ℕ) → a < n → get_or joined a 0 < n
 joined_inside n ps joined h a l = omega (arith, h.each a l, joined_low ps a, l)
-
-ones : {A : Type 0} (xs : List A) → sum_by (λ x. 1) xs ≡ length xs
-ones [] = refl
-ones (x ∷ xs) = sum_by-cons (λ x. 1) x xs ∙ (let e : sum_by (λ x. 1) xs ≡ length xs = ones xs in omega (arith, e))
 
 in_below : (n a : ℕ) → In a (below n) → a < n
 in_below n a i = let r : (0 ≤ a) × (a < 0 + n) = range_at_least 0 n a i in omega (arith, r.1)
@@ -116,16 +112,14 @@ module _ {T : Type 0} (value : T → ℕ → ℤ) (fits : ℕ → T → Type 0) 
         let b : count_by (λ e. true) es ≡ sum_by (λ a. count_by (λ e. eqb (label e) a) es) (below count) = edge_sums label count (λ a. true) es low in
         omega (arith, a, b, count_by-le-length (λ e. true) es, few_edges)
 
-    pub loops_few : AreFew fits count ts
-    loops_few =
-        let of : ℕ → ℕ = λ a. length (labelled xs (λ b. eqb b a)) in
-        let a : sum_by of (below count) ≡ sum_by (λ a. sum_by (λ l. 1) (labelled xs (λ b. eqb b a))) (below count)
-        = sum_agree of (λ a. sum_by (λ l. 1) (labelled xs (λ b. eqb b a))) (below count) (λ a i. sym (ones (labelled xs (λ b. eqb b a)))) in
-        let b : sum_by (λ l. 1) (labelled xs (λ a. true)) ≡ sum_by (λ a. sum_by (λ l. 1) (labelled xs (λ b. eqb b a))) (below count) = loop_sums xs count h.walked.labelled_are.low (λ a. true) (λ l. 1) in
-        let m : length (unlabelled xs) ≡ length (loops_before v (row_start v.grid 0 v.grid.nz)) = ap (λ (ls : List Loop). length ls) (h.walked.loops_are ∙ sym (all_before v)) in
+    pub steps_few : AreFew fits count ts
+    steps_few =
+        let of : ℕ → ℕ = λ a. rims (labelled xs (λ b. eqb b a)) in
+        let a : rims (labelled xs (λ a. true)) ≡ sum_by of (below count) = loop_sums xs count h.walked.labelled_are.low (λ a. true) (λ (l : Loop). length l.1) in
+        let m : rims (unlabelled xs) ≡ rims (loops_before v (row_start v.grid 0 v.grid.nz)) = ap rims (h.walked.loops_are ∙ sym (all_before v)) in
         record {
           of = of;
-          few = omega (arith, a, b, ones (labelled xs (λ a. true)), labelled_few xs (λ a. true), m, few_before v (row_start v.grid 0 v.grid.nz), is.count);
+          few = omega (arith, a, labelled_few xs (λ a. true), m, few_before v (row_start v.grid 0 v.grid.nz), is.count);
           fit = λ a t l. h.walked.tallies_are.fit a t l;
         }
 
@@ -200,11 +194,8 @@ module _ {T : Type 0} (value : T → ℕ → ℤ) (fits : ℕ → T → Type 0) 
             (λ a l. ap (λ z. cond (eqb (place a) i) z (pos 0)) (h.walked.tallies_are.values a t j (in_below count a l)))
             ∙ (sym (loop_totals xs count h.walked.labelled_are.low (λ a. eqb (place a) i) (of_loop v j)) ∙ ap (total (of_loop v j)) loops_at)
 
-        length_at : sum_by (λ a. cond (eqb (place a) i) (length (labelled xs (λ b. eqb b a))) 0) (below count) ≡ length (class_loops (unlabelled xs) k)
-        length_at =
-            sum_agree (λ a. cond (eqb (place a) i) (length (labelled xs (λ b. eqb b a))) 0) (λ a. cond (eqb (place a) i) (sum_by (λ l. 1) (labelled xs (λ b. eqb b a))) 0) (below count)
-            (λ a l. ap (λ n. cond (eqb (place a) i) n 0) (sym (ones (labelled xs (λ b. eqb b a)))))
-            ∙ (sym (loop_sums xs count h.walked.labelled_are.low (λ a. eqb (place a) i) (λ l. 1)) ∙ (ones (labelled xs (λ a. eqb (place a) i)) ∙ ap length loops_at))
+        steps_at : sum_by (λ a. cond (eqb (place a) i) (rims (labelled xs (λ b. eqb b a))) 0) (below count) ≡ rims (class_loops (unlabelled xs) k)
+        steps_at = sym (loop_sums xs count h.walked.labelled_are.low (λ a. eqb (place a) i) (λ (l : Loop). length l.1)) ∙ ap rims loops_at
 
         number_at : rank v.grid (heights v) k ≡ number_of v.grid (heights v) k
         number_at = sym (number_is_rank v.grid (heights v) k (in_below (name_bound v.grid) k (In-filter (is_crossing v.grid (heights v)) k (below (name_bound v.grid)) known.0).0))
@@ -214,8 +205,8 @@ module _ {T : Type 0} (value : T → ℕ → ℤ) (fits : ℕ → T → Type 0) 
           least = added.least i d low ∙ (begun.least i d low ∙ (ap (rank v.grid (heights v)) first_is ∙ number_at));
           crossings = added.crossings_are i d low ∙ (crossings_at ∙ ap (λ ls. count_by (λ e. eqb (class_of ls e) k) es) h.walked.loops_are);
           values = λ j. added.values i d (get_or cs' i d).tally j low ∙ (values_at (get_or cs' i d).tally j ∙ ap (λ ls. total (of_loop v j) (class_loops ls k)) h.walked.loops_are);
-          fit = subst (λ n. fits n (get_or cs' i d).tally) (length_at ∙ ap (λ ls. length (class_loops ls k)) h.walked.loops_are)
-              (added.fit (λ a. length (labelled xs (λ b. eqb b a))) (λ a t l. h.walked.tallies_are.fit a t l) i d low);
+          fit = subst (λ n. fits n (get_or cs' i d).tally) (steps_at ∙ ap (λ ls. rims (class_loops ls k)) h.walked.loops_are)
+              (added.fit (λ a. rims (labelled xs (λ b. eqb b a))) (λ a t l. h.walked.tallies_are.fit a t l) i d low);
         }
 
       pub components_are : AreComponents value fits of_loop v cs'

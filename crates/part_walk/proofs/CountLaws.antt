@@ -1,5 +1,5 @@
 -- What a loop more adds to the numbers of loops.
-use Rattle.std.proofs.Common.{◌≡◌, ◌∙◌, ℕ, zero, suc, ◌+◌, ◌<◌, ℤ, pos, ◌+ℤ◌, Bool, cond, List, length, map, sym, ap, arith, ltb}
+use Rattle.std.proofs.Common.{◌≡◌, ◌∙◌, ℕ, zero, suc, ◌+◌, pos, ◌+ℤ◌, Bool, cond, List, length, sym, ap, arith, ltb}
 use Rattle.std.proofs.lemmas.Int.{ints}
 use Rattle.std.proofs.lemmas.List.{length-map}
 use Rattle.std.specs.List.{count_by}

@@ -1,7 +1,7 @@
 -- The numbers of a part, by what is counted of its loops.
-use Rattle.std.proofs.Common.{◌≡◌, ◌∙◌, ℕ, ◌+◌, ◌*◌, ◌/◌, ◌<◌, ◌≤◌, ℤ, pos, ◌+ℤ◌, ◌-ℤ◌, Bool, true, false, cond, List, [], ◌∷◌, length, refl, ap, arith}
+use Rattle.std.proofs.Common.{◌≡◌, ◌∙◌, ℕ, ◌+◌, ◌*◌, ◌/◌, ◌<◌, ◌≤◌, pos, ◌+ℤ◌, ◌-ℤ◌, Bool, true, false, cond, List, [], ◌∷◌, length, refl, ap, arith}
 use Rattle.std.proofs.lemmas.Int.{ints}
-use Rattle.std.proofs.lemmas.List.Sums.{count_by-le-length, sum_by-cons, sum_by-le-sum_by}
+use Rattle.std.proofs.lemmas.List.Sums.{sum_by-cons}
 use Rattle.std.specs.List.{count_by, sum_by}
 use Rattle.iso_defs.specs.Lists.{around}
 use Rattle.iso_defs.specs.Scratch.{has_centre}
@@ -15,7 +15,6 @@ use Rattle.flat_mesh.specs.Lattice.{Leveled}
 use Rattle.part_laws.specs.Loops.{Loop, centres, faces, rims, rims_where, spokes}
 use Rattle.part_laws.specs.Parts.{part_by}
 use Rattle.part_laws.proofs.Counted.{sides_round}
-use Rattle.part_laws.proofs.Rounds.{length_around}
 use Rattle.part_walk.specs.Counts.{AreFew, counted, number, part_with}
 use Rattle.part_walk.specs.declared.tally.Counts.{Counts}
 
@@ -64,11 +63,6 @@ module _ (v : Leveled) (ls : List Loop) (long : (l : Loop) → In l ls → 3 ≤
   rims_are : 3 * c.threes + c.spokes ≡ rims ls
   rims_are = omega (arith, faces_are, spokes_are, sides_round ls long)
 
-  border_in : rims_where (is_border v.grid) ls ≤ rims ls
-  border_in =
-      sum_by-le-sum_by (λ (l : Loop). count_by (λ (p : ℕ × ℕ). is_border v.grid p.0 p.1) (around l.1)) (λ (l : Loop). length l.1) ls
-      (λ l. omega (arith, count_by-le-length (λ (p : ℕ × ℕ). is_border v.grid p.0 p.1) (around l.1), length_around l.1))
-
   pub part_is : (least crossings : ℕ) → part_with least crossings c ≡ part_by (is_border v.grid) least crossings ls
   part_is least crossings =
       let steps : 3 * c.threes + c.spokes + c.border ≡ rims ls + rims_where (is_border v.grid) ls = omega (arith, rims_are, border_is) in
@@ -82,5 +76,4 @@ module _ (v : Leveled) (ls : List Loop) (long : (l : Loop) → In l ls → 3 ≤
   few_are crossings vertices triangles = record {
     vertices = omega (arith, vertices, centres_are);
     faces = omega (arith, triangles, faces_are);
-    border = omega (arith, triangles, faces_are, rims_are, border_in, border_is);
   }

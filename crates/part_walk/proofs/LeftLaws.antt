@@ -16,7 +16,6 @@ use Rattle.loop_labels.specs.Labelling.{Known}
 use Rattle.part_laws.proofs.Counted.{range_join}
 use Rattle.part_walk.specs.declared.passed.Passed.{Passed}
 use Rattle.part_walk.specs.Passed.{AreEdges, CanLeave, HasLeft, IsLeft, Leaving, edges_before, row_end}
-use Rattle.part_walk.proofs.PassedLaws.{edges_more}
 
 below_next : (n : ℕ) → below (n + 1) ≡ below n ++ n ∷ []
 below_next n = range_join 0 n 1 ∙ ap (λ k. range_with_len 0 n ++ k ∷ []) (let e : 0 + n ≡ n = omega arith in e)

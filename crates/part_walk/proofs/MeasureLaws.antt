@@ -1,6 +1,6 @@
 -- The shares of the components are the measures of the mesh.
-use Rattle.std.proofs.Common.{◌≡◌, ℕ, suc, ◌*◌, ◌<◌, ◌≤◌, ◌^◌, ℤ, Bool, true, false, cond, is_some, List, [], ◌∷◌, map, length, get_or, refl, sym, ◌∙◌, ap, ap₂, arith, unsigned_abs, All}
-use Rattle.std.specs.List.{count_by, filter}
+use Rattle.std.proofs.Common.{◌≡◌, ℕ, suc, ◌*◌, ◌<◌, ◌≤◌, ◌^◌, ℤ, Bool, cond, is_some, List, [], ◌∷◌, map, length, get_or, refl, sym, ◌∙◌, ap, ap₂, arith, unsigned_abs, All}
+use Rattle.std.specs.List.{count_by}
 use Rattle.iso_base.specs.Sizing.{IsGrid}
 use Rattle.iso_base.specs.Volume.{Volume}
 use Rattle.iso_defs.specs.Grid.{point_count}
@@ -16,7 +16,7 @@ use Rattle.measure.specs.declared.share.Share.{Share}
 use Rattle.measure.specs.Positions.{coordinates, vector_of}
 use Rattle.mesh_measures.specs.Printed.{measures_at, position_in}
 use Rattle.part_laws.specs.Classes.{is_of_class}
-use Rattle.part_laws.specs.Loops.{Loop, mesh_loops, rims_where}
+use Rattle.part_laws.specs.Loops.{Loop, mesh_loops, rims, rims_where}
 use Rattle.part_laws.specs.Parts.{class_loops, classes}
 use Rattle.part_laws.specs.Swept.{area_round, share_round}
 use Rattle.part_laws.proofs.MeshParts.{measures_are}
@@ -27,6 +27,7 @@ use Rattle.part_walk.specs.Walks.{loops_before}
 use Rattle.part_walk.specs.declared.components.Component.{Component}
 use Rattle.part_walk.specs.declared.sweep.Swept.{Swept}
 use Rattle.part_walk.proofs.CellLaws.{few_before}
+use Rattle.part_walk.proofs.MeshCounts.{sum_fewer}
 use Rattle.part_walk.proofs.MovedLaws.{area_placed, sixes_placed, total_natural}
 use Rattle.part_walk.proofs.PlaceLaws.{placed}
 
@@ -39,17 +40,9 @@ maps_agree f h (x ∷ xs) (k ∷ ks) e g =
     ap₂ (λ y ys. y ∷ ys) (g 0 x (omega arith)) (maps_agree f h xs ks (omega (arith, e)) (λ i d l. g (suc i) d (omega (arith, l))))
 
 module _ (v : Leveled) where
-  few_loops : IsGrid v.grid → length (loops_of v) < 2 ^ 31
+  few_steps : IsGrid v.grid → rims (loops_of v) < 2 ^ 31
   unfolding loops_before
-  few_loops is = (let l : length (loops_before v (point_count v.grid)) ≤ 12 * point_count v.grid = few_before v (point_count v.grid) in omega (arith, l, is.count))
-
-  filter_few : (p : Loop → Bool) (ls : List Loop) → length (filter p ls) ≤ length ls
-  filter_few p [] = omega arith
-  filter_few p (l ∷ ls) = go (p l) (filter_few p ls)
-    where
-      go : (b : Bool) → length (filter p ls) ≤ length ls → length (cond b (l ∷ filter p ls) (filter p ls)) ≤ length (l ∷ ls)
-      go true h = omega (arith, h)
-      go false h = omega (arith, h)
+  few_steps is = (let l : rims (loops_before v (point_count v.grid)) ≤ 12 * point_count v.grid = few_before v (point_count v.grid) in omega (arith, l, is.count))
 
   module _ (k : ℕ) (c : Component Swept) (is : IsComponent measure_at AreSmall measured_of v k c) where
     abbrev ours : List Loop
@@ -77,8 +70,8 @@ module _ (v : Leveled) where
 
     component_moves : IsGrid v.grid → CanMove c
     component_moves grid =
-        let n : ℕ = length ours in
-        let few : n < 2 ^ 31 = (let l : n ≤ length (loops_of v) = filter_few (is_of_class (loops_of v) k) (loops_of v) in omega (arith, l, few_loops grid)) in
+        let n : ℕ = rims ours in
+        let few : n < 2 ^ 31 = (let l : n ≤ rims (loops_of v) = sum_fewer (λ (l : Loop). length l.1) (is_of_class (loops_of v) k) (loops_of v) in omega (arith, l, few_steps grid)) in
         let small : AreSmall n c.tally = is.fit in
         let six = small.six in
         let x = small.x in

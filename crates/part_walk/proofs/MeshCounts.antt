@@ -1,5 +1,5 @@
 -- What is counted of the loops of a mesh and of its components.
-use Rattle.std.proofs.Common.{◌≡◌, ◌∙◌, ℕ, zero, suc, ◌+◌, ◌*◌, ◌<◌, ◌≤◌, ℤ, ◌+ℤ◌, Bool, true, false, cond, List, [], ◌∷◌, map, length, get_or, All, refl, sym, ap, ap₂, inl, inr, arith, eqb}
+use Rattle.std.proofs.Common.{◌≡◌, ◌∙◌, ℕ, zero, suc, ◌+◌, ◌*◌, ◌<◌, ◌≤◌, ℤ, ◌+ℤ◌, Bool, true, false, cond, List, [], ◌∷◌, map, length, get_or, All, refl, sym, ap, ap₂, subst, arith, eqb}
 use Rattle.std.proofs.lemmas.List.{get_or-map, length-map, same_lists}
 use Rattle.std.proofs.lemmas.List.FromFn.{length-range_with_len}
 use Rattle.std.proofs.lemmas.List.Sums.{count_by-le-length, length-filter, sum_by-cons}
@@ -24,7 +24,6 @@ use Rattle.flat_mesh.specs.Lattice.{Leveled, heights}
 use Rattle.mesh_report.specs.Report.{Summary, components, part_of, total_of, used}
 use Rattle.mesh_report.specs.declared.part.Part.{Part}
 use Rattle.mesh_report.proofs.NumberLaws.{filter_all}
-use Rattle.mesh_report.proofs.Sums.{sum_agree}
 use Rattle.measure.proofs.PlaceLaws.{in_place}
 use Rattle.measure_laws.specs.Totals.{total}
 use Rattle.loop_labels.specs.Fronts.{row_name}
@@ -33,14 +32,16 @@ use Rattle.part_laws.specs.Classes.{class_of, is_of_class}
 use Rattle.part_laws.specs.Labels.{labelled, unlabelled}
 use Rattle.part_laws.specs.Loops.{Loop, centres, faces}
 use Rattle.part_laws.specs.Parts.{class_loops, class_part, classes, part_by}
-use Rattle.part_laws.proofs.LabelSums.{loop_sums, loop_totals}
+use Rattle.part_laws.proofs.LabelSums.{loop_totals}
 use Rattle.part_laws.proofs.MeshParts.{named_long, summary_is}
 use Rattle.part_laws.proofs.Numbered.{crossing_known}
 use Rattle.part_walk.specs.Components.{AreComponents, IsWhole, edges_of, loops_of}
 use Rattle.part_walk.specs.Counts.{AreFew, counted, fit, number, part_with}
+use Rattle.part_walk.specs.Sums.{FitEach}
 use Rattle.part_walk.specs.declared.components.Component.{Component}
 use Rattle.part_walk.specs.declared.passed.Passed.{Passed}
 use Rattle.part_walk.specs.declared.tally.Counts.{Counts}
+use Rattle.part_walk.proofs.ComponentLaws.{steps_few}
 use Rattle.part_walk.proofs.CountedParts.{few_are, part_is}
 
 -- the sum of what is said of places is the sum of what is said of elements
@@ -51,10 +52,6 @@ total_placed f g at (x ∷ xs) h =
     (h 0 x (omega arith) ∙ ap g (let e : at + 0 ≡ at = omega arith in e))
     (total_placed f g (at + 1) xs (λ k d l. h (suc k) d (omega (arith, l)) ∙ ap g (let e : at + suc k ≡ at + 1 + k = omega arith in e)))
 
-count_all : {A : Type 0} (xs : List A) → length xs ≡ sum_by (λ x. 1) xs
-count_all [] = refl
-count_all (x ∷ xs) = omega (arith, sum_by-cons (λ y. 1) x xs, count_all xs)
-
 count_fewer : {A : Type 0} (p q : A → Bool) (xs : List A) → count_by p (filter q xs) ≤ count_by p xs
 count_fewer p q [] = omega arith
 count_fewer p q (x ∷ xs) = go (q x) (count_fewer p q xs)
@@ -63,7 +60,7 @@ count_fewer p q (x ∷ xs) = go (q x) (count_fewer p q xs)
     go true h = omega (arith, h, count-cons p x (filter q xs), count-cons p x xs)
     go false h = omega (arith, h, count-cons p x xs)
 
-sum_fewer : {A : Type 0} (f : A → ℕ) (q : A → Bool) (xs : List A) → sum_by f (filter q xs) ≤ sum_by f xs
+pub sum_fewer : {A : Type 0} (f : A → ℕ) (q : A → Bool) (xs : List A) → sum_by f (filter q xs) ≤ sum_by f xs
 sum_fewer f q [] = omega arith
 sum_fewer f q (x ∷ xs) = go (q x) (sum_fewer f q xs)
   where
@@ -78,16 +75,6 @@ ascends (x ∷ xs) zero zero a l m = absurd (omega (arith, l))
 ascends (x ∷ xs) zero (suc j) a l m = a.0 (get_or xs j 0) (in_place xs j 0 (omega (arith, m)))
 ascends (x ∷ xs) (suc i) zero a l m = absurd (omega (arith, l))
 ascends (x ∷ xs) (suc i) (suc j) a l m = ascends xs i j a.1 (omega (arith, l)) (omega (arith, m))
-
--- a loop has a triangle
-loops_few : (ls : List Loop) → ((l : Loop) → In l ls → 3 ≤ length l.1) → length ls ≤ faces ls
-loops_few [] h = omega arith
-loops_few (l ∷ ls) h =
-    omega (arith, sum_by-cons (λ (l : Loop). cond (has_centre l) (length l.1) 1) l ls, one (has_centre l) (length l.1) (h l (inl refl)), loops_few ls (λ k i. h k (inr i)))
-  where
-    one : (b : Bool) (n : ℕ) → 3 ≤ n → 1 ≤ cond b n 1
-    one true n m = omega (arith, m)
-    one false n m = omega arith
 
 module _ (v : Leveled) (grid : IsGrid v.grid) where
   thick : IsThick v.grid
@@ -116,9 +103,6 @@ module _ (v : Leveled) (grid : IsGrid v.grid) where
 
   long : (l : Loop) → In l (loops_of v) → 3 ≤ length l.1
   long l i = named_long v.grid (heights v) l i
-
-  few_loops : length (loops_of v) ≤ 1920000000
-  few_loops = omega (arith, loops_few (loops_of v) long, few_faces)
 
   -- the whole
   module _ (c : Counts) (h : (i : ℕ) → number c i ≡ total (counted v i) (loops_of v)) (crossings : ℕ) (all : crossings ≡ length (edges_of v)) where
@@ -198,21 +182,10 @@ module _ (v : Leveled) (grid : IsGrid v.grid) where
     pub added_is : (ts : List T) → ts ≡ tallies → (t : T) → ((i : ℕ) → value t i ≡ total (λ u. value u i) ts) → (i : ℕ) → value t i ≡ total (of_loop v i) (loops_of v)
     added_is ts same t sums i = sums i ∙ (ap (total (λ u. value u i)) same ∙ tallies_add i)
 
-    abbrev pub labelled_count : ℕ → ℕ
-    labelled_count a = length (labelled h.walked.xs (λ b. eqb b a))
-
-    pub tallies_few : sum_by labelled_count (below (length tallies)) < 1099511627776
-    tallies_few =
-        let sums : sum_by (λ l. 1) (labelled h.walked.xs (λ a. true)) ≡ sum_by (λ a. sum_by (λ l. 1) (labelled h.walked.xs (λ b. eqb b a))) (below labels.count)
-        = loop_sums h.walked.xs labels.count h.walked.labelled_are.low (λ a. true) (λ l. 1) in
-        let each : sum_by labelled_count (below labels.count) ≡ sum_by (λ a. sum_by (λ l. 1) (labelled h.walked.xs (λ b. eqb b a))) (below labels.count)
-        = sum_agree labelled_count (λ a. sum_by (λ l. 1) (labelled h.walked.xs (λ b. eqb b a))) (below labels.count) (λ a i. count_all (labelled h.walked.xs (λ b. eqb b a))) in
-        let here : sum_by labelled_count (below (length tallies)) ≡ sum_by labelled_count (below labels.count) = ap (λ n. sum_by labelled_count (below n)) size in
-        let whole : sum_by (λ l. 1) (labelled h.walked.xs (λ a. true)) ≡ length (loops_of v) = sym (count_all (labelled h.walked.xs (λ a. true))) ∙ ap length all_labelled in
-        omega (arith, here, each, sums, whole, few_loops)
-
-    pub tallies_fit : (a : ℕ) (d : T) → a < length tallies → fits (labelled_count a) (get_or tallies a d)
-    tallies_fit a d l = h.walked.tallies_are.fit a d (omega (arith, l, size))
+    pub tallies_fit : (n : ℕ → ℕ) × (sum_by n (below (length tallies)) < 2147483648) × FitEach fits n tallies
+    tallies_fit =
+        let few = steps_few value fits of_loop v labels tallies edges h grid in
+        (few.of, subst (λ n. sum_by few.of (below n) < 2147483648) (sym size) few.few, record { each = λ a d l. few.fit a d (omega (arith, l, size)) })
 
     pub crossings_are : edges.count ≡ length (edges_of v)
     unfolding rank

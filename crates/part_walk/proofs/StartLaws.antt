@@ -1,5 +1,5 @@
 -- Before the walk no loop has a label.
-use Rattle.std.proofs.Common.{◌≡◌, ℕ, ◌+◌, ◌*◌, ◌%◌, ◌<◌, ◌≤◌, ℤ, Bool, true, false, List, [], length, get_or, refl, sym, ◌∙◌, ap, subst, arith}
+use Rattle.std.proofs.Common.{◌≡◌, ℕ, ◌*◌, ◌%◌, ◌<◌, ℤ, List, [], length, get_or, refl, sym, ◌∙◌, ap, subst, arith}
 use Rattle.std.proofs.lemmas.Bool.{false≢true}
 use Rattle.std.proofs.Math.Nat.{mod-lt}
 use Rattle.crossing_edges.specs.Flags.{rank}
@@ -7,7 +7,6 @@ use Rattle.flat_mesh.specs.Lattice.{Leveled, heights}
 use Rattle.label_joins.specs.Chains.{ArePaired}
 use Rattle.loop_labels.specs.Fronts.{none, room, row_name}
 use Rattle.loop_labels.specs.Labelling.{Known}
-use Rattle.loop_labels.specs.Walked.{IsLabelled}
 use Rattle.part_laws.specs.Loops.{Loop}
 use Rattle.part_laws.specs.Meets.{IsLabelling}
 use Rattle.part_laws.proofs.LabelLaws.{none_labelled}

@@ -3,7 +3,8 @@ use Rattle.std.proofs.Common.{◌≡◌, ◌≢◌, ℕ, zero, suc, ◌+◌, ◌
 use Rattle.std.specs.List.{AllByRecursion, filter}
 use Rattle.std.proofs.lemmas.Bool.{cases_Bool, cases_eq, cases_lt, eq-eqb, ne_eqb, eqb-true}
 use Rattle.std.proofs.lemmas.Int.{ints}
-use Rattle.std.proofs.lemmas.List.{get_or-map, get_or-set_other, get_or-set_same, length-append, length-map, length-set}
+use Rattle.std.proofs.lemmas.List.{get_or-map, get_or-set_other, get_or-set_same, length-map, length-set}
+use Rattle.std.proofs.lemmas.List.Sums.{sum_by-cons, sum_by_push}
 use Rattle.std.proofs.Math.Nat.{mod-lt, mul-le-mul_left}
 use Rattle.iso_defs.specs.Cell.{cell_edge, edge_corner}
 use Rattle.iso_defs.specs.Grid.{Grid}
@@ -28,7 +29,7 @@ use Rattle.loop_labels.specs.Labelling.{IsAdded, Known}
 use Rattle.loop_labels.proofs.AddedLaws.{loop_labelled}
 use Rattle.part_laws.specs.ByLabels.{firsts}
 use Rattle.part_laws.specs.Labels.{labelled, unlabelled}
-use Rattle.part_laws.specs.Loops.{Loop}
+use Rattle.part_laws.specs.Loops.{Loop, rims}
 use Rattle.part_laws.specs.Meets.{relabelled}
 use Rattle.part_walk.specs.Passed.{AreEdges, edges_before}
 use Rattle.part_walk.specs.Sums.{IsLoopIn}
@@ -134,14 +135,14 @@ module _ {T : Type 0} (value : T → ℕ → ℤ) (fits : ℕ → T → Type 0) 
         ];
     fit = λ a d l.
         elim (cases_lt a n) [
-          | inl k ↦ subst (fits (length (labelled xs (λ b. eqb b a)))) (sym (old a d k)) (h.fit a d k)
-          | inr k ↦ subst (λ m. fits m (get_or ts' a d)) (sym (ap length (none_labelled n a xs low k))) (small a d k l)
+          | inl k ↦ subst (fits (rims (labelled xs (λ b. eqb b a)))) (sym (old a d k)) (h.fit a d k)
+          | inr k ↦ subst (λ m. fits m (get_or ts' a d)) (sym (ap rims (none_labelled n a xs low k))) (small a d k l)
         ];
   }
 
   -- a loop more has one of the labels
   pub tallies_more : (n a : ℕ) (l : Loop) (ts : List T) (t : T) → AreTallies value fits of xs n ts → a < n → ((d : T) (i : ℕ) → value t i ≡ value (get_or ts a d) i +ℤ of i l)
-      → ((d : T) (m : ℕ) → fits m (get_or ts a d) → fits (m + 1) t) → AreTallies value fits of (xs ++ (a, l) ∷ []) n (set ts a t)
+      → ((d : T) (m : ℕ) → fits m (get_or ts a d) → fits (m + length l.1) t) → AreTallies value fits of (xs ++ (a, l) ∷ []) n (set ts a t)
   tallies_more n a l ts t h inside added small = record {
     size = length-set ts a t ∙ h.size;
     values = λ b d i low.
@@ -159,12 +160,12 @@ module _ {T : Type 0} (value : T → ℕ → ℤ) (fits : ℕ → T → Type 0) 
         elim (cases_eq b a) [
           | inl q ↦ (
               let new : get_or (set ts a t) b d ≡ t = subst (λ z. get_or (set ts a t) z d ≡ t) (sym q) (get_or-set_same ts a t d (omega (arith, inside, h.size))) in
-              let count : length (labelled (xs ++ (a, l) ∷ []) (λ c. eqb c b)) ≡ length (labelled xs (λ c. eqb c a)) + 1
-              = ap length (ap (λ z. labelled (xs ++ (a, l) ∷ []) (λ c. eqb c z)) q ∙ here) ∙ length-append (labelled xs (λ c. eqb c a)) (l ∷ []) in
-              subst (λ m. fits m (get_or (set ts a t) b d)) (sym count) (subst (fits (length (labelled xs (λ c. eqb c a)) + 1)) (sym new) (small d (length (labelled xs (λ c. eqb c a))) (h.fit a d inside))))
+              let count : rims (labelled (xs ++ (a, l) ∷ []) (λ c. eqb c b)) ≡ rims (labelled xs (λ c. eqb c a)) + length l.1
+              = ap rims (ap (λ z. labelled (xs ++ (a, l) ∷ []) (λ c. eqb c z)) q ∙ here) ∙ sum_by_push (λ (k : Loop). length k.1) (labelled xs (λ c. eqb c a)) l in
+              subst (λ m. fits m (get_or (set ts a t) b d)) (sym count) (subst (fits (rims (labelled xs (λ c. eqb c a)) + length l.1)) (sym new) (small d (rims (labelled xs (λ c. eqb c a))) (h.fit a d inside))))
           | inr d' ↦ (
               let same : get_or (set ts a t) b d ≡ get_or ts b d = get_or-set_other ts a b t d d' in
-              subst (λ ks. fits (length ks) (get_or (set ts a t) b d)) (sym (there b d')) (subst (fits (length (labelled xs (λ c. eqb c b)))) (sym same) (h.fit b d low)))
+              subst (λ ks. fits (rims ks) (get_or (set ts a t) b d)) (sym (there b d')) (subst (fits (rims (labelled xs (λ c. eqb c b)))) (sym same) (h.fit b d low)))
         ];
   }
     where
@@ -184,23 +185,27 @@ tallies_known value fits of_loop v row loops old new ts ts' edges edges' h longe
     tallies_grow value fits (of_loop v) h.xs old.count new.count ts ts' h.tallies_are h.labelled_are.low longer.size (λ b d low. longer.same b d (omega (arith, low, h.tallies_are.size)))
     (λ b d i le low. longer.values b d i (omega (arith, le, h.tallies_are.size)) low) (λ b d le low. longer.fit b d (omega (arith, le, h.tallies_are.size)) low)
 
--- the loops of a label are no more than all
-pub labelled_few : (xs : List (ℕ × Loop)) (p : ℕ → Bool) → length (labelled xs p) ≤ length (unlabelled xs)
+-- the steps round the loops of a label are no more than all
+pub labelled_few : (xs : List (ℕ × Loop)) (p : ℕ → Bool) → rims (labelled xs p) ≤ rims (unlabelled xs)
 labelled_few [] p = omega arith
 labelled_few (x ∷ xs) p = go (p x.0) (labelled_few xs p)
   where
-    go : (b : Bool) → length (labelled xs p) ≤ length (unlabelled xs)
-        → length (map (λ (x : ℕ × Loop). x.1) (cond b (x ∷ filter (λ (x : ℕ × Loop). p x.0) xs) (filter (λ (x : ℕ × Loop). p x.0) xs))) ≤ suc (length (unlabelled xs))
-    go true h = omega (arith, h)
-    go false h = omega (arith, h)
+    steps : Loop → ℕ
+    steps l = length l.1
+
+    go : (b : Bool) → rims (labelled xs p) ≤ rims (unlabelled xs)
+        → rims (map (λ (x : ℕ × Loop). x.1) (cond b (x ∷ filter (λ (x : ℕ × Loop). p x.0) xs) (filter (λ (x : ℕ × Loop). p x.0) xs))) ≤ rims (unlabelled (x ∷ xs))
+    go true h = omega (arith, h, sum_by-cons steps x.1 (labelled xs p), sum_by-cons steps x.1 (unlabelled xs))
+    go false h = omega (arith, h, sum_by-cons steps x.1 (unlabelled xs))
 
 -- so what was added up is small
 pub room_for : {T : Type 0} (value : T → ℕ → ℤ) (fits : ℕ → T → Type 0) (of_loop : Leveled → ℕ → Loop → ℤ) (v : Leveled) (row : ℕ) (old new : Known) (ts ts' : List T) (edges edges' : Passed) (a : ℕ) (d : T)
-    → CanAdd value fits of_loop v row old ts edges → IsLonger value fits (length ts) new.count ts ts' edges.crossings.items edges'.crossings.items → a < new.count → (n : ℕ) × (n < 1099511627776) × fits n (get_or ts' a d)
-room_for value fits of_loop v row old new ts ts' edges edges' a d c longer low =
+    → CanAdd value fits of_loop v row old ts edges → IsLonger value fits (length ts) new.count ts ts' edges.crossings.items edges'.crossings.items → a < new.count
+    → (size : ℕ) → size ≤ 12 → (n : ℕ) × (n + size < 2147483648) × fits n (get_or ts' a d)
+room_for value fits of_loop v row old new ts ts' edges edges' a d c longer low size most =
     let h = c.walked in
-    let n : ℕ = length (labelled h.xs (λ b. eqb b a)) in
-    (n, omega (arith, labelled_few h.xs (λ b. eqb b a), ap (λ (ls : List Loop). length ls) h.loops_are, c.few), (tallies_known value fits of_loop v row c.loops old new ts ts' edges edges' h longer).fit a d low)
+    let n : ℕ = rims (labelled h.xs (λ b. eqb b a)) in
+    (n, omega (arith, labelled_few h.xs (λ b. eqb b a), ap rims h.loops_are, c.few, most), (tallies_known value fits of_loop v row c.loops old new ts ts' edges edges' h longer).fit a d low)
 
 -- a place among the labels of two slices
 pub place_low : (g : Grid) (n : ℕ) → IsGrid g → (n % room g < room g) × (room g < 4294967296)
@@ -266,7 +271,7 @@ module _ (v : Leveled) (cell : Cell) (at : IsCellAt v.grid cell) (es : List ℕ)
       → IsWalked value fits of_loop v line loops old ts edges → ArePlaces v.grid line places → IsAdded old new (slot_of places (3 * cell.low.x) es) (length es) a
       → new.count < none → ArePaired new.count new.pairs
       → IsLonger value fits (length ts) new.count ts ts' edges.crossings.items edges'.crossings.items → edges'.order.items ≡ edges.order.items → edges'.count ≡ edges.count
-      → ((d : T) (i : ℕ) → value t i ≡ value (get_or ts' a d) i +ℤ of_loop v i l) → ((d : T) (m : ℕ) → fits m (get_or ts' a d) → fits (m + 1) t)
+      → ((d : T) (i : ℕ) → value t i ≡ value (get_or ts' a d) i +ℤ of_loop v i l) → ((d : T) (m : ℕ) → fits m (get_or ts' a d) → fits (m + length es) t)
       → IsWalked value fits of_loop v line (loops ++ l ∷ []) new (set ts' a t) edges'
   walked_more value fits of_loop loops old new ts ts' t edges edges' places a h put added few paired longer order count more small = record {
     xs = h.xs ++ (a, l) ∷ [];
@@ -277,7 +282,7 @@ module _ (v : Leveled) (cell : Cell) (at : IsCellAt v.grid cell) (es : List ℕ)
     size = longer.edge_size;
     tallies_are = tallies_more value fits (of_loop v) h.xs new.count a l ts' t
         (tallies_known value fits of_loop v line loops old new ts ts' edges edges' h longer)
-        added.low more small;
+        added.low more (λ d m f. subst (λ n. fits (m + n) t) loop_count (small d m f));
     edges_are = subst (λ o. AreEdges (relabelled h.label a l) (rank v.grid (heights v)) (edges_before v (row_name v.grid line)) edges'.crossings.items o) (sym order)
         (edges_grow v (row_name v.grid line) h.label (relabelled h.label a l) (rank v.grid (heights v)) edges.crossings.items edges'.crossings.items edges.order.items h.edges_are (label_stays h.label a)
         (omega (arith, longer.edge_size, h.size, added.count)) (λ b low. longer.same_edges b (omega (arith, low, h.size, h.tallies_are.size)))

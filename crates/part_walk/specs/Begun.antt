@@ -33,8 +33,8 @@ pub record AreAdded {T : Type 0} (value : T → ℕ → ℤ) (fits : ℕ → T �
   pub fit : (of : ℕ → ℕ) → ((a : ℕ) (t : T) → a < n → fits (of a) (slice_index_or tallies a t)) → (i : ℕ) (d : Component T) → i < length cs →
       fits (sum_by (λ a. if place a == i then of a else 0) (below n)) (slice_index_or cs' i d).tally
 
--- the tallies of n labels are those of few loops
+-- the tallies of n labels are those of loops with few steps
 pub record AreFew {T : Type 0} (fits : ℕ → T → Type 0) (n : ℕ) (tallies : List T) : Type 0 where
   pub of : ℕ → ℕ
-  pub few : sum_by of (below n) < 1099511627776
+  pub few : sum_by of (below n) < 2147483648
   pub fit : (a : ℕ) (t : T) → a < n → fits (of a) (slice_index_or tallies a t)

@@ -1,14 +1,13 @@
 -- The components of a mesh, and what is added up of their loops.
 use Rattle.std.specs.Prelude.{◌≡◌, ℕ, ◌*◌, ◌<◌, ◌==◌, ℤ, List, length, slice_index_or}
 use Rattle.std.specs.List.{count_by}
-use Rattle.iso_defs.specs.Grid.{Grid}
 use Rattle.iso_defs.specs.Outside.{IsThick}
 use Rattle.iso_defs.specs.Scratch.{crossing_edges, number_of}
 use Rattle.flat_mesh.specs.Lattice.{Leveled, heights}
 use Rattle.loop_labels.specs.Labelling.{Known}
 use Rattle.measure_laws.specs.Totals.{total}
 use Rattle.part_laws.specs.Classes.{class_of}
-use Rattle.part_laws.specs.Loops.{Loop, mesh_loops}
+use Rattle.part_laws.specs.Loops.{Loop, mesh_loops, rims}
 use Rattle.part_laws.specs.Parts.{class_loops, classes}
 use Rattle.part_walk.specs.Walks.{IsWalked}
 use Rattle.part_walk.specs.declared.passed.Passed.{Passed}
@@ -32,7 +31,7 @@ pub record IsComponent {T : Type 0} (value : T → ℕ → ℤ) (fits : ℕ → 
   pub least : c.least ≡ number_of v.grid (heights v) k
   pub crossings : c.crossings ≡ count_by (λ e. class_of (loops_of v) e == k) (edges_of v)
   pub values : (i : ℕ) → value c.tally i ≡ total (of_loop v i) (class_loops (loops_of v) k)
-  pub fit : fits (length (class_loops (loops_of v) k)) c.tally
+  pub fit : fits (rims (class_loops (loops_of v) k)) c.tally
 
 -- those of all classes, in order
 pub record AreComponents {T : Type 0} (value : T → ℕ → ℤ) (fits : ℕ → T → Type 0) (of_loop : Leveled → ℕ → Loop → ℤ) (v : Leveled) (cs : List (Component T)) : Type 0 where

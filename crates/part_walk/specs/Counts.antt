@@ -25,12 +25,12 @@ counted v (suc (suc zero)) l = pos (if has_centre l then length l.1 else 0)
 counted v (suc (suc (suc zero))) l = pos (count_by (λ (p : ℕ × ℕ). is_border v.grid p.0 p.1) (around l.1))
 counted v (suc (suc (suc (suc _)))) l = pos 0
 
--- loops have at most twelve vertices
+-- none is more than the steps round the loops
 pub record fit (n : ℕ) (c : Counts) : Type 0 where
   pub threes : c.threes ≤ n
   pub centres : c.centres ≤ n
-  pub spokes : c.spokes ≤ 12 * n
-  pub border : c.border ≤ 12 * n
+  pub spokes : c.spokes ≤ n
+  pub border : c.border ≤ n
 
 -- a part's numbers, by its crossing edges and what is counted of its loops: off the border two steps are one edge
 abbrev pub part_with : ℕ → ℕ → Counts → Part
@@ -47,4 +47,3 @@ part_with least crossings c = record {
 pub record AreFew (crossings : ℕ) (c : Counts) : Type 0 where
   pub vertices : crossings + c.centres < 4294967296
   pub faces : c.threes + c.spokes < 4294967296
-  pub border : c.border < 12 * 4294967296

@@ -1,7 +1,6 @@
 -- The crossing edges that were left behind, by their labels.
 use Rattle.std.specs.Prelude.{◌≡◌, ℕ, ◌+◌, ◌*◌, ◌%◌, ◌<◌, ◌≤◌, ◌==◌, not, List, length, map, slice_index}
 use Rattle.std.specs.List.{AllByRecursion, count_by, filter}
-use Rattle.iso_defs.specs.Grid.{Grid}
 use Rattle.iso_defs.specs.Lists.{below}
 use Rattle.iso_defs.specs.Signs.{is_crossing}
 use Rattle.crossing_edges.specs.Flags.{rank}

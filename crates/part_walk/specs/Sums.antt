@@ -1,5 +1,5 @@
 -- What is added up of loops.
-use Rattle.std.specs.Prelude.{◌≡◌, ℕ, ◌+◌, ◌-◌, ◌*◌, ◌/◌, ◌<◌, ◌==◌, ◌&&◌, ◌||◌, ℤ, pos, Bool, not, List, map, length, slice_index_or, []}
+use Rattle.std.specs.Prelude.{◌≡◌, ℕ, ◌+◌, ◌-◌, ◌/◌, ◌<◌, ◌==◌, ◌&&◌, ◌||◌, ℤ, Bool, not, List, map, length, slice_index_or, []}
 use Rattle.std.specs.List.{count_by}
 use Rattle.iso_defs.specs.Cell.{cell_edge, edge_corner}
 use Rattle.iso_defs.specs.Grid.{Grid}
@@ -42,6 +42,6 @@ pub record IsOneLoop (v : Leveled) (q : ℕ) (edges : List ℕ) : Type 0 where
 pub record AreTotals (values : ℕ → ℤ) (of_loop : ℕ → Loop → ℤ) (ls : List Loop) : Type 0 where
   pub each : (i : ℕ) → values i ≡ total (of_loop i) ls
 
--- each fits as many loops as n says
+-- each fits as many steps round loops as n says
 pub record FitEach {T : Type 0} (fits : ℕ → T → Type 0) (n : ℕ → ℕ) (ts : List T) : Type 0 where
   pub each : (a : ℕ) (d : T) → a < length ts → fits (n a) (slice_index_or ts a d)

@@ -1,5 +1,5 @@
 -- What is measured of loops.
-use Rattle.std.specs.Prelude.{ℕ, zero, suc, ◌+◌, ◌-◌, ◌*◌, ◌/◌, ◌%◌, ◌^◌, ◌≤◌, ℤ, pos, List, [], map, nat_lt, slice_index_or, unsigned_abs, if◌then◌else◌}
+use Rattle.std.specs.Prelude.{ℕ, zero, suc, ◌-◌, ◌*◌, ◌/◌, ◌%◌, ◌^◌, ◌≤◌, ℤ, pos, [], map, nat_lt, slice_index_or, unsigned_abs, if◌then◌else◌}
 use Rattle.std.specs.List.{count_by}
 use Rattle.iso_defs.specs.Cell.{cell_edge}
 use Rattle.iso_defs.specs.Grid.{name_bound}
@@ -43,10 +43,10 @@ measured_of v (suc (suc (suc zero))) l = (swept (named_position v) l.1).2
 measured_of v (suc (suc (suc (suc zero)))) l = pos (count_by (λ (p : ℕ × ℕ). is_border v.grid p.0 p.1) (around l.1))
 measured_of v (suc (suc (suc (suc (suc _))))) l = pos 0
 
--- those of so many loops are small
+-- those of loops with so many steps are small
 pub record AreSmall (n : ℕ) (s : Swept) : Type 0 where
   pub six : unsigned_abs s.six ≤ 2 ^ 60 * n
   pub x : unsigned_abs (slice_index_or s.area 0 (pos 0)) ≤ 2 ^ 40 * n
   pub y : unsigned_abs (slice_index_or s.area 1 (pos 0)) ≤ 2 ^ 40 * n
   pub z : unsigned_abs (slice_index_or s.area 2 (pos 0)) ≤ 2 ^ 40 * n
-  pub border : s.border ≤ 12 * n
+  pub border : s.border ≤ n

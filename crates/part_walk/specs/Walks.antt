@@ -11,7 +11,7 @@ use Rattle.loop_labels.specs.Labelling.{Known}
 use Rattle.loop_labels.specs.Walked.{IsLabelled}
 use Rattle.measure_laws.specs.Totals.{total}
 use Rattle.part_laws.specs.Labels.{labelled, unlabelled}
-use Rattle.part_laws.specs.Loops.{Loop, loops_in}
+use Rattle.part_laws.specs.Loops.{Loop, loops_in, rims}
 use Rattle.part_walk.specs.Passed.{AreEdges, edges_before}
 use Rattle.part_walk.specs.declared.passed.Passed.{Passed}
 
@@ -19,7 +19,7 @@ use Rattle.part_walk.specs.declared.passed.Passed.{Passed}
 pub record AreTallies {T : Type 0} (value : T → ℕ → ℤ) (fits : ℕ → T → Type 0) (of_loop : ℕ → Loop → ℤ) (xs : List (ℕ × Loop)) (count : ℕ) (tallies : List T) : Type 0 where
   pub size : length tallies ≡ count
   pub values : (a : ℕ) (d : T) (i : ℕ) → a < count → value (slice_index_or tallies a d) i ≡ total (of_loop i) (labelled xs (λ b. b == a))
-  pub fit : (a : ℕ) (d : T) → a < count → fits (length (labelled xs (λ b. b == a))) (slice_index_or tallies a d)
+  pub fit : (a : ℕ) (d : T) → a < count → fits (rims (labelled xs (λ b. b == a))) (slice_index_or tallies a d)
 
 -- More labels are known, of which no loop and no edge has one: those from one number on to before another.
 pub record IsLonger {T : Type 0} (value : T → ℕ → ℤ) (fits : ℕ → T → Type 0) (old new : ℕ) (tallies tallies' : List T) (crossings crossings' : List ℕ) : Type 0 where
@@ -43,11 +43,11 @@ pub record IsWalked {T : Type 0} (value : T → ℕ → ℤ) (fits : ℕ → T �
   pub edges_are : AreEdges label (rank v.grid (heights v)) (edges_before v (row_name v.grid row)) edges.crossings.items edges.order.items
   pub passed : edges.count ≡ rank v.grid (heights v) (row_name v.grid row)
 
--- there are few of them
+-- they have few steps
 pub record CanAdd {T : Type 0} (value : T → ℕ → ℤ) (fits : ℕ → T → Type 0) (of_loop : Leveled → ℕ → Loop → ℤ) (v : Leveled) (row : ℕ)
     (labels : Known) (tallies : List T) (edges : Passed) : Type 0 where
   pub loops : List Loop
-  pub few : length loops < 2000000000
+  pub few : rims loops < 2000000000
   pub walked : IsWalked value fits of_loop v row loops labels tallies edges
 
 -- the loops of the cells before a point

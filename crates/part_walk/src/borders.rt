@@ -108,7 +108,7 @@ fn outer_steps(sizes: &Sizes, cell: Cell, edges: &[u8]) -> u32
     requires cell { IsCellAt sizes.now cell }
     requires edges { IsLoop edges.now }
     ensures value { result ≡ steps_on sizes.now cell.index edges.now }
-    ensures bound { result ≤ 12 }
+    ensures bound { result ≤ length edges.now }
 {
     let count = edges.len();
     let mut outer = 0;
@@ -124,7 +124,7 @@ pub fn border_steps(sizes: &Sizes, cell: Cell, edges: &[u8]) -> u32
     requires cell { IsCellAt sizes.now cell }
     requires edges { IsLoop edges.now }
     ensures value { result ≡ steps_on sizes.now cell.index edges.now }
-    ensures bound { result ≤ 12 }
+    ensures bound { result ≤ length edges.now }
 {
     if is_inside(sizes, cell) {
         return 0;

@@ -4,6 +4,7 @@ ghost use Rattle.std.specs.Prelude.{◌≡◌, ◌≢◌, ℕ, ◌+◌, ◌<◌,
 ghost use Rattle.std.specs.List.{sum_by};
 ghost use Rattle.iso_defs.specs.Lists.{below};
 ghost use Rattle.flat_mesh.specs.Lattice.{Leveled};
+ghost use Rattle.label_joins.specs.Walks.{IsLeast};
 ghost use Rattle.loop_labels.specs.Fronts.{none};
 ghost use Rattle.part_walk.specs.Begun.{AreAdded, AreBegun, AreFew, IsEmpty};
 ghost use Rattle.part_walk.specs.Components.{AreComponents, IsWhole};
@@ -12,7 +13,7 @@ use crate::tally::Tally;
 use crate::walked::Walked;
 use iso_base::Memory;
 use label_joins::least_joined;
-use loop_labels::NONE;
+use loop_labels::{Labels, NONE};
 use std::alloc::Global;
 
 /// The number of the smallest vertex of a component, how many crossing edges it has, and what is added up of its loops.
@@ -39,7 +40,7 @@ impl<T: Tally> Component<T> {
     /// With the crossing edges and the loops of a label.
     fn add(&mut self, crossings: u32, tally: &T)
         requires few { self.old.crossings + crossings < 2 ^ 32 }
-        requires room { (n m : ℕ) × (n + m < 2 ^ 40) × T.fits n self.old.tally × T.fits m tally.now }
+        requires room { (n m : ℕ) × (n + m < 2 ^ 31) × T.fits n self.old.tally × T.fits m tally.now }
         ensures least { self.new.least ≡ self.old.least }
         ensures crossings { self.new.crossings ≡ self.old.crossings + crossings }
         ensures values { (i : ℕ) → T.value self.new.tally i ≡ T.value self.old.tally i +ℤ T.value tally.now i }
@@ -90,7 +91,7 @@ fn add_all<T: Tally>(
     requires tallies { length tallies.now ≡ length joined.now }
     requires empty { (i : ℕ) (d : Component T) → i < length components.old → IsEmpty T.value T.fits (slice_index_or components.old i d) }
     requires few_edges { sum_by (slice_index crossings.now) (below (length joined.now)) < 2 ^ 32 }
-    requires few_loops { AreFew T.fits (length joined.now) tallies.now }
+    requires few_steps { AreFew T.fits (length joined.now) tallies.now }
     ensures { AreAdded T.value T.fits (λ a. slice_index places.now (slice_index joined.now a)) (length joined.now) crossings.now tallies.now components.old components.new }
 {
     for label in 0..joined.len() {
@@ -101,22 +102,34 @@ fn add_all<T: Tally>(
     }
 }
 
-/// The components in the order of their smallest vertices.
-pub fn components<T: Tally>(alloc: Global, walked: &Walked<T>) -> Result<Vec<Component<T>>, Memory>
-    requires whole { (v : Leveled) × IsWhole T.value T.fits T.of_loop v walked.now.labels walked.now.tallies.items walked.now.edges }
-    ensures { IfOk result (λ cs. (v : Leveled) → IsWhole T.value T.fits T.of_loop v walked.now.labels walked.now.tallies.items walked.now.edges → AreComponents T.value T.fits T.of_loop v cs.items) }
+/// The smallest label that is joined with each. All else that is known of labels is given up, so that its memory is free.
+fn joined_labels(alloc: Global, labels: Labels) -> Result<Vec<u32>, Memory>
+    ensures { IfOk result (λ least. IsLeast labels.count labels.pairs least.items) }
 {
+    let (count, pairs) = labels.into_pairs();
+    least_joined(alloc, count, &pairs)
+}
+
+/// The components in the order of their smallest vertices. What the walk left is given up, so that its memory is free.
+pub fn components<T: Tally>(alloc: Global, walked: Walked<T>) -> Result<Vec<Component<T>>, Memory>
+    requires whole { (v : Leveled) × IsWhole T.value T.fits T.of_loop v walked.labels walked.tallies.items walked.edges }
+    ensures { IfOk result (λ cs. (v : Leveled) → IsWhole T.value T.fits T.of_loop v walked.labels walked.tallies.items walked.edges → AreComponents T.value T.fits T.of_loop v cs.items) }
+{
+    let Walked {
+        labels,
+        tallies,
+        edges,
+    } = walked;
     // The sizes bound how many edges and loops there are.
-    let _ = walked.labels.sizes().nx();
-    let count = walked.labels.count();
-    let joined = least_joined(alloc, count, walked.labels.pairs())?;
-    let mut places = vec![in alloc; NONE; count as usize]?;
-    let mut components = begin_all(alloc, &walked.edges.order, &joined, places.as_mut_slice())?;
+    let _ = labels.sizes().nx();
+    let joined = joined_labels(alloc, labels)?;
+    let mut places = vec![in alloc; NONE; joined.len()]?;
+    let mut components = begin_all(alloc, &edges.order, &joined, places.as_mut_slice())?;
     add_all(
         &joined,
         &places,
-        &walked.edges.crossings,
-        &walked.tallies,
+        &edges.crossings,
+        &tallies,
         components.as_mut_slice(),
     );
     Ok(components)

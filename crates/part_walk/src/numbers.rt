@@ -28,16 +28,17 @@ fn part_of(least: u32, crossings: u32, counts: &Counts) -> Part
     requires { AreFew crossings counts.now }
     ensures { result ≡ part_with least crossings counts.now }
 {
-    let vertices = crossings + counts.centres as u32;
-    let rims = 3 * counts.threes + counts.spokes;
-    let edges = (rims + counts.border) / 2 + counts.spokes;
-    let faces = (counts.threes + counts.spokes) as u32;
+    let spokes = u64::from(counts.spokes);
+    let border = u64::from(counts.border);
+    let vertices = crossings + counts.centres;
+    let edges = (3 * u64::from(counts.threes) + spokes + border) / 2 + spokes;
+    let faces = counts.threes + counts.spokes;
     Part {
         least,
         vertices,
         edges,
         faces,
-        border: counts.border,
+        border,
         euler: i64::from(vertices) - edges as i64 + i64::from(faces),
     }
 }
@@ -72,7 +73,8 @@ pub fn numbered<R: CellRows, L: Ledger>(
 {
     let _ = store.sizes();
     let walked = walk::<Counts, R, L>(alloc, store, tree, level, rows, steps)?;
-    let parts = parts_of(alloc, components(alloc, &walked)?.as_slice())?;
     let all = added(walked.tallies.as_slice());
-    Ok(Report::new(part_of(0, walked.edges.count, &all), parts))
+    let total = part_of(0, walked.edges.count, &all);
+    let parts = parts_of(alloc, components(alloc, walked)?.as_slice())?;
+    Ok(Report::new(total, parts))
 }

@@ -1,6 +1,6 @@
 //! The measures of a mesh.
 
-ghost use Rattle.std.specs.Prelude.{◌≡◌, ℕ, ◌+◌, ◌≤◌, ◌^◌, ◌+ℤ◌, IfOk};
+ghost use Rattle.std.specs.Prelude.{◌≡◌, ℕ, ◌+◌, ◌<◌, ◌^◌, ◌+ℤ◌, IfOk, length};
 ghost use Rattle.cell_loops.specs.Loops.{IsLoop};
 ghost use Rattle.flat_mesh.specs.Centres.{IsCellAt};
 ghost use Rattle.part_laws.specs.Loops.{Loop};
@@ -38,7 +38,7 @@ pub struct Swept {
 /// What is measured of the loops of both.
 #[inline(always)]
 fn together(a: &Swept, b: &Swept) -> Swept
-    requires room { (n m : ℕ) × (n + m ≤ 2 ^ 40) × AreSmall n a.now × AreSmall m b.now }
+    requires room { (n m : ℕ) × (n + m < 2 ^ 31) × AreSmall n a.now × AreSmall m b.now }
     ensures values { (i : ℕ) → measure_at result i ≡ measure_at a.now i +ℤ measure_at b.now i }
     ensures fits { (n m : ℕ) → AreSmall n a.now → AreSmall m b.now → AreSmall (n + m) result }
 {
@@ -60,7 +60,7 @@ fn of_one<H: Heights>(field: &H, cell: Cell, edges: &[u8]) -> Swept
     requires edges { IsLoop edges.now }
     requires there { IsOneLoop (H.leveled field.now) cell.index edges.now }
     ensures values { (l : Loop) → IsLoopIn (H.leveled field.now) cell.index edges.now l → (i : ℕ) → measure_at result i ≡ measured_of (H.leveled field.now) i l }
-    ensures fits { AreSmall 1 result }
+    ensures fits { AreSmall (length edges.now) result }
 {
     let sizes = field.sizes();
     let Round { swept, tip } = round_of(&field.corner_heights(cell), edges);
@@ -116,7 +116,7 @@ pub fn measured<R: CellRows, L: Ledger>(
 {
     let _ = store.sizes();
     let walked = walk::<Swept, R, L>(alloc, store, tree, level, rows, steps)?;
-    let components = components(alloc, &walked)?;
+    let components = components(alloc, walked)?;
     let shares = shares_of(alloc, store.pad().is_some(), components.as_slice())?;
     Ok(Measures::new(shares))
 }

@@ -22,7 +22,7 @@ pub trait Tally: Copy + Drop {
     /// What each of them adds up of a loop.
     ghost of_loop: { Leveled → ℕ → Loop → ℤ };
 
-    /// What holds of the sums of so many loops: they are small.
+    /// What holds of the sums of loops that have so many steps in all: they are small.
     ghost fits: { ℕ → Self → Type 0 };
 
     /// Of no loops.
@@ -35,20 +35,20 @@ pub trait Tally: Copy + Drop {
         requires cell { IsCellAt (H.leveled field.now).grid cell }
         requires edges { IsLoop edges.now }
         requires there { IsOneLoop (H.leveled field.now) cell.index edges.now }
-        requires room { (n : ℕ) × (n < 2 ^ 40) × fits n self.old }
+        requires room { (n : ℕ) × (n + length edges.now < 2 ^ 31) × fits n self.old }
         ensures values { (l : Loop) → IsLoopIn (H.leveled field.now) cell.index edges.now l → (i : ℕ) → value self.new i ≡ value self.old i +ℤ of_loop (H.leveled field.now) i l }
-        ensures fits { (n : ℕ) → fits n self.old → fits (n + 1) self.new };
+        ensures fits { (n : ℕ) → fits n self.old → fits (n + length edges.now) self.new };
 
     /// With what another has.
     fn add(&mut self, other: &Self)
-        requires room { (n m : ℕ) × (n + m < 2 ^ 40) × fits n self.old × fits m other.now }
+        requires room { (n m : ℕ) × (n + m < 2 ^ 31) × fits n self.old × fits m other.now }
         ensures values { (i : ℕ) → value self.new i ≡ value self.old i +ℤ value other.now i }
         ensures fits { (n m : ℕ) → fits n self.old → fits m other.now → fits (n + m) self.new };
 }
 
-/// The sum of tallies, each of which fits so many loops.
+/// The sum of tallies, each of which fits so many steps.
 pub fn added<T: Tally>(tallies: &[T]) -> T
-    requires room { (n : ℕ → ℕ) × (sum_by n (below (length tallies.now)) < 2 ^ 40) × FitEach T.fits n tallies.now }
+    requires room { (n : ℕ → ℕ) × (sum_by n (below (length tallies.now)) < 2 ^ 31) × FitEach T.fits n tallies.now }
     ensures { (i : ℕ) → T.value result i ≡ total (λ t. T.value t i) tallies.now }
 {
     let mut sum = T::none();
@@ -62,13 +62,13 @@ pub fn added<T: Tally>(tallies: &[T]) -> T
 #[derive(Clone, Copy, Drop)]
 pub struct Counts {
     /// The loops of three vertices.
-    pub threes: u64,
+    pub threes: u32,
     /// The others, each of which has a centre.
-    pub centres: u64,
+    pub centres: u32,
     /// The vertices of these, each counted with each of its loops.
-    pub spokes: u64,
+    pub spokes: u32,
     /// The steps that lie in the border.
-    pub border: u64,
+    pub border: u32,
 }
 
 impl Tally for Counts {
@@ -91,11 +91,11 @@ impl Tally for Counts {
     fn add_loop<H: Heights>(&mut self, field: &H, cell: Cell, edges: &[u8]) {
         if edges.len() > 3 {
             self.centres += 1;
-            self.spokes += edges.len() as u64;
+            self.spokes += edges.len() as u32;
         } else {
             self.threes += 1;
         }
-        self.border += u64::from(border_steps(&field.sizes(), cell, edges));
+        self.border += border_steps(&field.sizes(), cell, edges);
     }
 
     fn add(&mut self, other: &Counts) {

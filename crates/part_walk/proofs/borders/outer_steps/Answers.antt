@@ -1,6 +1,4 @@
-use Rattle.std.proofs.Common.{◌≡◌, ◌∙◌, ◌-◌, ℕ, ◌<◌, length, sym, ap, arith, cond, get_or}
-use Rattle.iso_defs.specs.Cell.{cell_edge}
-use Rattle.iso_defs.specs.Surface.{is_border}
+use Rattle.std.proofs.Common.{arith}
 use Rattle.part_walk.proofs.BorderSteps.{steps_end, steps_more, steps_start}
 use Rattle.part_walk.proofs.borders.outer_steps.Goals as goal
 

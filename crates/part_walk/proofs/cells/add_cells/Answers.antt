@@ -1,5 +1,4 @@
-use Rattle.std.proofs.Common.{◌≡◌, ◌∙◌, ◌+◌, ◌*◌, ◌<◌, ◌≤◌, List, ℕ, [], ap, sym, subst, arith, get_or}
-use Rattle.cell_loops.specs.Loops.{row_loops}
+use Rattle.std.proofs.Common.{◌≡◌, ◌∙◌, ◌+◌, ◌*◌, List, ℕ, [], ap, sym, subst, arith}
 use Rattle.iso_defs.specs.Grid.{index}
 use Rattle.flat_mesh.specs.Faces.{loops_at}
 use Rattle.flat_mesh.specs.Rows.{row_start}

@@ -1,4 +1,4 @@
-use Rattle.std.proofs.Common.{◌+◌, ◌*◌, ◌≤◌}
+use Rattle.std.proofs.Common.{◌+◌, ◌*◌}
 use Rattle.flat_mesh.specs.Rows.{row_start}
 use Rattle.part_walk.specs.Walks.{IsWalked, loops_before}
 use Rattle.part_walk.proofs.cells.add_cells.Given as goal

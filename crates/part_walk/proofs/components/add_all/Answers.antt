@@ -17,11 +17,11 @@ add-requires-clause-few g c =
 pub add-requires-clause-room : goal.add-requires-clause-room
 add-requires-clause-room g c =
     subst
-    (λ t. (k : ℕ) × (m : ℕ) × (k + m < 1099511627776)
+    (λ t. (k : ℕ) × (m : ℕ) × (k + m < 2147483648)
     × g.T.Tally.fits k (get_or c.loop-label.components (get_or c.args.places.now (get_or c.args.joined.now c.loop-label.label 0) 0) c.index-components-place.result).tally × g.T.Tally.fits m t)
     (sym c.index-tallies-label.is)
     (tallies_fit g.T.Tally.value g.T.Tally.fits (λ a. get_or c.args.places.now (get_or c.args.joined.now a 0) 0) c.args.crossings.now c.args.tallies.now c.args.components.now c.loop-label.label c.loop-label.components
-    c.loop-label.invariant (length c.args.joined.now) c.index-components-place.result c.index-tallies-label.result c.loop-label-test.true c.if-place-components.true c.requires.few_loops)
+    c.loop-label.invariant (length c.args.joined.now) c.index-components-place.result c.index-tallies-label.result c.loop-label-test.true c.if-place-components.true c.requires.few_steps)
 
 pub loop-label-preserved : goal.loop-label-preserved
 loop-label-preserved g c =

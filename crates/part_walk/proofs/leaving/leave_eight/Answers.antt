@@ -1,4 +1,4 @@
-use Rattle.std.proofs.Common.{◌≡◌, ◌∙◌, ◌+◌, ◌<◌, ap, sym, get_or, arith}
+use Rattle.std.proofs.Common.{◌∙◌, ap, sym, get_or, arith}
 use Rattle.loop_labels.specs.Fronts.{room}
 use Rattle.part_walk.proofs.LeftLaws.{left_stills, next_place}
 use Rattle.part_walk.proofs.leaving.leave_eight.Goals as goal

@@ -1,4 +1,4 @@
-use Rattle.std.proofs.Common.{◌≡◌, ◌+◌, ◌≤◌, ◌<◌, subst, arith}
+use Rattle.std.proofs.Common.{subst, arith}
 use Rattle.part_walk.specs.Passed.{HasLeft}
 use Rattle.part_walk.proofs.LeftLaws.{can_more, has_more, has_none, room_same}
 use Rattle.part_walk.proofs.leaving.leave_run.Goals as goal

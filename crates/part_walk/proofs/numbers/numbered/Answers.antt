@@ -8,37 +8,36 @@ use Rattle.part_walk.specs.Components.{AreComponents}
 use Rattle.part_walk.specs.Counts.{counted, fit, number}
 use Rattle.part_walk.specs.Sums.{FitEach}
 use Rattle.part_walk.specs.declared.tally.Counts.{Counts}
-use Rattle.part_walk.proofs.MeshCounts.{added_is, crossings_are, labelled_count, parts_ascend, parts_few, parts_told, tallies_few, tallies_fit, whole_few, whole_is}
+use Rattle.part_walk.proofs.MeshCounts.{added_is, crossings_are, parts_ascend, parts_few, parts_told, tallies_fit, whole_few, whole_is}
 use Rattle.part_walk.proofs.numbers.numbered.Goals as goal
 
 pub parts_of-requires-clause-few : goal.parts_of-requires-clause-few
 parts_of-requires-clause-few g c =
     let v : Leveled = at_level c.args.store.now c.args.level in
-    parts_few v c.sizes.ensures.volume.grid c.as_slice.result.now (subst (AreComponents number fit counted v) (sym c.as_slice.ensures.value) (c.in_ok-components.ensures v c.in_ok-walked.ensures))
+    parts_few v c.sizes.ensures.volume.grid c.as_slice-2.result.now (subst (AreComponents number fit counted v) (sym c.as_slice-2.ensures.value) (c.in_ok-components.ensures v c.in_ok-walked.ensures))
 
 pub parts_of-requires-clause-ascending : goal.parts_of-requires-clause-ascending
 parts_of-requires-clause-ascending g c =
     let v : Leveled = at_level c.args.store.now c.args.level in
-    parts_ascend v c.sizes.ensures.volume.grid c.as_slice.result.now (subst (AreComponents number fit counted v) (sym c.as_slice.ensures.value) (c.in_ok-components.ensures v c.in_ok-walked.ensures))
+    parts_ascend v c.sizes.ensures.volume.grid c.as_slice-2.result.now (subst (AreComponents number fit counted v) (sym c.as_slice-2.ensures.value) (c.in_ok-components.ensures v c.in_ok-walked.ensures))
 
 pub added-all-requires : goal.added-all-requires
 added-all-requires g c =
     let v : Leveled = at_level c.args.store.now c.args.level in
     let w = c.in_ok-walked.walked in
     let h = c.in_ok-walked.ensures in
-    let n : ℕ → ℕ = labelled_count v c.sizes.ensures.volume.grid number fit counted w.labels w.tallies.items w.edges h in
     record {
-      room = subst (λ (ts : List Counts). (n : ℕ → ℕ) × (sum_by n (below (length ts)) < 1099511627776) × FitEach fit n ts) (sym c.as_slice-2.ensures.value)
-          (n, tallies_few v c.sizes.ensures.volume.grid number fit counted w.labels w.tallies.items w.edges h, record { each = tallies_fit v c.sizes.ensures.volume.grid number fit counted w.labels w.tallies.items w.edges h });
+      room = subst (λ (ts : List Counts). (n : ℕ → ℕ) × (sum_by n (below (length ts)) < 2147483648) × FitEach fit n ts) (sym c.as_slice.ensures.value)
+          (tallies_fit v c.sizes.ensures.volume.grid number fit counted w.labels w.tallies.items w.edges h);
     }
 
-pub part_of-requires : goal.part_of-requires
-part_of-requires g c =
+pub part_of-total-requires : goal.part_of-total-requires
+part_of-total-requires g c =
     let v : Leveled = at_level c.args.store.now c.args.level in
     let w = c.in_ok-walked.walked in
     let h = c.in_ok-walked.ensures in
     whole_few v c.sizes.ensures.volume.grid c.added-all.result
-    (added_is v c.sizes.ensures.volume.grid number fit counted w.labels w.tallies.items w.edges h c.as_slice-2.result.now c.as_slice-2.ensures.value c.added-all.result c.added-all.ensures)
+    (added_is v c.sizes.ensures.volume.grid number fit counted w.labels w.tallies.items w.edges h c.as_slice.result.now c.as_slice.ensures.value c.added-all.result c.added-all.ensures)
     w.edges.count (crossings_are v c.sizes.ensures.volume.grid number fit counted w.labels w.tallies.items w.edges h)
 
 pub returns : goal.returns
@@ -48,8 +47,8 @@ returns g c =
     let h = c.in_ok-walked.ensures in
     let whole
     = whole_is v c.sizes.ensures.volume.grid c.added-all.result
-    (added_is v c.sizes.ensures.volume.grid number fit counted w.labels w.tallies.items w.edges h c.as_slice-2.result.now c.as_slice-2.ensures.value c.added-all.result c.added-all.ensures)
+    (added_is v c.sizes.ensures.volume.grid number fit counted w.labels w.tallies.items w.edges h c.as_slice.result.now c.as_slice.ensures.value c.added-all.result c.added-all.ensures)
     w.edges.count (crossings_are v c.sizes.ensures.volume.grid number fit counted w.labels w.tallies.items w.edges h) in
     let parts
-    = parts_told v c.sizes.ensures.volume.grid c.as_slice.result.now (subst (AreComponents number fit counted v) (sym c.as_slice.ensures.value) (c.in_ok-components.ensures v h)) in
-    c.new.ensures ∙ ap₂ (λ (t : Part) (ps : List Part). record { total = t; parts = ps }) (c.part_of.ensures ∙ whole) (c.in_ok-parts.ensures ∙ parts)
+    = parts_told v c.sizes.ensures.volume.grid c.as_slice-2.result.now (subst (AreComponents number fit counted v) (sym c.as_slice-2.ensures.value) (c.in_ok-components.ensures v h)) in
+    c.new.ensures ∙ ap₂ (λ (t : Part) (ps : List Part). record { total = t; parts = ps }) (c.part_of-total.ensures ∙ whole) (c.in_ok-parts.ensures ∙ parts)

@@ -1,4 +1,4 @@
-use Rattle.std.proofs.Common.{◌≡◌, ℕ, suc, zero, ◌+◌, ◌*◌, ◌≤◌, ◌^◌, ℤ, pos, ◌+ℤ◌, ◌∷◌, [], sym, subst, arith, slice_index_or, unsigned_abs}
+use Rattle.std.proofs.Common.{◌≡◌, ℕ, suc, zero, ◌+◌, ◌*◌, ◌<◌, ◌≤◌, ◌^◌, ℤ, pos, ◌+ℤ◌, ◌∷◌, [], sym, subst, arith, slice_index_or, unsigned_abs}
 use Rattle.std.proofs.lemmas.Int.{ints}
 use Rattle.measure.proofs.Exact.{abs_sum, kept}
 use Rattle.part_walk.specs.Sweep.{AreSmall, measure_at}
@@ -10,10 +10,10 @@ abbrev added : ℤ → ℤ → ℤ
 added x y = kept (kept x +ℤ kept y)
 
 -- it is exact
-six_is : (n m : ℕ) (x y : ℤ) → n + m ≤ 2 ^ 40 → unsigned_abs x ≤ 2 ^ 60 * n → unsigned_abs y ≤ 2 ^ 60 * m → added x y ≡ x +ℤ y
+six_is : (n m : ℕ) (x y : ℤ) → n + m < 2 ^ 31 → unsigned_abs x ≤ 2 ^ 60 * n → unsigned_abs y ≤ 2 ^ 60 * m → added x y ≡ x +ℤ y
 six_is n m x y room f g = omega (arith, ints)
 
-area_is : (n m : ℕ) (x y : ℤ) → n + m ≤ 2 ^ 40 → unsigned_abs x ≤ 2 ^ 40 * n → unsigned_abs y ≤ 2 ^ 40 * m → added x y ≡ x +ℤ y
+area_is : (n m : ℕ) (x y : ℤ) → n + m < 2 ^ 31 → unsigned_abs x ≤ 2 ^ 40 * n → unsigned_abs y ≤ 2 ^ 40 * m → added x y ≡ x +ℤ y
 area_is n m x y room f g = omega (arith, ints)
 
 -- and small
@@ -22,7 +22,7 @@ sum_small unit n m x y z e f g =
     let sum : unsigned_abs (x +ℤ y) ≤ unit * n + unit * m = abs_sum x y (unit * n) (unit * m) f g in
     subst (λ z. unsigned_abs z ≤ unit * (n + m)) (sym e) (omega (arith, sum))
 
-module _ (n m : ℕ) (room : n + m ≤ 2 ^ 40) (a b : Swept) (f : AreSmall n a) (h : AreSmall m b) where
+module _ (n m : ℕ) (room : n + m < 2 ^ 31) (a b : Swept) (f : AreSmall n a) (h : AreSmall m b) where
   abbrev along : Swept → ℕ → ℤ
   along s k = slice_index_or s.area k (pos 0)
 

@@ -9,11 +9,11 @@ use Rattle.part_walk.proofs.tally.CountsTally.add_loop.Goals.{then-edges-gt3, el
 
 pub returns-clause-values : goal.returns-clause-values
 returns-clause-values g c = λ l h.
-    let borders : c.if-edges-gt3.self.border ≡ c.args.self.now.border → c.if-edges-gt3.self.border + c.from.result ≡ c.args.self.now.border + steps_on (g.H.Heights.leveled c.args.field.now).grid c.args.cell.index c.args.edges.now
-    = λ e. ap (λ n. n + c.from.result) e ∙ ap (λ n. c.args.self.now.border + n) (c.from.ensures ∙ (c.border_steps.ensures.value ∙ ap (λ (s : Grid). steps_on s c.args.cell.index c.args.edges.now) c.sizes.ensures.value)) in
+    let borders : c.if-edges-gt3.self.border ≡ c.args.self.now.border → c.if-edges-gt3.self.border + c.border_steps.result ≡ c.args.self.now.border + steps_on (g.H.Heights.leveled c.args.field.now).grid c.args.cell.index c.args.edges.now
+    = λ e. ap (λ n. n + c.border_steps.result) e ∙ ap (λ n. c.args.self.now.border + n) (c.border_steps.ensures.value ∙ ap (λ (s : Grid). steps_on s c.args.cell.index c.args.edges.now) c.sizes.ensures.value) in
     (elim c.if-edges-gt3.branch [
       | then-edges-gt3 w ↦ counts_more (g.H.Heights.leveled c.args.field.now) c.args.cell.index c.args.edges.now l h c.args.self.now
-          record { threes = c.if-edges-gt3.self.threes; centres = c.if-edges-gt3.self.centres; spokes = c.if-edges-gt3.self.spokes; border = c.if-edges-gt3.self.border + c.from.result } true (lt-ltb 3 (length c.args.edges.now) w.if-edges-gt3.true) (ap (λ (k : Counts). k.threes) w.self-is ∙ plus_none c.args.self.now.threes) (ap (λ (k : Counts). k.centres) w.self-is) (ap (λ (k : Counts). k.spokes) w.self-is) (borders (ap (λ (k : Counts). k.border) w.self-is))
+          record { threes = c.if-edges-gt3.self.threes; centres = c.if-edges-gt3.self.centres; spokes = c.if-edges-gt3.self.spokes; border = c.if-edges-gt3.self.border + c.border_steps.result } true (lt-ltb 3 (length c.args.edges.now) w.if-edges-gt3.true) (ap (λ (k : Counts). k.threes) w.self-is ∙ plus_none c.args.self.now.threes) (ap (λ (k : Counts). k.centres) w.self-is) (ap (λ (k : Counts). k.spokes) w.self-is) (borders (ap (λ (k : Counts). k.border) w.self-is))
       | else-edges-gt3 w ↦ counts_more (g.H.Heights.leveled c.args.field.now) c.args.cell.index c.args.edges.now l h c.args.self.now
-          record { threes = c.if-edges-gt3.self.threes; centres = c.if-edges-gt3.self.centres; spokes = c.if-edges-gt3.self.spokes; border = c.if-edges-gt3.self.border + c.from.result } false (le-ltb 3 (length c.args.edges.now) (omega (arith, w.if-edges-gt3.false))) (ap (λ (k : Counts). k.threes) w.self-is) (ap (λ (k : Counts). k.centres) w.self-is ∙ plus_none c.args.self.now.centres) (ap (λ (k : Counts). k.spokes) w.self-is ∙ plus_none c.args.self.now.spokes) (borders (ap (λ (k : Counts). k.border) w.self-is))
+          record { threes = c.if-edges-gt3.self.threes; centres = c.if-edges-gt3.self.centres; spokes = c.if-edges-gt3.self.spokes; border = c.if-edges-gt3.self.border + c.border_steps.result } false (le-ltb 3 (length c.args.edges.now) (omega (arith, w.if-edges-gt3.false))) (ap (λ (k : Counts). k.threes) w.self-is) (ap (λ (k : Counts). k.centres) w.self-is ∙ plus_none c.args.self.now.centres) (ap (λ (k : Counts). k.spokes) w.self-is ∙ plus_none c.args.self.now.spokes) (borders (ap (λ (k : Counts). k.border) w.self-is))
     ])

@@ -1,9 +1,8 @@
-use Rattle.std.proofs.Common.{◌≡◌, ◌∙◌, ℕ, ◌++◌, ◌∷◌, [], ◌+ℤ◌, set, ◌+◌, ◌*◌, ◌%◌, ◌<◌, ◌≤◌, ap, sym, subst, get_or, length, arith}
+use Rattle.std.proofs.Common.{◌≡◌, ◌∙◌, ℕ, ◌++◌, ◌∷◌, [], ◌+ℤ◌, set, ◌+◌, ◌*◌, ◌<◌, ap, sym, subst, get_or, length, arith}
 use Rattle.iso_defs.specs.Cell.{cell_edge}
-use Rattle.iso_defs.specs.Grid.{Grid}
 use Rattle.label_joins.specs.Chains.{ArePaired}
-use Rattle.loop_labels.specs.Fronts.{none, room, slot_of}
-use Rattle.loop_labels.specs.Labelling.{IsAdded, Known}
+use Rattle.loop_labels.specs.Fronts.{none, room}
+use Rattle.loop_labels.specs.Labelling.{Known}
 use Rattle.std.proofs.lemmas.List.{get_or_default}
 use Rattle.part_walk.specs.Walks.{IsWalked}
 use Rattle.part_walk.proofs.WalkLaws.{place_low, room_for, walked_more}
@@ -30,9 +29,9 @@ pub add_loop-requires-2-clause-room : goal.add_loop-requires-2-clause-room
 add_loop-requires-2-clause-room g c =
     let v = g.H.Heights.leveled c.args.field.now in
     let k = c.in_ok-know.ensures in
-    subst (λ t. (x : ℕ) × (x < 1099511627776) × g.T.Tally.fits x t) (sym c.index_mut.ensures.value)
+    subst (λ t. (x : ℕ) × (x + length c.args.edges.now < 2147483648) × g.T.Tally.fits x t) (sym c.index_mut.ensures.value)
     (room_for g.T.Tally.value g.T.Tally.fits g.T.Tally.of_loop v (c.args.cell.low.y + v.grid.ny * c.args.cell.low.z) c.args.self.now.labels c.add_loop.new.self c.args.self.now.tallies.items c.know.new.self.tallies.items
-    c.args.self.now.edges c.know.new.self.edges c.in_ok-label.label c.index_mut.result.now c.requires.state k.longer c.in_ok-label.ensures.low)
+    c.args.self.now.edges c.know.new.self.edges c.in_ok-label.label c.index_mut.result.now c.requires.state k.longer c.in_ok-label.ensures.low (length c.args.edges.now) c.requires.edges.most)
 
 pub returns : goal.returns
 returns g c = λ loops l is h.

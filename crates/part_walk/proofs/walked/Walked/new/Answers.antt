@@ -1,4 +1,4 @@
-use Rattle.std.proofs.Common.{◌≡◌, ◌∙◌, ◌<◌, sym, ap, subst}
+use Rattle.std.proofs.Common.{◌∙◌, ◌<◌, sym, subst}
 use Rattle.iso_defs.specs.Grid.{Grid}
 use Rattle.loop_labels.specs.Fronts.{room}
 use Rattle.part_walk.proofs.StartLaws.{walked_none}
