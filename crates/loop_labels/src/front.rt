@@ -140,30 +140,29 @@ pub(crate) fn label_range(
     ensures own { result.0 ≢ none → Stands (stand_of front.now places.now shift edges.now) (length edges.now) result.0 }
     ensures end { (i : ℕ) → i < length edges.now → stand_of front.now places.now shift edges.now i ≢ none → stand_of front.now places.now shift edges.now i < result.1 }
 {
-    let labels: &[u32] = &front.labels;
-    let shift = shift as usize;
+    let labels: &[u32] = &front.labels[shift as usize..];
     let mut low = NONE;
     let mut end = 0u32;
     for edge in edges {
-        let label = labels[places[*edge as usize] as usize + shift];
+        let label = labels[places[*edge as usize] as usize];
         low = low.min(label);
         end = end.max(label.wrapping_add(1));
     }
     (low, end)
 }
 
-/// Gives the labels of the edges of a loop a value, which stand at some places.
+/// Gives the labels at the places of the edges of a loop a value.
 #[inline(always)]
-fn set_each(labels: &mut [u32], places: &[u32; 12], shift: usize, edges: &[u8], label: u32)
+fn set_each(labels: &mut [u32], places: &[u32; 12], edges: &[u8], label: u32)
     requires edges { All (λ e. e < 12) edges.now }
-    requires inside { (e : ℕ) → e < 12 → slice_index places.now e + shift < length labels.old }
+    requires inside { (e : ℕ) → e < 12 → slice_index places.now e < length labels.old }
     ensures size { length labels.new ≡ length labels.old }
-    ensures set { (i : ℕ) → i < length edges.now → slice_index labels.new (slot_of places.now shift edges.now i) ≡ label }
-    ensures others { (k : ℕ) → ((i : ℕ) → i < length edges.now → slot_of places.now shift edges.now i ≢ k) → slice_index labels.new k ≡ slice_index labels.old k }
+    ensures set { (i : ℕ) → i < length edges.now → slice_index labels.new (slice_index places.now (slice_index edges.now i)) ≡ label }
+    ensures others { (k : ℕ) → ((i : ℕ) → i < length edges.now → slice_index places.now (slice_index edges.now i) ≢ k) → slice_index labels.new k ≡ slice_index labels.old k }
     ensures either { (k : ℕ) → (slice_index labels.new k ≡ label) ⊎ (slice_index labels.new k ≡ slice_index labels.old k) }
 {
     for edge in edges {
-        labels[places[*edge as usize] as usize + shift] = label;
+        labels[places[*edge as usize] as usize] = label;
     }
 }
 
@@ -179,5 +178,5 @@ pub(crate) fn set_all(front: &mut Front, places: &[u32; 12], shift: u32, edges: 
     ensures either { (k : ℕ) → (slice_index front.new.labels k ≡ label) ⊎ (slice_index front.new.labels k ≡ slice_index front.old.labels k) }
 {
     let _ = front.sizes();
-    set_each(&mut front.labels, places, shift as usize, edges, label);
+    set_each(&mut front.labels[shift as usize..], places, edges, label);
 }

@@ -1,4 +1,5 @@
-use Rattle.std.proofs.Common.{◌≡◌, ◌∙◌, ◌+◌, ◌%◌, ◌≤◌, List, ℕ, slice_index, ap, sym, arith}
+use Rattle.std.proofs.Common.{◌≡◌, ◌∙◌, ◌+◌, ◌-◌, ◌%◌, ◌≤◌, List, ℕ, length, slice_index, take, drop, ap, sym, arith}
+use Rattle.std.proofs.lemmas.List.{get_or-drop, take_rest}
 use Rattle.std.proofs.Math.Nat.{mod-eq_of_lt}
 use Rattle.loop_labels.specs.Fronts.{Marks, none, slot_of}
 use Rattle.loop_labels.specs.Labelling.{stand_of}
@@ -10,10 +11,14 @@ loop-edge-preserved c =
     let i = c.loop-edge.invariant in
     let n : ℕ = c.loop-edge.edge-index in
     let stand : ℕ → ℕ = stand_of c.args.front.now c.args.places.now c.args.shift c.args.edges.now in
+    let at : ℕ = slice_index c.args.places.now (slice_index c.args.edges.now n) in
     let place : ℕ = slot_of c.args.places.now c.args.shift c.args.edges.now n in
-    let label : ℕ = slice_index c.deref-labels.result.now place in
-    let here : stand n ≡ label = ap (λ (m : Marks). slice_index m.labels place) (sym c.front.view_is) ∙ ap (λ (ls : List ℕ). slice_index ls place) (sym c.deref-labels.ensures.value) in
-    let bound : label ≤ none = omega (arith, c.type_inv.labels place) in
+    let all : List ℕ = c.deref.result.now in
+    let label : ℕ = slice_index (take (length all - c.args.shift) (drop c.args.shift all)) at in
+    let is : label ≡ slice_index all place = ap (λ (ls : List ℕ). slice_index ls at) (take_rest all c.args.shift) ∙ (get_or-drop c.args.shift all at 0 ∙ ap (slice_index all) (omega arith)) in
+    let here : stand n ≡ label
+    = ap (λ (m : Marks). slice_index m.labels place) (sym c.front.view_is) ∙ (ap (λ (ls : List ℕ). slice_index ls place) (sym c.deref.ensures.value) ∙ sym is) in
+    let bound : label ≤ none = omega (arith, c.type_inv.labels at) in
     record {
       low = low_on stand n c.loop-edge.low label c.min-low.result here c.min-low.ensures i.low;
       fits = omega (arith, c.min-low.type_inv);
