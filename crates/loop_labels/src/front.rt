@@ -124,15 +124,11 @@ impl Front {
     }
 }
 
-/// The range in which the labels of the edges of a loop lie that have one, whose labels stand at some places: the smallest of them, and one more
-/// than the greatest; `NONE` and zero where none has one. It takes no branch for an edge: `NONE` is the greatest number, and one more is zero.
+/// The smallest label of the edges of a loop, which have their labels at some places, and one more than the greatest one. Edges that have none do not
+/// count; where no edge has one, the two are `NONE` and zero. No edge takes a branch, which could not be foreseen: `NONE` is the greatest number, and
+/// one more wraps to zero.
 #[inline(always)]
-pub(crate) fn label_range(
-    front: &Front,
-    places: &[u32; 12],
-    shift: u32,
-    edges: &[u8],
-) -> (u32, u32)
+pub(crate) fn label_range(front: &Front, places: &[u32; 12], shift: u32, edges: &[u8]) -> (u32, u32)
     requires edges { All (λ e. e < 12) edges.now }
     requires inside { (e : ℕ) → e < 12 → slice_index places.now e + shift < room front.now.grid }
     ensures low { (i : ℕ) → i < length edges.now → result.0 ≤ stand_of front.now places.now shift edges.now i }

@@ -137,8 +137,8 @@ impl Labels {
         self.front.label(place)
     }
 
-    /// Notes that the labels of the edges of a loop meet the smallest of them. One more than `NONE` is zero, so that one comparison tells whether a
-    /// label is another one.
+    /// Notes that the labels of the edges of a loop meet the smallest of them. One more than `NONE` wraps to zero, so that one comparison tells an
+    /// edge that has another label from those that have this one or none.
     fn join(&mut self, places: &[u32; 12], shift: u32, edges: &[u8], low: u32) -> Result<(), Memory>
         requires edges { All (λ e. e < 12) edges.now }
         requires inside { (e : ℕ) → e < 12 → slice_index places.now e + shift < room self.old.marks.grid }

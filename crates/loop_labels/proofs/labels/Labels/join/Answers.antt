@@ -34,8 +34,8 @@ loop-edge-preserved c =
           })
       | else-label-low w ↦ (
           let is : stand n ≢ none → stand n ≡ low = λ d.
-              (let next : (label + 1) % (none + 1) ≡ label + 1 = mod-eq_of_lt {n = label + 1} {m = none + 1} (omega (arith, here, d, c.label_at-label.type_inv)) in
-              omega (arith, here, next, w.if-label-low.false, c.requires.smallest n c.loop-edge-test.true)) in
+          (let next : (label + 1) % (none + 1) ≡ label + 1 = mod-eq_of_lt {n = label + 1} {m = none + 1} (omega (arith, here, d, c.label_at-label.type_inv)) in
+          omega (arith, here, next, w.if-label-low.false, c.requires.smallest n c.loop-edge-test.true)) in
           record {
             marks = ap (λ (k : Known). k.marks) w.self-is ∙ i.marks;
             count = ap (λ (k : Known). k.count) w.self-is ∙ i.count;
