@@ -1,4 +1,4 @@
 pub mod PlaceLaws
 pub mod MeetLaws
-pub mod SoFarLaws
+pub mod RangeLaws
 pub mod AddedLaws

@@ -10,7 +10,6 @@ use Rattle.label_joins.specs.Chains.{begins_at, ends_at}
 use Rattle.label_joins.proofs.LeastLaws.{ends_joined}
 use Rattle.loop_labels.specs.Labelling.{Adds, AreKnown, AreMet, IsOneOf}
 use Rattle.loop_labels.specs.Fronts.{Marks}
-use Rattle.std.specs.List.{AllByRecursion}
 
 module _ (ps : List (ℕ × ℕ)) (met : List ℕ) (low high : ℕ) (h : AreMet ps met) (a : low < length met) (b : high < length met) (room : length ps + 2 ≤ 4294967294) where
   abbrev more : List (ℕ × ℕ)
@@ -103,18 +102,6 @@ module _ (ps : List (ℕ × ℕ)) (met : List ℕ) (low high : ℕ) (h : AreMet 
 
   pub more_added : Adds (IsOneOf low high) ps ps'
   more_added = record { more = more; behind = refl; each = ((inl refl, inr refl), ((inr refl, inl refl), tt)) }
-
--- the order of the two does not matter
-pub added_other : (a b : ℕ) (ps qs : List (ℕ × ℕ)) → Adds (IsOneOf a b) ps qs → Adds (IsOneOf b a) ps qs
-added_other a b ps qs h = record { more = h.more; behind = h.behind; each = go h.more h.each }
-  where
-    turn : (c : ℕ) → IsOneOf a b c → IsOneOf b a c
-    turn c (inl e) = inr e
-    turn c (inr e) = inl e
-
-    go : (ms : List (ℕ × ℕ)) → AllByRecursion (λ (p : ℕ × ℕ). IsOneOf a b p.0 × IsOneOf a b p.1) ms → AllByRecursion (λ (p : ℕ × ℕ). IsOneOf b a p.0 × IsOneOf b a p.1) ms
-    go [] h = tt
-    go (m ∷ ms) h = ((turn m.0 h.0.0, turn m.1 h.0.1), go ms h.1)
 
 -- none were added
 pub none_added : (P : ℕ → Type 0) (ps : List (ℕ × ℕ)) → Adds P ps ps

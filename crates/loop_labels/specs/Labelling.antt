@@ -45,15 +45,6 @@ pub record Stands (stand : ℕ → ℕ) (n c : ℕ) : Type 0 where
 abbrev pub stand_of : Marks → List ℕ → ℕ → List ℕ → ℕ → ℕ
 stand_of marks places shift edges i = slice_index marks.labels (slot_of places shift edges i)
 
--- a label for the first n edges of a loop, or none where none of them has one: pairs join it with theirs
-pub record IsSoFar (base now : Known) (stand : ℕ → ℕ) (n label : ℕ) : Type 0 where
-  pub marks : now.marks ≡ base.marks
-  pub count : now.count ≡ base.count
-  pub pairs : Adds (Stands stand n) base.pairs now.pairs
-  pub joined : (i : ℕ) → i < n → stand i ≢ none → least_joined now.pairs (stand i) ≡ least_joined now.pairs label
-  pub no_own : label ≡ none → (i : ℕ) → i < n → stand i ≡ none
-  pub own : label ≢ none → Stands stand n label
-
 -- a label for a loop of n edges: one that they have, or a new one
 pub record IsLabelFor (base now : Known) (stand : ℕ → ℕ) (n label : ℕ) : Type 0 where
   pub marks : now.marks ≡ base.marks

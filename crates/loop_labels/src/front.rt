@@ -3,6 +3,7 @@
 ghost use Rattle.std.specs.Prelude.{◌≡◌, ◌≢◌, ◌⊎◌, ℕ, ◌+◌, ◌*◌, ◌%◌, ◌<◌, ◌≤◌, All, IfOk, IsTrue, length, slice_index, slice_set};
 ghost use Rattle.iso_defs.specs.Cell.{cell_edge};
 ghost use Rattle.loop_labels.specs.Fronts.{none, room, row_name, slot_of};
+ghost use Rattle.loop_labels.specs.Labelling.{Stands, stand_of};
 
 use iso_base::{Memory, Sizes};
 use std::alloc::Global;
@@ -123,6 +124,44 @@ impl Front {
     }
 }
 
+/// The smallest label of the edges of a loop, which have their labels at some places, and one more than the greatest one. Edges that have none do not
+/// count; where no edge has one, the two are `NONE` and zero. No edge takes a branch, which could not be foreseen: `NONE` is the greatest number, and
+/// one more wraps to zero.
+#[inline(always)]
+pub(crate) fn label_range(front: &Front, places: &[u32; 12], shift: u32, edges: &[u8]) -> (u32, u32)
+    requires edges { All (λ e. e < 12) edges.now }
+    requires inside { (e : ℕ) → e < 12 → slice_index places.now e + shift < room front.now.grid }
+    ensures low { (i : ℕ) → i < length edges.now → result.0 ≤ stand_of front.now places.now shift edges.now i }
+    ensures empty { result.0 ≡ none → (i : ℕ) → i < length edges.now → stand_of front.now places.now shift edges.now i ≡ none }
+    ensures own { result.0 ≢ none → Stands (stand_of front.now places.now shift edges.now) (length edges.now) result.0 }
+    ensures end { (i : ℕ) → i < length edges.now → stand_of front.now places.now shift edges.now i ≢ none → stand_of front.now places.now shift edges.now i < result.1 }
+{
+    let labels: &[u32] = &front.labels[shift as usize..];
+    let mut low = NONE;
+    let mut end = 0u32;
+    for edge in edges {
+        let label = labels[places[*edge as usize] as usize];
+        low = low.min(label);
+        end = end.max(label.wrapping_add(1));
+    }
+    (low, end)
+}
+
+/// Gives the labels at the places of the edges of a loop a value.
+#[inline(always)]
+fn set_each(labels: &mut [u32], places: &[u32; 12], edges: &[u8], label: u32)
+    requires edges { All (λ e. e < 12) edges.now }
+    requires inside { (e : ℕ) → e < 12 → slice_index places.now e < length labels.old }
+    ensures size { length labels.new ≡ length labels.old }
+    ensures set { (i : ℕ) → i < length edges.now → slice_index labels.new (slice_index places.now (slice_index edges.now i)) ≡ label }
+    ensures others { (k : ℕ) → ((i : ℕ) → i < length edges.now → slice_index places.now (slice_index edges.now i) ≢ k) → slice_index labels.new k ≡ slice_index labels.old k }
+    ensures either { (k : ℕ) → (slice_index labels.new k ≡ label) ⊎ (slice_index labels.new k ≡ slice_index labels.old k) }
+{
+    for edge in edges {
+        labels[places[*edge as usize] as usize] = label;
+    }
+}
+
 /// Gives the edges of a loop a label, which have their labels at some places.
 pub(crate) fn set_all(front: &mut Front, places: &[u32; 12], shift: u32, edges: &[u8], label: u32)
     requires edges { All (λ e. e < 12) edges.now }
@@ -135,7 +174,5 @@ pub(crate) fn set_all(front: &mut Front, places: &[u32; 12], shift: u32, edges: 
     ensures either { (k : ℕ) → (slice_index front.new.labels k ≡ label) ⊎ (slice_index front.new.labels k ≡ slice_index front.old.labels k) }
 {
     let _ = front.sizes();
-    for edge in edges {
-        front.set(places[*edge as usize] + shift, label);
-    }
+    set_each(&mut front.labels[shift as usize..], places, edges, label);
 }

@@ -5,9 +5,9 @@ ghost use Rattle.iso_defs.specs.Cell.{cell_edge};
 ghost use Rattle.part_laws.specs.Meets.{least_joined};
 ghost use Rattle.label_joins.specs.Chains.{ArePaired};
 ghost use Rattle.loop_labels.specs.Fronts.{none, room, row_name, slot_of};
-ghost use Rattle.loop_labels.specs.Labelling.{Adds, AreMet, IsAdded, IsLabelFor, IsOneOf, IsSoFar, Known, stand_of};
+ghost use Rattle.loop_labels.specs.Labelling.{Adds, AreMet, IsAdded, IsLabelFor, IsOneOf, Known, Stands, stand_of};
 
-use crate::front::{Front, NONE, set_all};
+use crate::front::{Front, NONE, label_range, set_all};
 use iso_base::{Memory, Sizes};
 use std::alloc::Global;
 use std::marker::Model;
@@ -125,40 +125,17 @@ impl Labels {
         Ok(label)
     }
 
-    /// Which of two labels that meet the loop goes on with: the lesser one.
-    fn meet(&mut self, a: u32, b: u32) -> Result<u32, Memory>
-        requires a { a < self.old.count }
-        requires b { b < self.old.count }
+    /// Notes that a label meets a lesser one.
+    #[inline(always)]
+    fn meet(&mut self, low: u32, high: u32) -> Result<(), Memory>
+        requires low { low < self.old.count }
+        requires high { high < self.old.count }
         ensures marks { OnOk result (self.new.marks ≡ self.old.marks) }
         ensures count { OnOk result (self.new.count ≡ self.old.count) }
-        ensures pairs { OnOk result (Adds (IsOneOf a b) self.old.pairs self.new.pairs) }
-        ensures joined { OnOk result (least_joined self.new.pairs a ≡ least_joined self.new.pairs b) }
-        ensures value { IfOk result (IsOneOf a b) }
+        ensures pairs { OnOk result (Adds (IsOneOf low high) self.old.pairs self.new.pairs) }
+        ensures joined { OnOk result (least_joined self.new.pairs low ≡ least_joined self.new.pairs high) }
     {
-        if a < b {
-            note(&mut self.met, &mut self.pairs, a, b)?;
-            return Ok(a);
-        }
-        note(&mut self.met, &mut self.pairs, b, a)?;
-        Ok(b)
-    }
-
-    /// The label that a loop goes on with behind an edge that has this one, or none.
-    #[inline(always)]
-    fn go_on(&mut self, label: u32, other: u32) -> Result<u32, Memory>
-        requires label { label ≢ none → label < self.old.count }
-        requires other { other ≢ none → other < self.old.count }
-        ensures low { IfOk result (λ next. next ≢ none → next < self.new.count) }
-        ensures so_far { IfOk result (λ next. (base : Known) (stand : ℕ → ℕ) (n : ℕ) → IsSoFar base self.old stand n label → stand n ≡ other → IsSoFar base self.new stand (n + 1) next) }
-    {
-        if other == NONE || other == label {
-            return Ok(label);
-        }
-        if label == NONE {
-            return Ok(other);
-        }
-        let next = self.meet(label, other)?;
-        Ok(next)
+        note(&mut self.met, &mut self.pairs, low, high)
     }
 
     /// The label at a place.
@@ -171,6 +148,27 @@ impl Labels {
         self.front.label(place)
     }
 
+    /// Notes that the labels of the edges of a loop meet the smallest of them. One more than `NONE` wraps to zero, so that one comparison tells an
+    /// edge that has another label from those that have this one or none.
+    fn join(&mut self, places: &[u32; 12], shift: u32, edges: &[u8], low: u32) -> Result<(), Memory>
+        requires edges { All (λ e. e < 12) edges.now }
+        requires inside { (e : ℕ) → e < 12 → slice_index places.now e + shift < room self.old.marks.grid }
+        requires fits { (e : ℕ) → e < 12 → slice_index places.now e + shift < 4294967296 }
+        requires low { low < self.old.count }
+        requires smallest { (i : ℕ) → i < length edges.now → low ≤ stand_of self.old.marks places.now shift edges.now i }
+        requires own { Stands (stand_of self.old.marks places.now shift edges.now) (length edges.now) low }
+        ensures { OnOk result (IsLabelFor self.old self.new (stand_of self.old.marks places.now shift edges.now) (length edges.now) low) }
+    {
+        let _ = self.count();
+        for edge in edges {
+            let label = self.label_at(places[*edge as usize] + shift);
+            if label.wrapping_add(1) > low + 1 {
+                self.meet(low, label)?;
+            }
+        }
+        Ok(())
+    }
+
     /// The label that a loop gets whose edges have their labels at some places: one that they have, else a new one.
     fn label_of(&mut self, places: &[u32; 12], shift: u32, edges: &[u8]) -> Result<u32, Memory>
         requires edges { All (λ e. e < 12) edges.now }
@@ -178,16 +176,15 @@ impl Labels {
         requires fits { (e : ℕ) → e < 12 → slice_index places.now e + shift < 4294967296 }
         ensures { IfOk result (λ label. IsLabelFor self.old self.new (stand_of self.old.marks places.now shift edges.now) (length edges.now) label) }
     {
-        let mut label = NONE;
-        for edge in edges {
-            let other = self.label_at(places[*edge as usize] + shift);
-            label = self.go_on(label, other)?;
-        }
-        if label == NONE {
+        let (low, end) = label_range(&self.front, places, shift, edges);
+        if low == NONE {
             let new = self.start()?;
             return Ok(new);
         }
-        Ok(label)
+        if end > low + 1 {
+            self.join(places, shift, edges, low)?;
+        }
+        Ok(low)
     }
 
     /// Gives a loop a label whose edges have their labels at some places: the loop's edges have it from then on.
