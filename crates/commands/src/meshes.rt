@@ -134,7 +134,7 @@ fn extract_from<S: Samples, K: Sink>(
     extract_samples(alloc, asked, volume.sizes(), samples, output)
 }
 
-/// Writes the mesh of a volume whose samples stay in the bytes of its file.
+/// Writes the mesh of a volume whose samples lie in bytes.
 fn extract_raw<K: Sink>(
     alloc: Global,
     asked: Asked,
@@ -160,11 +160,12 @@ fn extract_bytes<K: Sink>(alloc: Global, asked: Asked, bytes: Vec<u8>, output: &
         Err(fault) => return Answer::from(NoVolume::from(fault)),
     };
     drop(bytes);
-    extract_samples(alloc, asked, read.sizes(), &read, output)
+    extract_raw(alloc, asked, &read.raw(), output)
 }
 
 /// Writes the mesh of the volume in the input, which is never held. Raw samples stay in the bytes of the file, with a pad and
-/// without; text and hex samples are made a list first, and the bytes freed.
+/// without; text and hex samples are read into bytes of their own first, in the width of their kind, and those of the file are
+/// freed.
 pub fn extract<S: Source, K: Sink>(
     alloc: Global,
     level: Level,

@@ -86,7 +86,7 @@ fn bricks_from<S: Samples>(
     bricks_of(alloc, volume.sizes(), volume.kind(), pad, level, samples)
 }
 
-/// The bricks of a volume in its pad, whose samples stay in the bytes of its file.
+/// The bricks of a volume in its pad, whose samples lie in bytes.
 fn bricks_of_raw(
     alloc: Global,
     volume: &RawVolume<'_>,
@@ -102,7 +102,8 @@ fn bricks_of_raw(
 }
 
 /// The volume of a file in bricks, in its pad, above which the level is to be; or the first reason why there is none. Raw
-/// samples are read into the bricks out of the file's bytes; of text and hex samples the bytes are freed first.
+/// samples are read into the bricks out of the file's bytes; text and hex samples are read into bytes of their own first, in the
+/// width of their kind, and those of the file are freed.
 pub fn bricks_in(
     alloc: Global,
     bytes: Vec<u8>,
@@ -120,7 +121,7 @@ pub fn bricks_in(
         Err(fault) => return Err(NoVolume::from(fault)),
     };
     drop(bytes);
-    bricks_of(alloc, read.sizes(), read.kind(), pad, level, &read)
+    bricks_of_raw(alloc, &read.raw(), pad, level)
 }
 
 /// The volume of a file of the shelf, in bricks.

@@ -5,7 +5,7 @@ ghost use Rattle.nrrd_read.specs.Nrrd.{Fails, nrrd_of};
 ghost use Rattle.file_points.specs.Edges.{AreEdgesOf, AreEdgesOfFile};
 
 use crossing_edges::{EdgeVertices, crossing_points};
-use iso_base::{Level, Memory, Sizes, VoxelData};
+use iso_base::{Level, Memory, Sizes};
 use nrrd_read::{FileVolume, NrrdFault, RawVolume, read_file_volume, with_samples};
 use samples::Samples;
 use std::alloc::Global;
@@ -32,20 +32,11 @@ fn edges_from<S: Samples>(
     Ok(FileEdges { sizes, edges })
 }
 
-/// The crossing edges at a level of a volume whose samples stay in its file, each with its place.
+/// The crossing edges at a level of a volume whose samples lie in bytes, each with its place.
 fn edges_of_raw(alloc: Global, volume: &RawVolume<'_>, level: Level) -> Result<FileEdges, Memory>
     ensures { IfOk result (λ e. AreEdgesOf volume.now level e.sizes e.edges.names.items e.edges.places.items) }
 {
     with_samples!(volume.samples(), samples => edges_from(alloc, volume, &samples, level))
-}
-
-/// The crossing edges at a level of a volume whose samples were read, each with its place.
-fn edges_in_memory(alloc: Global, volume: &VoxelData, level: Level) -> Result<FileEdges, Memory>
-    ensures { IfOk result (λ e. AreEdgesOf volume.now level e.sizes e.edges.names.items e.edges.places.items) }
-{
-    let sizes = volume.sizes();
-    let edges = crossing_points(alloc, &sizes, volume, level)?;
-    Ok(FileEdges { sizes, edges })
 }
 
 /// The crossing edges of a volume at a level, wherever its samples lie.
@@ -54,7 +45,7 @@ fn edges_of(alloc: Global, volume: &FileVolume<'_>, level: Level) -> Result<File
 {
     match volume {
         FileVolume::Raw(raw) => edges_of_raw(alloc, raw, level),
-        FileVolume::Read(read) => edges_in_memory(alloc, read, level),
+        FileVolume::Read(read) => edges_of_raw(alloc, &read.raw(), level),
     }
 }
 

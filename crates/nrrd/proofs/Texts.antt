@@ -1,17 +1,17 @@
 -- The written texts, piece by piece.
-use Rattle.std.proofs.Common.{◌≡◌, ℕ, suc, ◌+◌, ◌*◌, ◌<◌, ◌≤◌, List, [], ◌∷◌, ◌++◌, length, get_or, take, drop, sym, ap, ◌∙◌, arith, All, ℤ, pos, append_assoc, to_z, of_z}
+use Rattle.std.proofs.Common.{◌≡◌, ℕ, ◌+◌, ◌<◌, ◌≤◌, List, [], ◌∷◌, ◌++◌, length, get_or, take, drop, sym, ap, ◌∙◌, arith, All, ℤ, pos, append_assoc, to_z, of_z}
 use Rattle.std.proofs.lemmas.List.{take-append-drop, append-nil, get_or-drop, length-drop, length-append, length-take-le}
 use Rattle.std.proofs.lemmas.List.Concat.{flat_map-cons}
 use Rattle.std.proofs.lemmas.Grind.{flat_map-append, take_at_read}
 use Rattle.std.proofs.Math.Seq.{take-append_seam}
-use Rattle.byteorder.specs.Numbers.{length-bytes_low_first}
 use Rattle.iso_base.specs.Samples.{width_of}
 use Rattle.iso_base.specs.declared.kind.SampleKind.{SampleKind}
 use Rattle.iso_base.specs.declared.kind.SampleKind.TheVariants.{I8, U8, I16, U16, I32, U32}
 use Rattle.iso_base.specs.Samples.{IsOfKind}
 use Rattle.std.proofs.lemmas.Int.{ints}
 use Rattle.std.specs.Int.{w64}
-use Rattle.text_samples.specs.Samples.{bits_of, sample_bytes}
+use Rattle.text_samples.specs.Samples.{sample_bytes}
+use Rattle.text_samples.proofs.BytesAgain.{length_sample}
 use Rattle.nrrd.specs.Writing.{samples_text}
 
 pub two_parts : (kind : SampleKind) (rest piece after : List ℤ) (n : ℕ) → piece ≡ take n rest → after ≡ drop n rest → samples_text kind rest ≡ samples_text kind piece ++ samples_text kind after
@@ -20,19 +20,6 @@ two_parts kind rest piece after n front back =
 
 pub all_behind : (P : ℤ → Type 0) (rest after : List ℤ) (n : ℕ) → after ≡ drop n rest → All P rest → All P after
 all_behind P rest after n back each = rw back (λ k d lt. let at = get_or-drop n rest k d in rw at (each (n + k) d (omega (arith, length-drop n rest))))
-
-pub length_sample : (kind : SampleKind) (v : ℤ) → length (sample_bytes kind v) ≡ width_of kind
-length_sample kind v = length-bytes_low_first 0 (width_of kind) (bits_of kind v)
-
--- each sample has as many bytes as its kind
-pub length-samples_text : (kind : SampleKind) (xs : List ℤ) → length (samples_text kind xs) ≡ width_of kind * length xs
-length-samples_text kind [] = omega arith
-length-samples_text kind (x ∷ xs) =
-    length-append (sample_bytes kind x) (samples_text kind xs)
-    ∙ (ap (λ n. n + length (samples_text kind xs)) (length_sample kind x) ∙ (ap (λ n. width_of kind + n) (length-samples_text kind xs) ∙ more (width_of kind) (length xs)))
-  where
-    more : (w n : ℕ) → w + w * n ≡ w * suc n
-    more w n = omega arith
 
 one_more : (kind : SampleKind) (piece : List ℤ) (i : ℕ) → i < length piece → samples_text kind (take (i + 1) piece) ≡ samples_text kind (take i piece) ++ sample_bytes kind (get_or piece i (pos 0))
 one_more kind piece i lt =

@@ -5,7 +5,7 @@ use Rattle.iso_defs.specs.Grid.{Grid}
 use Rattle.iso_base.specs.Volume.{Voxels}
 use Rattle.iso_base.specs.declared.kind.SampleKind.{SampleKind}
 use Rattle.iso_base.specs.declared.kind.SampleKind.TheVariants.{I8, U8, I16, U16, I32, U32}
-use Rattle.text_samples.specs.Samples.{sample_bytes}
+pub use Rattle.text_samples.specs.Samples.{samples_text}
 use Rattle.nrrd_text.specs.Writing.{hex_line, text_line}
 use Rattle.nrrd_read.specs.declared.encoding.Encoding.{Encoding}
 use Rattle.nrrd_read.specs.declared.encoding.Encoding.TheVariants.{Raw, Text, Hex}
@@ -49,10 +49,6 @@ coded_by hex = if hex then Hex else Text
 
 abbrev pub coded_head_text : Grid → SampleKind → Bool → List ℕ
 coded_head_text e kind hex = head_in (coded_by hex) e kind
-
--- the bytes of samples
-abbrev pub samples_text : SampleKind → List ℤ → List ℕ
-samples_text kind values = flat_map (sample_bytes kind) values
 
 -- a whole volume, raw
 abbrev pub save_text : Voxels → List ℕ

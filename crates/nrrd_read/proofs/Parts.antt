@@ -1,5 +1,5 @@
 -- Samples of an index, and runs of them.
-use Rattle.std.proofs.Common.{◌≡◌, ℕ, ◌+◌, ◌*◌, ◌<◌, ◌≤◌, Bool, List, length, get_or, map, take, drop, sym, ap, ◌∙◌, arith, pos}
+use Rattle.std.proofs.Common.{◌≡◌, ℕ, ◌+◌, ◌*◌, ◌<◌, ◌≤◌, Bool, List, length, get_or, map, take, drop, sym, ap, ◌∙◌, arith, pos, ℤ}
 use Rattle.std.specs.List.{range_with_len}
 use Rattle.std.proofs.Math.Nat.{mul-le-mul_left}
 use Rattle.std.proofs.lemmas.List.{drop-drop, get_or-take, get_or-drop, length-take-le, length-drop}
@@ -7,7 +7,7 @@ use Rattle.std.proofs.lemmas.List.FromFn.{fill_by_all, get_or-map-range_with_len
 use Rattle.iso_base.specs.Samples.{width_of}
 use Rattle.iso_base.specs.declared.kind.SampleKind.{SampleKind}
 use Rattle.text_samples.specs.Samples.{number_in, as_kind, sample_of, samples_in}
-use Rattle.nrrd_read.proofs.SampleLaws.{length_samples, same_map}
+use Rattle.nrrd_read.proofs.SampleLaws.{length_samples}
 
 -- the sample of an index
 pub one_sample : (kind : SampleKind) (big : Bool) (bytes : List ℕ) (count i : ℕ) → i < count → get_or (samples_in kind big bytes count) i (pos 0) ≡ sample_of kind big bytes i
@@ -33,9 +33,9 @@ run_at kind big bytes count a n le =
     sym (fill_by_all (λ k. sample_of kind big bytes (a + k)) (take n (drop a all)) n (pos 0) (length-take-le n (drop a all) rest)
     (λ k lt. get_or-take n (drop a all) k (pos 0) lt ∙ get_or-drop a all k (pos 0) ∙ one_sample kind big bytes count (a + k) (omega arith)))
 
--- and so is one that is read behind those before it
-pub run_is : (kind : SampleKind) (big : Bool) (bytes : List ℕ) (count a n : ℕ) → a + n ≤ count
-    → samples_in kind big (drop (width_of kind * a) bytes) n ≡ take n (drop a (samples_in kind big bytes count))
-run_is kind big bytes count a n le =
-    same_map (sample_of kind big (drop (width_of kind * a) bytes)) (λ k. sample_of kind big bytes (a + k)) (range_with_len 0 n) (λ k. sym (behind kind big bytes a k))
-    ∙ run_at kind big bytes count a n le
+-- so many samples of a list from a place on
+pub part_is : (samples : List ℤ) (a n : ℕ) → a + n ≤ length samples → map (λ k. get_or samples (a + k) (pos 0)) (range_with_len 0 n) ≡ take n (drop a samples)
+part_is samples a n le =
+    let rest : n ≤ length (drop a samples) = omega (arith, length-drop a samples) in
+    sym (fill_by_all (λ k. get_or samples (a + k) (pos 0)) (take n (drop a samples)) n (pos 0) (length-take-le n (drop a samples) rest)
+    (λ k lt. get_or-take n (drop a samples) k (pos 0) lt ∙ get_or-drop a samples k (pos 0)))

@@ -1,4 +1,4 @@
--- Volumes whose samples stay in the bytes of their files.
+-- Volumes whose samples lie in bytes.
 use Rattle.std.specs.Prelude.{ℕ, ◌*◌, ◌<◌, ◌≤◌, ◌^◌, Bool, List, length}
 use Rattle.iso_defs.specs.Grid.{Grid, point_count}
 use Rattle.iso_base.specs.Samples.{width_of}

@@ -1,4 +1,4 @@
--- The samples of a volume in its file, of any kind and byte order.
+-- The samples of a volume in bytes, of any kind and byte order.
 use Rattle.std.specs.Prelude.{ℤ, List}
 use Rattle.nrrd_read.specs.declared.kinds.RawSamples.{RawSamples}
 use Rattle.nrrd_read.specs.declared.kinds.RawSamples.TheVariants.{Unsigned8, Signed8, Unsigned16Little, Unsigned16Big, Signed16Little, Signed16Big, Unsigned32Little, Unsigned32Big, Signed32Little, Signed32Big}

@@ -1,4 +1,4 @@
-//! The samples of a volume in the bytes of its file.
+//! The samples of a volume in bytes.
 ghost use Rattle.std.specs.Prelude.{◌≡◌, ◌+◌, ◌*◌, ◌<◌, ◌≤◌, ◌^◌, All, length, map};
 ghost use Rattle.std.specs.List.{range_with_len};
 ghost use Rattle.iso_base.specs.Samples.{width_of};

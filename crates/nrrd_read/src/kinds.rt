@@ -1,4 +1,4 @@
-//! The samples of a volume in its file, in the type of their kind and byte order.
+//! The samples of a volume in bytes, in the type of their kind and byte order.
 ghost use Rattle.std.specs.Prelude.{◌≡◌};
 
 use crate::in_bytes::InBytes;
@@ -7,7 +7,7 @@ use crate::lies::{
     Unsigned16Little, Unsigned32Big, Unsigned32Little,
 };
 
-/// The samples of a volume in the bytes of its file, by their kind and byte order.
+/// The samples of a volume in bytes, by their kind and byte order.
 #[derive(Debug, Drop)]
 pub enum RawSamples<'a> {
     Unsigned8(InBytes<'a, Unsigned8>),
@@ -22,7 +22,7 @@ pub enum RawSamples<'a> {
     Signed32Big(InBytes<'a, Signed32Big>),
 }
 
-/// Does the same with the samples of a volume in its file whatever their kind and byte order, which are asked for once.
+/// Does the same with the samples of a volume in bytes whatever their kind and byte order, which are asked for once.
 /// `with_samples!(raw, samples => f(&samples))` names them `samples`, a value whose type has `Samples`.
 #[macro_export]
 macro_rules! with_samples {

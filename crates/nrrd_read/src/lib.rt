@@ -10,9 +10,8 @@ mod kinds;
 mod layout;
 mod lies;
 mod meaning;
-mod numbers;
 mod raw;
-mod runs;
+mod read;
 mod volume;
 
 pub use encoding::Encoding;
@@ -21,4 +20,5 @@ pub use in_bytes::InBytes;
 pub use kinds::RawSamples;
 pub use lies::Lies;
 pub use raw::RawVolume;
+pub use read::ReadVolume;
 pub use volume::{FileVolume, read_file_volume, read_volume};

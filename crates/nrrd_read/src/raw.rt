@@ -1,22 +1,22 @@
-//! Volumes in the bytes of their files.
-ghost use Rattle.std.specs.Prelude.{◌≡◌, ◌+◌, ◌*◌, ◌<◌, ◌≤◌, length, IfOk, map, take, drop, pos};
+//! Volumes in bytes, of their files or of their own.
+ghost use Rattle.std.specs.Prelude.{◌≡◌, ◌+◌, ◌*◌, ◌<◌, ◌≤◌, ◌^◌, length, IfOk, map, take, drop};
+ghost use Rattle.std.specs.List.{range_with_len};
 ghost use Rattle.iso_defs.specs.Grid.{point_count};
 ghost use Rattle.iso_base.specs.Samples.{width_of};
 ghost use Rattle.iso_base.specs.Volume.{IsVoxels, sample};
-ghost use Rattle.iso_base.specs.declared.kind.SampleKind.TheVariants as kinds;
 ghost use Rattle.nrrd_read.specs.Raw.{voxels_in};
 ghost use Rattle.nrrd_read.specs.RawKinds.{raw_list};
 
 use crate::in_bytes::InBytes;
 use crate::kinds::RawSamples;
-use crate::numbers::{sample_at, samples_of};
-use crate::runs::read_run;
+use crate::with_samples;
 use iso_base::{SampleKind, Sizes};
+use samples::Samples;
 use std::alloc::{AllocError, Global};
 use std::marker::Model;
 
-/// A volume in the bytes of its file: the samples stay there, and each is read when it is asked for. They are listed with
-/// x fastest and z slowest.
+/// A volume in bytes, those of its file or of a `ReadVolume`: the samples stay there, and each is read when it is asked for.
+/// They are listed with x fastest and z slowest.
 #[derive(Debug, Drop)]
 pub struct RawVolume<'a> {
     sizes: Sizes,
@@ -34,6 +34,34 @@ impl<'a> Model for RawVolume<'a> {
     ghost view = { λ v. voxels_in v.sizes v.kind v.big v.bytes.now };
 
     ghost invariant = { λ v. IsRaw v.sizes v.kind v.big v.bytes.now };
+}
+
+/// Each of so many samples from an index on.
+fn each_of<S: Samples>(
+    alloc: Global,
+    samples: &S,
+    start: u32,
+    count: u32,
+) -> Result<Vec<i64>, AllocError>
+    requires room { start + count ≤ length (S.list samples.now) }
+    requires few { start + count < 2 ^ 32 }
+    ensures { IfOk result (λ v. v.items ≡ map (λ k. sample (S.list samples.now) (start + k)) (range_with_len 0 count)) }
+{
+    (0..count).map(|k| samples.at(start + k)).collect(alloc)
+}
+
+/// So many samples from an index on, as a list.
+fn part_of<S: Samples>(
+    alloc: Global,
+    samples: &S,
+    start: u32,
+    count: u32,
+) -> Result<Vec<i64>, AllocError>
+    requires room { start + count ≤ length (S.list samples.now) }
+    requires few { start + count < 2 ^ 32 }
+    ensures { IfOk result (λ v. v.items ≡ take count (drop start (S.list samples.now))) }
+{
+    each_of(alloc, samples, start, count)
 }
 
 impl<'a> RawVolume<'a> {
@@ -67,15 +95,6 @@ impl<'a> RawVolume<'a> {
         self.kind
     }
 
-    /// The bytes of whole numbers of 8 bits, which are the samples themselves.
-    pub fn bytes(&self) -> &'a [u8]
-        requires { self.now.kind ≡ kinds.U8 }
-        ensures { map pos result.now ≡ self.now.samples }
-    {
-        let count = self.sizes.count() as usize;
-        &self.bytes[..count]
-    }
-
     /// The samples, in the type of their kind and byte order.
     pub fn samples(&self) -> RawSamples<'a>
         ensures { raw_list result ≡ self.now.samples }
@@ -95,33 +114,13 @@ impl<'a> RawVolume<'a> {
         }
     }
 
-    /// The sample of an index.
-    #[inline(always)]
-    pub fn at(&self, index: u32) -> i64
-        requires { index < length self.now.samples }
-        ensures { result ≡ sample self.now.samples index }
-    {
-        sample_at(self.kind, self.big, self.bytes, index as usize)
-    }
-
-    /// Copies the samples from an index on over the numbers of a list, as many as it has.
-    #[inline(always)]
-    pub fn copy_run(&self, start: u32, into: &mut [i64])
-        requires { start + length into.old ≤ length self.now.samples }
-        ensures { into.new ≡ take (length into.old) (drop start self.now.samples) }
-    {
-        // Reading a size brings in that the sizes are those of a grid.
-        let _ = self.sizes.nx();
-        read_run(self.kind, self.big, self.bytes, start as usize, into);
-    }
-
     /// So many samples from an index on.
     pub fn part(&self, alloc: Global, start: u32, count: u32) -> Result<Vec<i64>, AllocError>
         requires { start + count ≤ length self.now.samples }
         ensures { IfOk result (λ v. v.items ≡ take count (drop start self.now.samples)) }
     {
-        let first = self.kind.width() as usize * start as usize;
-        let (_, rest) = self.bytes.split_at(first);
-        samples_of(alloc, self.kind, self.big, rest, count as usize)
+        // Reading a size brings in that the sizes are those of a grid.
+        let _ = self.sizes();
+        with_samples!(self.samples(), samples => part_of(alloc, &samples, start, count))
     }
 }

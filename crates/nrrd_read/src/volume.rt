@@ -14,10 +14,11 @@ use crate::fault::NrrdFault;
 use crate::header::{Header, behind_header, read_fields};
 use crate::layout::{Layout, read_layout};
 use crate::raw::RawVolume;
+use crate::read::ReadVolume;
 use iso_base::VoxelData;
 use std::alloc::{AllocError, Global};
 use text_lines::next_line;
-use text_samples::{read_hex, read_text};
+use text_samples::{read_hex_bytes, read_text_bytes};
 
 /// The most bytes that a header may have.
 const HEADER_LIMIT: usize = 65_536;
@@ -81,21 +82,21 @@ fn raw_volume(layout: Layout, body: &[u8]) -> Result<(RawVolume<'_>, u64), NrrdF
 }
 
 /// The volume whose samples these bytes say as numbers, and the number of bytes after them.
-fn text_volume(alloc: Global, layout: Layout, body: &[u8]) -> Result<(VoxelData, u64), NrrdFault>
+fn text_volume(alloc: Global, layout: Layout, body: &[u8]) -> Result<(ReadVolume, u64), NrrdFault>
     ensures { Answers result (volume_of layout.sizes layout.kind (text_samples layout.kind (point_count layout.sizes) body.now)) }
 {
     let count = u64::from(layout.sizes.count());
-    let (samples, surplus) = read_text(alloc, body, layout.kind, count)?;
-    Ok((VoxelData::new(layout.sizes, layout.kind, samples), surplus))
+    let (bytes, surplus) = read_text_bytes(alloc, body, layout.kind, count)?;
+    Ok((ReadVolume::new(layout.sizes, layout.kind, bytes), surplus))
 }
 
 /// The volume whose samples stand in these bytes as hex digits, and the number of bytes after them.
-fn hex_volume(alloc: Global, layout: Layout, body: &[u8]) -> Result<(VoxelData, u64), NrrdFault>
+fn hex_volume(alloc: Global, layout: Layout, body: &[u8]) -> Result<(ReadVolume, u64), NrrdFault>
     ensures { Answers result (volume_of layout.sizes layout.kind (hex_samples layout.kind layout.big (point_count layout.sizes) body.now)) }
 {
     let count = u64::from(layout.sizes.count());
-    let (samples, surplus) = read_hex(alloc, body, layout.kind, layout.big, count)?;
-    Ok((VoxelData::new(layout.sizes, layout.kind, samples), surplus))
+    let (bytes, surplus) = read_hex_bytes(alloc, body, layout.kind, layout.big, count)?;
+    Ok((ReadVolume::new(layout.sizes, layout.kind, bytes), surplus))
 }
 
 /// A volume as its file holds it.
@@ -103,8 +104,8 @@ fn hex_volume(alloc: Global, layout: Layout, body: &[u8]) -> Result<(VoxelData, 
 pub enum FileVolume<'a> {
     /// The samples are raw, and stay in the bytes of the file.
     Raw(RawVolume<'a>),
-    /// The samples stood in print, and were read.
-    Read(VoxelData),
+    /// The samples stood in print, and were read into bytes of their own.
+    Read(ReadVolume),
 }
 
 /// The volume of a layout in the bytes of its samples, and the number of bytes after them.
@@ -145,26 +146,32 @@ pub fn read_file_volume(alloc: Global, bytes: &[u8]) -> Result<(FileVolume<'_>, 
     measured(alloc, layout, body)
 }
 
-/// The volume with its samples in memory.
-fn loaded(alloc: Global, volume: FileVolume<'_>) -> Result<VoxelData, AllocError>
-    ensures { IfOk result (λ v. v ≡ file_voxels volume.entry) }
+/// The volume with its samples in a list.
+fn listed(alloc: Global, volume: &RawVolume<'_>) -> Result<VoxelData, AllocError>
+    ensures { IfOk result (λ v. v ≡ volume.now) }
+{
+    let sizes = volume.sizes();
+    let samples = volume.part(alloc, 0, sizes.count())?;
+    Ok(VoxelData::new(sizes, volume.kind(), samples))
+}
+
+/// The volume of a file with its samples in a list, wherever they lie.
+fn loaded(alloc: Global, volume: &FileVolume<'_>) -> Result<VoxelData, AllocError>
+    ensures { IfOk result (λ v. v ≡ file_voxels volume.now) }
 {
     match volume {
-        FileVolume::Read(volume) => Ok(volume),
-        FileVolume::Raw(raw) => {
-            let sizes = raw.sizes();
-            let samples = raw.part(alloc, 0, sizes.count())?;
-            Ok(VoxelData::new(sizes, raw.kind(), samples))
-        }
+        FileVolume::Raw(raw) => listed(alloc, raw),
+        FileVolume::Read(read) => listed(alloc, &read.raw()),
     }
 }
 
 /// Reads a volume from the bytes of a file, and gives the number of bytes after its samples, which are not read.
-/// The refusals are those of `read_file_volume`; `Memory` is asked for once, for the samples.
+/// The refusals are those of `read_file_volume`; memory is asked for once for the list of the samples, and for samples in
+/// print once before.
 pub fn read_volume(alloc: Global, bytes: &[u8]) -> Result<(VoxelData, u64), NrrdFault>
     ensures { Answers result (nrrd_of bytes.now) }
 {
     let (volume, surplus) = read_file_volume(alloc, bytes)?;
-    let volume = loaded(alloc, volume)?;
+    let volume = loaded(alloc, &volume)?;
     Ok((volume, surplus))
 }

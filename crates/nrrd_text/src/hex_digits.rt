@@ -3,12 +3,12 @@
 ghost use Rattle.std.specs.Prelude.{◌≡◌, ◌+◌, ◌*◌, ◌≤◌, ◌<◌, ◌++◌, take, length, map, All};
 ghost use Rattle.iso_base.specs.Samples.{IsOfKind};
 ghost use Rattle.nrrd_text.specs.Pairs.{ArePairs};
-ghost use Rattle.text_samples.specs.Samples.{bits_of};
 ghost use Rattle.nrrd_text.specs.Writing.{byte_digits, hex_digit, sample_digits, samples_digits};
 
 use iso_base::SampleKind;
 use samples::{Packed, sample_at};
 use std::marker::Model;
+use text_samples::bits_of;
 
 /// A small hex digit.
 #[inline(always)]
@@ -93,20 +93,6 @@ fn put_byte(pairs: &[[u8; 2]], b: u8, room: &mut [u8], at: usize) -> usize
     room[at] = high;
     room[at + 1] = low;
     at + 2
-}
-
-/// The bits of a sample as a number.
-#[inline(always)]
-fn bits_of(kind: SampleKind, value: i64) -> u32
-    requires { IsOfKind kind value }
-    ensures { result ≡ bits_of kind value }
-{
-    match kind {
-        SampleKind::I8 if value < 0 => (value + 0x100) as u32,
-        SampleKind::I16 if value < 0 => (value + 0x1_0000) as u32,
-        SampleKind::I32 if value < 0 => (value + 0x1_0000_0000) as u32,
-        _ => value as u32,
-    }
 }
 
 /// Writes the digits of a sample's bytes, the lowest byte first.

@@ -34,3 +34,11 @@ fn edges_of_signed_samples(rt: HostRuntime) -> Result<(), Fail> {
     check_edges(&rt, &edges(rt.alloc(), text)?, &[375, 375, 375]);
     Ok(())
 }
+
+#[test]
+fn edges_of_numbers_in_print(rt: HostRuntime) -> Result<(), Fail> {
+    let text =
+        b"NRRD0004\ntype: int8\ndimension: 3\nsizes: 2 2 2\nencoding: text\n\n10 -10 -10 -10 -10 -10 -10 -10\n";
+    check_edges(&rt, &edges(rt.alloc(), text)?, &[375, 375, 375]);
+    Ok(())
+}

@@ -3,10 +3,11 @@
 use iso_base::{SampleKind, Sizes, VoxelData};
 use iso_io::{Failed, MemSink};
 use nrrd::{
-    FileVolume, NrrdFault, RawVolume, put_coded_head, put_nrrd_head, put_samples, read_file_volume,
-    read_volume,
+    FileVolume, NrrdFault, RawSamples, RawVolume, put_coded_head, put_nrrd_head, put_samples,
+    read_file_volume, read_volume,
 };
-use nrrd_text::{put_hex, put_text};
+use nrrd_text::{put_hex, put_text, read_hex, read_hex_bytes, read_text, read_text_bytes};
+use samples::Samples;
 use std::alloc::Global;
 use std::process::Abort;
 use std::test::Fail;
@@ -62,6 +63,7 @@ fn a_written_volume_is_read_again(rt: HostRuntime) -> Result<(), Fail> {
     check_written(&rt, rt.alloc(), text, samples, &mut sink)
 }
 
+/// Two samples behind the first five.
 fn check_part(rt: &impl Abort, alloc: Global, volume: &RawVolume<'_>) -> Result<(), Fail> {
     assert!(rt; volume.sizes().count() == 8);
     let part = volume.part(alloc, 5, 2)?;
@@ -69,10 +71,20 @@ fn check_part(rt: &impl Abort, alloc: Global, volume: &RawVolume<'_>) -> Result<
     Ok(())
 }
 
+/// The sample at this place, where the samples are of this kind and byte order.
+fn sample_of(volume: &RawVolume<'_>, place: u32) -> Option<i64> {
+    if place >= volume.sizes().count() {
+        return None;
+    }
+    match volume.samples() {
+        RawSamples::Signed16Little(samples) => Some(samples.at(place)),
+        _ => None,
+    }
+}
+
 /// Eight samples, the last of which is the least of its kind.
 fn check_raw(rt: &impl Abort, alloc: Global, volume: &RawVolume<'_>) -> Result<(), Fail> {
-    assert!(rt; volume.sizes().count() == 8);
-    assert!(rt; volume.at(7) == -32_768);
+    assert!(rt; sample_of(volume, 7) == Some(-32_768));
     check_part(rt, alloc, volume)
 }
 
@@ -86,6 +98,44 @@ fn samples_in_the_bytes_of_a_file(rt: HostRuntime) -> Result<(), Fail> {
     };
     assert!(rt; surplus == 0);
     check_raw(&rt, rt.alloc(), &volume)
+}
+
+#[test]
+fn samples_in_print_lie_in_bytes(rt: HostRuntime) -> Result<(), Fail> {
+    let text =
+        b"NRRD0001\ntype: int16\ndimension: 3\nsizes: 2 2 2\nencoding: text\n\n1 2 3 4 5 6 -1 -32768";
+    let (volume, surplus) = read_file_volume(rt.alloc(), text)?;
+    let FileVolume::Read(volume) = volume else {
+        return Err("samples in print are read")?;
+    };
+    assert!(rt; surplus == 0);
+    check_raw(&rt, rt.alloc(), &volume.raw())
+}
+
+/// Samples of four bytes each, the high one first, and their bytes, the low one first.
+const WIDE: (&[u8], [i64; 2], &[u8]) = (
+    b"00010203 fffffffe!",
+    [66_051, -2],
+    b"\x03\x02\x01\x00\xfe\xff\xff\xff",
+);
+
+#[test]
+fn hex_digits_into_numbers_and_bytes(rt: HostRuntime) -> Result<(), Fail> {
+    let (digits, numbers, bytes) = WIDE;
+    let (list, left) = read_hex(rt.alloc(), digits, SampleKind::I32, true, 2)?;
+    assert!(rt; left == 1 && list.as_slice() == numbers.as_slice());
+    let (list, left) = read_hex_bytes(rt.alloc(), digits, SampleKind::I32, true, 2)?;
+    assert!(rt; left == 1 && list.as_slice() == bytes);
+    Ok(())
+}
+
+#[test]
+fn words_into_numbers_and_bytes(rt: HostRuntime) -> Result<(), Fail> {
+    let (list, left) = read_text(rt.alloc(), b"7,255 !", SampleKind::U8, 2)?;
+    assert!(rt; left == 2 && list.as_slice() == [7, 255].as_slice());
+    let (list, left) = read_text_bytes(rt.alloc(), b"7,255 !", SampleKind::U8, 2)?;
+    assert!(rt; left == 2 && list.as_slice() == b"\x07\xff".as_slice());
+    Ok(())
 }
 
 // The files are laid out as the format's usual tool does: ten numbers a line, spaces before numbers of hex digits' lines,

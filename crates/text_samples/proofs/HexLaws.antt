@@ -1,5 +1,5 @@
 -- Hex digits one after the other, against the list of all of them.
-use Rattle.std.proofs.Common.{◌≡◌, ℕ, zero, suc, ◌+◌, ◌-◌, ◌*◌, ◌/◌, ◌<◌, ◌≤◌, Bool, true, false, cond, ltb, ℤ, List, [], ◌∷◌, ◌++◌, length, get_or, map, take, drop, Option, Some, None, Result, Ok, Err, refl, sym, ap, ◌∙◌, subst, arith, add-zero, All, inl, inr}
+use Rattle.std.proofs.Common.{◌≡◌, ℕ, zero, suc, ◌+◌, ◌-◌, ◌*◌, ◌/◌, ◌<◌, ◌≤◌, Bool, true, false, cond, ltb, ℤ, List, [], ◌∷◌, ◌++◌, length, get_or, map, take, drop, Option, Some, None, Result, Ok, Err, refl, sym, ap, ◌∙◌, arith, add-zero, All, inl, inr}
 use Rattle.std.specs.Prelude.{ok_or}
 use Rattle.std.proofs.lemmas.Bool.{cases_Bool, lt-ltb, le-ltb}
 use Rattle.std.proofs.lemmas.Bool.Decides.{nat_tests}
@@ -320,14 +320,14 @@ at_first kind big count bytes =
     (Err (Short (digits_needed kind count) n)) (Ok (samples_in kind big (paired digits) count, length (after_marks (digits_needed kind count) bytes (marks_in bytes))))))
     all))
 
-pub begins : (kind : SampleKind) (big : Bool) (count : ℕ) (bytes : List ℕ) (done : List ℤ) → done ≡ [] → IsDecoding kind big count bytes 0 done bytes
-begins kind big count bytes done none =
+pub begins : (kind : SampleKind) (big : Bool) (count : ℕ) (bytes : List ℕ) → IsDecoding kind big count bytes 0 [] bytes
+begins kind big count bytes =
     let e : count ≡ count - 0 = omega arith in
-    subst (λ l. IsDecoding kind big count bytes 0 l bytes) (sym none) (record {
+    record {
       read = at_first kind big count bytes ∙ ap (λ n. decoding kind big count [] 0 n bytes) e;
       each = All-nil (IsOfKind kind);
       number = refl;
-    })
+    }
 
 -- at the end
 abbrev finished : ℕ → List ℤ → Result (List ℤ × ℕ) SampleFault

@@ -1,5 +1,5 @@
 -- The samples of a text, word by word.
-use Rattle.std.proofs.Common.{◌≡◌, ℕ, suc, ◌+◌, ◌-◌, ◌<◌, ◌≤◌, true, false, cond, ltb, ℤ, List, [], ◌∷◌, ◌++◌, length, take, Some, None, Result, Ok, Err, refl, sym, ap, ◌∙◌, subst, arith, add-zero, All}
+use Rattle.std.proofs.Common.{◌≡◌, ℕ, suc, ◌+◌, ◌-◌, ◌<◌, ◌≤◌, true, false, cond, ltb, ℤ, List, [], ◌∷◌, ◌++◌, length, take, Some, None, Result, Ok, Err, refl, sym, ap, ◌∙◌, arith, add-zero, All}
 use Rattle.std.proofs.lemmas.Bool.{le-ltb, lt-ltb}
 use Rattle.std.proofs.lemmas.Bool.Decides.{nat_tests}
 use Rattle.std.proofs.lemmas.List.{append_assoc, append-nil}
@@ -111,11 +111,11 @@ pub record IsReading (kind : SampleKind) (count : ℕ) (bytes : List ℕ) (place
   pub number : length done ≡ place
 
 -- it holds at the start, where nothing is read yet
-pub begins : (kind : SampleKind) (count : ℕ) (bytes : List ℕ) (done : List ℤ) → done ≡ [] → IsReading kind count bytes 0 done bytes
-begins kind count bytes done none =
+pub begins : (kind : SampleKind) (count : ℕ) (bytes : List ℕ) → IsReading kind count bytes 0 [] bytes
+begins kind count bytes =
     let e : count ≡ count - 0 = omega arith in
-    subst (λ l. IsReading kind count bytes 0 l bytes) (sym none) (record {
+    record {
       read = at_first kind count bytes ∙ ap (λ n. onward kind [] 0 n bytes (words_in bytes)) e;
       each = All-nil (IsOfKind kind);
       number = refl;
-    })
+    }

@@ -1,14 +1,16 @@
 //! Samples as the hex digits of their bytes.
 ghost use Rattle.std.specs.Prelude.{◌≡◌, ℕ, true, false, nat_le, nat_lt, if◌then◌else◌, Some, None, ◌&&◌, ◌-◌, ◌<◌, ◌≤◌, ◌+◌, ◌*◌, ◌^◌, ◌∷◌, []};
-ghost use Rattle.std.specs.Prelude.{length, IfOk, IfErr, IfSome, MatchOption, All};
+ghost use Rattle.std.specs.Prelude.{length, Ok, IfOk, IfErr, IfSome, MatchOption, All};
 ghost use Rattle.iso_base.specs.Samples.{IsOfKind, width_of};
 ghost use Rattle.text_samples.specs.Answers.{Fails};
-ghost use Rattle.text_samples.specs.Samples.{as_kind, number_in};
+ghost use Rattle.text_samples.specs.Gathered.{IsReadInto};
+ghost use Rattle.text_samples.specs.Samples.{as_kind, number_in, samples_in};
 ghost use Rattle.text_samples.specs.HexScan.{byte_read, digit_read, map_ok, number_read, sample_read};
 ghost use Rattle.text_samples.specs.Hex.{hex_samples, hex_value, marks_in};
 ghost use Rattle.text_samples.specs.declared.hex.Wanted.{Wanted};
 
 use crate::fault::SampleFault;
+use crate::gathered::Gather;
 use crate::words::is_separator;
 use iso_base::SampleKind;
 use std::alloc::Global;
@@ -243,6 +245,35 @@ fn sample(
     Ok((value_of(kind, number), rest))
 }
 
+/// Reads so many samples from hex digits, and gives the number of bytes after the last digit needed beside them.
+fn gather<G: Gather>(
+    alloc: Global,
+    bytes: &[u8],
+    kind: SampleKind,
+    big: bool,
+    count: u64,
+) -> Result<(G, u64), SampleFault>
+    requires some { 1 ≤ count }
+    requires limit { count ≤ 160000000 }
+    ensures ok { IfOk result (λ r. IsReadInto (G.Holds r.0 kind) kind count (hex_samples kind big count bytes.now) r.1) }
+    ensures err { IfErr result (λ fault. Fails fault (hex_samples kind big count bytes.now)) }
+{
+    let each = 2 * u64::from(kind.width());
+    let wanted = Wanted {
+        needed: each * count,
+        each,
+    };
+    let room = (bytes.len() / 2 + 1).min(count as usize);
+    let mut samples = G::with_room(alloc, kind, room)?;
+    let mut rest = bytes;
+    for place in 0..count {
+        let (value, after) = sample(rest, kind, big, each * place, wanted)?;
+        samples.add(kind, value)?;
+        rest = after;
+    }
+    Ok((samples, rest.len() as u64))
+}
+
 /// Reads so many samples from the hex digits of their bytes, two of either case a byte and the high one first, whatever
 /// separators stand between them; the high byte of a sample comes first or last. Beside them it gives the number of bytes
 /// after the last digit needed. A separator is a space, a tab, a line feed, a vertical tab, a form feed, a return or a comma.
@@ -264,18 +295,23 @@ pub fn read_hex(
     ensures number { IfOk result (λ r. length r.0.items ≡ count) }
     ensures err { IfErr result (λ fault. Fails fault (hex_samples kind big count bytes.now)) }
 {
-    let each = 2 * u64::from(kind.width());
-    let wanted = Wanted {
-        needed: each * count,
-        each,
-    };
-    let room = (bytes.len() / 2 + 1).min(count as usize);
-    let mut samples = Vec::with_capacity(alloc, room)?;
-    let mut rest = bytes;
-    for place in 0..count {
-        let (value, after) = sample(rest, kind, big, each * place, wanted)?;
-        samples.push(value)?;
-        rest = after;
-    }
-    Ok((samples, rest.len() as u64))
+    gather(alloc, bytes, kind, big, count)
+}
+
+/// Reads samples as `read_hex` does, into their bytes: 1, 2 or 4 each, as the kind has, the low byte first, in whichever
+/// order the digits have them.
+pub fn read_hex_bytes(
+    alloc: Global,
+    bytes: &[u8],
+    kind: SampleKind,
+    big: bool,
+    count: u64,
+) -> Result<(Vec<u8>, u64), SampleFault>
+    requires some { 1 ≤ count }
+    requires limit { count ≤ 160000000 }
+    ensures ok { IfOk result (λ r. hex_samples kind big count bytes.now ≡ Ok (samples_in kind false r.0.items count, r.1)) }
+    ensures size { IfOk result (λ r. length r.0.items ≡ width_of kind * count) }
+    ensures err { IfErr result (λ fault. Fails fault (hex_samples kind big count bytes.now)) }
+{
+    gather(alloc, bytes, kind, big, count)
 }

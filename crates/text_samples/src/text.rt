@@ -1,10 +1,13 @@
 //! Samples as decimal numbers.
-ghost use Rattle.std.specs.Prelude.{◌≡◌, ◌≤◌, ◌+◌, length, IfOk, IfErr, IfSome, All};
-ghost use Rattle.iso_base.specs.Samples.{IsOfKind};
+ghost use Rattle.std.specs.Prelude.{◌≡◌, ◌≤◌, ◌+◌, ◌*◌, false, length, Ok, IfOk, IfErr, IfSome, All};
+ghost use Rattle.iso_base.specs.Samples.{IsOfKind, width_of};
 ghost use Rattle.text_samples.specs.Answers.{Fails};
+ghost use Rattle.text_samples.specs.Gathered.{IsReadInto};
+ghost use Rattle.text_samples.specs.Samples.{samples_in};
 ghost use Rattle.text_samples.specs.Text.{sample_said, text_samples};
 
 use crate::fault::SampleFault;
+use crate::gathered::Gather;
 use crate::words::next_word;
 use iso_base::SampleKind;
 use std::alloc::Global;
@@ -23,6 +26,37 @@ fn sample(word: &[u8], kind: SampleKind) -> Option<i64>
     } else {
         None
     }
+}
+
+/// Reads so many samples from a text, and gives the number of bytes after the last of its words beside them.
+fn gather<G: Gather>(
+    alloc: Global,
+    bytes: &[u8],
+    kind: SampleKind,
+    count: u64,
+) -> Result<(G, u64), SampleFault>
+    requires some { 1 ≤ count }
+    requires limit { count ≤ 160000000 }
+    ensures ok { IfOk result (λ r. IsReadInto (G.Holds r.0 kind) kind count (text_samples kind count bytes.now) r.1) }
+    ensures err { IfErr result (λ fault. Fails fault (text_samples kind count bytes.now)) }
+{
+    let room = (bytes.len() / 2 + 1).min(count as usize);
+    let mut samples = G::with_room(alloc, kind, room)?;
+    let mut rest = bytes;
+    for place in 0..count {
+        let Some((word, after)) = next_word(rest) else {
+            return Err(SampleFault::Short {
+                needed: count,
+                present: place,
+            });
+        };
+        let Some(value) = sample(word, kind) else {
+            return Err(SampleFault::Bad { place });
+        };
+        samples.add(kind, value)?;
+        rest = after;
+    }
+    Ok((samples, rest.len() as u64))
 }
 
 /// Reads so many samples from a text: the first words between separators, each a number in the range of the kind. Beside them
@@ -45,21 +79,21 @@ pub fn read_text(
     ensures number { IfOk result (λ r. length r.0.items ≡ count) }
     ensures err { IfErr result (λ fault. Fails fault (text_samples kind count bytes.now)) }
 {
-    let room = (bytes.len() / 2 + 1).min(count as usize);
-    let mut samples = Vec::with_capacity(alloc, room)?;
-    let mut rest = bytes;
-    for place in 0..count {
-        let Some((word, after)) = next_word(rest) else {
-            return Err(SampleFault::Short {
-                needed: count,
-                present: place,
-            });
-        };
-        let Some(value) = sample(word, kind) else {
-            return Err(SampleFault::Bad { place });
-        };
-        samples.push(value)?;
-        rest = after;
-    }
-    Ok((samples, rest.len() as u64))
+    gather(alloc, bytes, kind, count)
+}
+
+/// Reads samples as `read_text` does, into their bytes: 1, 2 or 4 each, as the kind has, the low byte first.
+pub fn read_text_bytes(
+    alloc: Global,
+    bytes: &[u8],
+    kind: SampleKind,
+    count: u64,
+) -> Result<(Vec<u8>, u64), SampleFault>
+    requires some { 1 ≤ count }
+    requires limit { count ≤ 160000000 }
+    ensures ok { IfOk result (λ r. text_samples kind count bytes.now ≡ Ok (samples_in kind false r.0.items count, r.1)) }
+    ensures size { IfOk result (λ r. length r.0.items ≡ width_of kind * count) }
+    ensures err { IfErr result (λ fault. Fails fault (text_samples kind count bytes.now)) }
+{
+    gather(alloc, bytes, kind, count)
 }

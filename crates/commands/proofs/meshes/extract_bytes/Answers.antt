@@ -1,9 +1,9 @@
-use Rattle.std.proofs.Common.{◌≡◌, ◌∙◌, Ok, ap, refl, sym, subst}
-use Rattle.iso_base.specs.Volume.{Voxels, unpadded}
+use Rattle.std.proofs.Common.{◌≡◌, ◌∙◌, ap, refl, sym, subst}
+use Rattle.iso_base.specs.Volume.{unpadded}
 use Rattle.iso_base.proofs.VolumeLaws.{unpadded_is}
 use Rattle.nrrd_read.specs.Files.{IsRead, file_voxels}
 use Rattle.nrrd_read.specs.Nrrd.{nrrd_of, Fails}
-use Rattle.commands.specs.Meaning.{mesh_given, mesh_in}
+use Rattle.commands.specs.Meaning.{mesh_given}
 use Rattle.point_command.specs.Outcome.{WritesGiven}
 use Rattle.point_command.specs.Volumes.{volume_answer, volume_refusal}
 use Rattle.point_command.proofs.ReadVolumes.{no_volume}
@@ -46,25 +46,23 @@ returns-in-Err-clause-text g c =
 pub returns-clause-text : goal.returns-clause-text
 returns-clause-text g c =
     let bytes = c.args.bytes.items in
-    let found : Voxels = c.in-Ok-Read-default.read in
-    let v = unpadded found in
+    let v = unpadded c.raw.result in
     let read : IsRead bytes v = (
       (file_voxels c.in-Ok-Read-default.field-0-0, c.in-Ok-Read-default.field-0-1),
       ap nrrd_of (sym c.deref.ensures.value) ∙ c.in-Ok-Read-default.ensures,
-      sym (ap (λ volume. unpadded (file_voxels volume)) c.in-Ok-Read-default.field-0-0-is),
+      ap unpadded c.raw.ensures ∙ sym (ap (λ volume. unpadded (file_voxels volume)) c.in-Ok-Read-default.field-0-0-is),
     ) in
-    of_read c.args.asked.level c.args.asked.pad c.args.asked.format bytes v (g.K.Sink.seen c.args.output.now) (g.K.Sink.seen c.extract_samples.new.output) c.extract_samples.result
-    read (c.extract_samples.ensures v (sym c.sizes.ensures.value) refl refl)
+    of_read c.args.asked.level c.args.asked.pad c.args.asked.format bytes v (g.K.Sink.seen c.args.output.now) (g.K.Sink.seen c.extract_raw-2.new.output) c.extract_raw-2.result
+    read c.extract_raw-2.ensures.text
 
 pub returns-clause-surface : goal.returns-clause-surface
 returns-clause-surface g c =
     let bytes = c.args.bytes.items in
-    let found : Voxels = c.in-Ok-Read-default.read in
-    let v = unpadded found in
+    let v = unpadded c.raw.result in
     let read : IsRead bytes v = (
       (file_voxels c.in-Ok-Read-default.field-0-0, c.in-Ok-Read-default.field-0-1),
       ap nrrd_of (sym c.deref.ensures.value) ∙ c.in-Ok-Read-default.ensures,
-      sym (ap (λ volume. unpadded (file_voxels volume)) c.in-Ok-Read-default.field-0-0-is),
+      ap unpadded c.raw.ensures ∙ sym (ap (λ volume. unpadded (file_voxels volume)) c.in-Ok-Read-default.field-0-0-is),
     ) in
-    done_watertight c.args.asked.level c.args.asked.pad c.args.asked.format bytes v (g.K.Sink.seen c.args.output.now) (g.K.Sink.seen c.extract_samples.new.output) c.extract_samples.result
-    read (unpadded_is found c.sizes.ensures.voxels) refl c.requires (c.extract_samples.ensures v (sym c.sizes.ensures.value) refl refl)
+    done_watertight c.args.asked.level c.args.asked.pad c.args.asked.format bytes v (g.K.Sink.seen c.args.output.now) (g.K.Sink.seen c.extract_raw-2.new.output) c.extract_raw-2.result
+    read (unpadded_is c.raw.result c.extract_raw-2.ensures.voxels) refl c.requires c.extract_raw-2.ensures.text
