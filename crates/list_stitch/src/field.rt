@@ -1,7 +1,10 @@
 //! A volume in a list at a level: its shifted values.
-ghost use Rattle.std.specs.Prelude.{◌≡◌, ◌+◌, ◌<◌, ◌≤◌, ◌^◌, ℤ, All, true, unsigned_abs};
+ghost use Rattle.std.specs.Prelude.{◌≡◌, ◌+◌, ◌<◌, ◌≤◌, ◌^◌, ℤ, All, map, true, unsigned_abs};
 ghost use Rattle.iso_defs.specs.Grid.{index};
 ghost use Rattle.iso_base.specs.Points.{IsPoint, index_of};
+ghost use Rattle.iso_base.specs.Samples.{IsSample};
+ghost use Rattle.iso_base.specs.Shifted.{shifted};
+ghost use Rattle.iso_base.specs.Volume.{sample};
 ghost use Rattle.flat_mesh.specs.Centres.{IsCellAt};
 ghost use Rattle.flat_mesh.specs.Cases.{values_at};
 ghost use Rattle.flat_mesh.specs.Lattice.{IsLeveled, heights};
@@ -9,7 +12,7 @@ ghost use Rattle.stitch.specs.Ends.{AreEnds};
 
 use flat_mesh::{Cell, Heights};
 use iso_base::{Level, Point, Sizes};
-use samples::Samples;
+use samples::{Samples, each_corner};
 use std::marker::Model;
 use stitch::Ends;
 
@@ -63,22 +66,34 @@ impl<'a, S: Samples> ListField<'a, S> {
             .shifted(self.samples.at_point(&self.sizes, point))
     }
 
-    /// The shifted value of a point of a cell, so many points on along each axis from its lowest one.
+    /// The shifted value of one of the samples at the corners of a cell.
     #[inline(always)]
-    fn corner(&self, cell: Cell, right: u32, up: u32, far: u32) -> i64
-        requires cell { IsCellAt self.now.grid cell }
-        requires right { right ≤ 1 }
-        requires up { up ≤ 1 }
-        requires far { far ≤ 1 }
-        ensures value { result ≡ heights self.now (index self.now.grid (cell.low.x + right) (cell.low.y + up) (cell.low.z + far)) }
+    fn height_of(&self, corners: &[i64; 8], corner: usize) -> i64
+        requires range { All IsSample corners.now }
+        requires corner { corner < 8 }
+        ensures value { result ≡ shifted (sample corners.now corner) self.now.level }
         ensures bound { unsigned_abs result < 2 ^ 44 }
     {
-        let _ = self.sizes();
-        self.height(Point {
-            x: cell.low.x + right,
-            y: cell.low.y + up,
-            z: cell.low.z + far,
-        })
+        self.level.shifted(corners[corner])
+    }
+
+    /// The shifted values of the samples at the corners of a cell.
+    #[inline(always)]
+    fn heights_of(&self, corners: &[i64; 8]) -> [i64; 8]
+        requires { All IsSample corners.now }
+        ensures values { result ≡ map (λ s. shifted s self.now.level) corners.now }
+        ensures bound { All (λ v. unsigned_abs v < 2 ^ 44) result }
+    {
+        [
+            self.height_of(corners, 0),
+            self.height_of(corners, 1),
+            self.height_of(corners, 2),
+            self.height_of(corners, 3),
+            self.height_of(corners, 4),
+            self.height_of(corners, 5),
+            self.height_of(corners, 6),
+            self.height_of(corners, 7),
+        ]
     }
 
     /// The shifted values at the corners of a cell.
@@ -87,16 +102,10 @@ impl<'a, S: Samples> ListField<'a, S> {
         ensures values { result ≡ values_at self.now cell.index }
         ensures bound { All (λ v. unsigned_abs v < 2 ^ 44) result }
     {
-        [
-            self.corner(cell, 0, 0, 0),
-            self.corner(cell, 1, 0, 0),
-            self.corner(cell, 0, 1, 0),
-            self.corner(cell, 1, 1, 0),
-            self.corner(cell, 0, 0, 1),
-            self.corner(cell, 1, 0, 1),
-            self.corner(cell, 0, 1, 1),
-            self.corner(cell, 1, 1, 1),
-        ]
+        match self.samples.corners_at_once(&self.sizes, cell.low) {
+            Some(corners) => self.heights_of(&corners),
+            None => self.heights_of(&each_corner(self.samples, &self.sizes, cell.low)),
+        }
     }
 
     /// The shifted value of a point where it is in the grid, else the other one.
@@ -110,8 +119,8 @@ impl<'a, S: Samples> ListField<'a, S> {
         if there { self.height(point) } else { other }
     }
 
-    /// The shifted values at a point and at the next ones.
-    pub fn ends(&self, point: Point) -> Ends
+    /// The shifted values at a point and at the next ones, each asked for by its point.
+    fn each_end(&self, point: Point) -> Ends
         requires { IsPoint self.now.grid point }
         ensures { AreEnds self.now point.x point.y point.z result }
     {
@@ -123,6 +132,24 @@ impl<'a, S: Samples> ListField<'a, S> {
             right: self.height_or(here, x + 1 < sizes.nx(), Point { x: x + 1, y, z }),
             up: self.height_or(here, y + 1 < sizes.ny(), Point { x, y: y + 1, z }),
             far: self.height_or(here, z + 1 < sizes.nz(), Point { x, y, z: z + 1 }),
+        }
+    }
+
+    /// The shifted values at a point and at the next ones.
+    #[inline(always)]
+    pub fn ends(&self, point: Point) -> Ends
+        requires { IsPoint self.now.grid point }
+        ensures { AreEnds self.now point.x point.y point.z result }
+    {
+        let Some(corners) = self.samples.corners_at_once(&self.sizes, point) else {
+            return self.each_end(point);
+        };
+        let heights = self.heights_of(&corners);
+        Ends {
+            here: heights[0],
+            right: heights[1],
+            up: heights[2],
+            far: heights[4],
         }
     }
 }

@@ -1,2 +1,3 @@
+pub mod PadCells
 pub mod PadRows
 pub mod Parts

@@ -7,12 +7,15 @@ ghost use Rattle.iso_base.specs.Sizing.{sized};
 ghost use Rattle.iso_base.specs.Volume.{sample};
 ghost use Rattle.iso_base.specs.declared.sizes.SizeFault.{SizeFault};
 ghost use Rattle.voxel_list.specs.Padding.{grown};
+ghost use Rattle.samples.specs.Cells.{IsLowest};
 ghost use Rattle.samples.specs.Signs.{sign_of};
 ghost use Rattle.padded_samples.specs.Pads.{InPad, IsInPad, IsInnerRow, padded_at, padded_list};
 
-use crate::rows::{copy_inside, fill_signs, inner_row, points_before, put_inside, put_pad};
+use crate::rows::{
+    copy_inside, fill_signs, inner_cell, inner_row, points_before, put_inside, put_pad,
+};
 use iso_base::{Level, Point, SizeFault, Sizes, index, point_of};
-use samples::{Packed, Samples, sample_sign};
+use samples::{Packed, Samples, each_corner, sample_sign};
 use std::marker::Model;
 
 /// Samples with one more layer on each of the six sides of their grid, all of whose samples are the pad. Contracts see the
@@ -107,6 +110,19 @@ impl<'a, S: Samples> Padded<'a, S> {
     {
         let sizes = self.sizes();
         self.get(point_of(&sizes, index))
+    }
+
+    /// The lowest point of a cell in the grid without the layer, where the grid is that with the layer and the cell lies inside.
+    #[inline(always)]
+    fn inner_low(&self, sizes: &Sizes, low: Point) -> Option<Point>
+        ensures { IfSome result (λ q. (sizes.now ≡ grown self.now.grid) × IsLowest self.now.grid q
+            × (low ≡ record { x = q.x + 1; y = q.y + 1; z = q.z + 1 })) }
+    {
+        if are_same(sizes, &self.stored) {
+            inner_cell(&self.sizes, low)
+        } else {
+            None
+        }
     }
 
     /// Copies the samples of a row with inner points from a point of the grid with the layer on, where it begins or ends in the
@@ -244,6 +260,13 @@ impl<'a, S: Samples> Samples for Padded<'a, S> {
         } else {
             self.sample(index(sizes, point))
         }
+    }
+
+    // A cell that lies inside the layer.
+    #[inline(always)]
+    fn corners_at_once(&self, sizes: &Sizes, low: Point) -> Option<[i64; 8]> {
+        let inner = self.inner_low(sizes, low)?;
+        Some(each_corner(self.inner, &self.sizes, inner))
     }
 
     #[inline(always)]

@@ -4,6 +4,7 @@ ghost use Rattle.iso_defs.specs.Grid.{point_count};
 ghost use Rattle.iso_base.specs.Points.{IsPoint, index_of};
 ghost use Rattle.iso_base.specs.Samples.{IsSample};
 ghost use Rattle.iso_base.specs.Volume.{sample};
+ghost use Rattle.samples.specs.Cells.{IsLowest};
 ghost use Rattle.samples.specs.Signs.{sign_of};
 ghost use Rattle.padded_samples.specs.Pads.{InPad, IsInnerRow, IsPadRow};
 
@@ -38,6 +39,32 @@ pub fn inner_row(sizes: &Sizes, y: u32, z: u32) -> Option<Point>
         y: y - 1,
         z: z - 1,
     })
+}
+
+/// A coordinate in the grid without the layer, of so many points along its axis, where it and the next one lie there.
+#[inline(always)]
+fn inner_coordinate(coordinate: u32, size: u32) -> Option<u32>
+    requires { 0 < size }
+    ensures { IfSome result (λ c. (c + 1 < size) × (coordinate ≡ c + 1)) }
+{
+    if coordinate == 0 {
+        return None;
+    }
+    if coordinate > size - 1 {
+        return None;
+    }
+    Some(coordinate - 1)
+}
+
+/// The point of the grid without the layer that a point of the grid with it is, where it is the lowest of a cell there.
+#[inline(always)]
+pub fn inner_cell(sizes: &Sizes, low: Point) -> Option<Point>
+    ensures { IfSome result (λ q. IsLowest sizes.now q × (low ≡ record { x = q.x + 1; y = q.y + 1; z = q.z + 1 })) }
+{
+    let x = inner_coordinate(low.x, sizes.nx())?;
+    let y = inner_coordinate(low.y, sizes.ny())?;
+    let z = inner_coordinate(low.z, sizes.nz())?;
+    Some(Point { x, y, z })
 }
 
 /// How many of so many points of a row from an x on lie in the layer before its inner points.

@@ -8,5 +8,5 @@ mod signs;
 
 pub use list::{Numbers, converted, copy_all};
 pub use number::{Packed, sample_at};
-pub use samples::{Samples, all_signs};
+pub use samples::{Samples, all_signs, each_corner};
 pub use signs::{put_signs, sample_sign, sign};

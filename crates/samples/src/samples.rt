@@ -1,8 +1,10 @@
 //! Samples that are asked for where they lie.
-ghost use Rattle.std.specs.Prelude.{◌≡◌, ◌+◌, ◌<◌, ◌≤◌, ℤ, All, IfOk, List, drop, length, map, take};
+ghost use Rattle.std.specs.Prelude.{◌≡◌, ◌+◌, ◌<◌, ◌≤◌, ℤ, All, IfOk, IfSome, List, drop, length, map, take};
+ghost use Rattle.iso_defs.specs.Cell.{cell_values};
 ghost use Rattle.iso_defs.specs.Grid.{point_count};
 ghost use Rattle.iso_base.specs.Points.{IsPoint, index_of};
 ghost use Rattle.iso_base.specs.Volume.{sample};
+ghost use Rattle.samples.specs.Cells.{IsLowest};
 ghost use Rattle.samples.specs.Signs.{sign_of};
 
 use crate::number::Packed;
@@ -24,6 +26,15 @@ pub trait Samples {
         requires point { IsPoint sizes.now point }
         ensures { result ≡ sample (list self.now) (index_of sizes.now point) };
 
+    /// The samples at the corners of a cell of a grid, from its lowest point, where a view finds them all at once: x fastest, then
+    /// y, then z. None elsewhere, and in samples that are no view: who wants them there calls `each_corner`.
+    #[inline(always)]
+    fn corners_at_once(&self, _sizes: &Sizes, _low: Point) -> Option<[i64; 8]>
+        ensures { IfSome result (λ c. c ≡ cell_values _sizes.now (sample (list self.now)) (index_of _sizes.now _low)) }
+    {
+        None
+    }
+
     /// Copies the samples of a row from a point on along x over the numbers of a slice, as many as it has, in the width of these.
     fn copy_row<T: Packed>(&self, sizes: &Sizes, point: Point, into: &mut [T])
         requires count { length (list self.now) ≡ point_count sizes.now }
@@ -36,6 +47,32 @@ pub trait Samples {
     fn put_signs(&self, start: u32, level: Level, into: &mut [u8])
         requires { start + length into.old ≤ length (list self.now) }
         ensures { into.new ≡ map (sign_of level) (take (length into.old) (drop start (list self.now))) };
+}
+
+/// The samples at the corners of a cell of a grid, from its lowest point, each asked for by its point: x fastest, then y, then z.
+#[inline(always)]
+pub fn each_corner<S: Samples>(samples: &S, sizes: &Sizes, low: Point) -> [i64; 8]
+    requires count { length (S.list samples.now) ≡ point_count sizes.now }
+    requires low { IsLowest sizes.now low }
+    ensures { result ≡ cell_values sizes.now (sample (S.list samples.now)) (index_of sizes.now low) }
+{
+    // Reading a size brings in that the coordinates of the highest corner fit.
+    let _ = sizes.nx();
+    let high = Point {
+        x: low.x + 1,
+        y: low.y + 1,
+        z: low.z + 1,
+    };
+    [
+        samples.at_point(sizes, low),
+        samples.at_point(sizes, Point { x: high.x, ..low }),
+        samples.at_point(sizes, Point { y: high.y, ..low }),
+        samples.at_point(sizes, Point { z: low.z, ..high }),
+        samples.at_point(sizes, Point { z: high.z, ..low }),
+        samples.at_point(sizes, Point { y: low.y, ..high }),
+        samples.at_point(sizes, Point { x: low.x, ..high }),
+        samples.at_point(sizes, high),
+    ]
 }
 
 /// 1 for each sample of a grid that is above the level, else 0.
