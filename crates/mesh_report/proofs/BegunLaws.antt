@@ -16,9 +16,8 @@ use Rattle.mesh_report.specs.declared.tally.Tally.{Tally}
 use Rattle.mesh_report.specs.Places.{ArePlaces}
 use Rattle.mesh_report.specs.Report.{component, components, used}
 use Rattle.mesh_report.specs.Tallies.{IsAscending, nothing_of, tally_at}
-use Rattle.mesh_report.proofs.ComponentLaws.{component_listed, distinct_filter, distinct_range}
+use Rattle.mesh_report.proofs.ComponentLaws.{component_listed, component_unused, distinct_filter, distinct_range}
 use Rattle.mesh_report.proofs.GraphLaws.{arcs_used}
-use Rattle.mesh_report.proofs.JoinLaws.{component_unused}
 use Rattle.mesh_report.proofs.NumberLaws.{range_more}
 use Rattle.mesh_report.proofs.PlaceLaws.{in_place, place_in}
 use Rattle.mesh_report.proofs.Reach.{below_in, component_reached, in_below, range_in}

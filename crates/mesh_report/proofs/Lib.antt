@@ -6,7 +6,8 @@ pub mod GraphLaws
 pub mod NumberLaws
 pub mod ComponentLaws
 pub mod PlaceLaws
-pub mod JoinLaws
+pub mod WalkLaws
+pub mod NameLaws
 pub mod BegunLaws
 pub mod TallyLaws
 pub mod PartLaws

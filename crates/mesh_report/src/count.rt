@@ -24,9 +24,15 @@ pub struct Counts {
 }
 
 /// Counts vertex by vertex, in order, so that lists are gone through from front to back. Vertices have the names of their components.
-pub fn counts_of(alloc: Global, mesh: &TriangleList, names: &[u32]) -> Result<Counts, Memory>
+pub fn counts_of(
+    alloc: Global,
+    mesh: &TriangleList,
+    rings: &Rings,
+    names: &[u32],
+) -> Result<Counts, Memory>
     requires count { length mesh.now.triangles < 2 ^ 31 }
     requires different { All (λ t. HasThreeCorners (triangle_of t)) mesh.now.triangles }
+    requires rings { rings.now ≡ map (arcs (triangles_of mesh.now.triangles)) (below mesh.now.vertex_count) }
     requires names { names.now ≡ component_of_each mesh.now }
     ensures summary { IfOk result (λ c. record { total = part_with c.total; parts = map part_with c.each.items }
         ≡ summary_of mesh.now.vertex_count (triangles_of mesh.now.triangles)) }
@@ -35,14 +41,13 @@ pub fn counts_of(alloc: Global, mesh: &TriangleList, names: &[u32]) -> Result<Co
     ensures ascending { IfOk result (λ c. IsAscending c.each.items) }
 {
     let vertices = mesh.vertex_count() as usize;
-    let rings = Rings::of(alloc, mesh.vertex_count(), mesh.triangles())?;
     let mut places = vec![in alloc; 0u32; vertices]?;
-    let mut each = begun_all(alloc, mesh, &rings, names, places.as_mut_slice())?;
+    let mut each = begun_all(alloc, mesh, rings, names, places.as_mut_slice())?;
     let mut marks = vec![in alloc; Met::Never; vertices]?;
     let total = count_all(
         each.as_mut_slice(),
         mesh,
-        &rings,
+        rings,
         names,
         places.as_slice(),
         marks.as_mut_slice(),

@@ -7,8 +7,9 @@ ghost use Rattle.mesh_report.specs.Report.{IsItselfUnused, component_of_each, su
 ghost use Rattle.mesh_report.specs.Tallies.{IsAscending, IsSmall, part_with};
 
 use crate::count::{Counts, counts_of};
-use crate::joins::components_of;
 use crate::part::{Report, Survey, add_part};
+use crate::walk::components_of;
+use arc_rings::Rings;
 use indexmap::IndexMap;
 use iso_base::{Memory, TriangleList};
 use std::alloc::Global;
@@ -34,7 +35,8 @@ pub fn parts_of(alloc: Global, mesh: &TriangleList) -> Result<Vec<u32>, Memory>
     ensures components { IfOk result (λ ks. ks.items ≡ component_of_each mesh.now) }
     ensures unused { IfOk result (λ ks. IsItselfUnused (triangles_of mesh.now.triangles) ks.items) }
 {
-    Ok(components_of(alloc, mesh)?)
+    let rings = Rings::of(alloc, mesh.vertex_count(), mesh.triangles())?;
+    Ok(components_of(alloc, mesh, &rings)?)
 }
 
 /// The report and the component of each vertex.
@@ -44,8 +46,9 @@ pub fn surveyed(alloc: Global, mesh: &TriangleList) -> Result<Survey, Memory>
     ensures report { IfOk result (λ s. s.report ≡ summary_of mesh.now.vertex_count (triangles_of mesh.now.triangles)) }
     ensures components { IfOk result (λ s. s.components.items ≡ component_of_each mesh.now) }
 {
-    let components = components_of(alloc, mesh)?;
-    let counts = counts_of(alloc, mesh, components.as_slice())?;
+    let rings = Rings::of(alloc, mesh.vertex_count(), mesh.triangles())?;
+    let components = components_of(alloc, mesh, &rings)?;
+    let counts = counts_of(alloc, mesh, &rings, components.as_slice())?;
     let report = report_on(alloc, &counts)?;
     Ok(Survey { report, components })
 }

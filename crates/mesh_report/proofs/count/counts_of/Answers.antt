@@ -19,7 +19,7 @@ returns-clause-summary c =
     let n : ℕ = c.args.mesh.now.vertex_count in
     let ts : List Triangle = triangles_of c.args.mesh.now.triangles in
     let d : AllByRecursion HasThreeCorners ts = all_of HasThreeCorners c.args.mesh.now.triangles c.requires.different in
-    let b : AllByRecursion (IsBelow n) ts = all_of (IsBelow n) c.args.mesh.now.triangles c.vertex_count.ensures.mesh in
+    let b : AllByRecursion (IsBelow n) ts = all_of (IsBelow n) c.args.mesh.now.triangles c.vertex_count-vertices.ensures.mesh in
     let long : c.in_ok-each.each.len ≡ length c.count_all-total.new.tallies = search rules in
     let each = written_back c.in_ok-each.each.len c.count_all-total.new.tallies c.in_ok-each.each.items long ∙ c.count_all-total.ensures.each in
     ap (λ (l : List Tally). summary (part_with c.count_all-total.result) (map part_with l)) each
@@ -34,7 +34,7 @@ returns-clause-total c =
     let n : ℕ = c.args.mesh.now.vertex_count in
     let ts : List Triangle = triangles_of c.args.mesh.now.triangles in
     let d : AllByRecursion HasThreeCorners ts = all_of HasThreeCorners c.args.mesh.now.triangles c.requires.different in
-    let b : AllByRecursion (IsBelow n) ts = all_of (IsBelow n) c.args.mesh.now.triangles c.vertex_count.ensures.mesh in
+    let b : AllByRecursion (IsBelow n) ts = all_of (IsBelow n) c.args.mesh.now.triangles c.vertex_count-vertices.ensures.mesh in
     let k : length ts ≡ length c.args.mesh.now.triangles = length_is c.args.mesh.now.triangles in
     let short : length ts < 2 ^ 31 = omega (arith, c.requires.count) in
     subst IsSmall (sym c.count_all-total.ensures.total) (total_small n ts d b short)
@@ -44,7 +44,7 @@ returns-clause-each c =
     let n : ℕ = c.args.mesh.now.vertex_count in
     let ts : List Triangle = triangles_of c.args.mesh.now.triangles in
     let d : AllByRecursion HasThreeCorners ts = all_of HasThreeCorners c.args.mesh.now.triangles c.requires.different in
-    let b : AllByRecursion (IsBelow n) ts = all_of (IsBelow n) c.args.mesh.now.triangles c.vertex_count.ensures.mesh in
+    let b : AllByRecursion (IsBelow n) ts = all_of (IsBelow n) c.args.mesh.now.triangles c.vertex_count-vertices.ensures.mesh in
     let k : length ts ≡ length c.args.mesh.now.triangles = length_is c.args.mesh.now.triangles in
     let short : length ts < 2 ^ 31 = omega (arith, c.requires.count) in
     let long : c.in_ok-each.each.len ≡ length c.count_all-total.new.tallies = search rules in
