@@ -6,7 +6,7 @@ ghost use Rattle.iso_base.specs.Triangles.{triangle_of, triangles_of};
 ghost use Rattle.mesh_report.specs.Report.{component_of_each, components};
 ghost use Rattle.measure.specs.Positions.{IsWithin, position, vector_of};
 ghost use Rattle.measure.specs.Measures.{AreasCancel, VolumesStay, begun_in, measures_of, unmeasured};
-ghost use Rattle.measure.specs.Places.{AreDifferent, ArePlaces};
+ghost use Rattle.mesh_report.specs.Places.{AreDifferent, ArePlaces};
 
 use crate::share::{Measures, Share};
 use iso_base::{Memory, TriangleList};

@@ -2,10 +2,12 @@ pub mod Reach
 pub mod Counts
 pub mod Sums
 pub mod MeetLaws
-pub mod WalkLaws
 pub mod GraphLaws
 pub mod NumberLaws
-pub mod SurveyLaws
-pub mod PartLaws
-pub mod NameLaws
 pub mod ComponentLaws
+pub mod PlaceLaws
+pub mod WalkLaws
+pub mod NameLaws
+pub mod BegunLaws
+pub mod TallyLaws
+pub mod PartLaws
