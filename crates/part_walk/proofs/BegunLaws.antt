@@ -3,7 +3,7 @@ use Rattle.std.proofs.Common.{◌≡◌, ◌≢◌, ℕ, ◌+◌, ◌<◌, ℤ, 
 use Rattle.std.proofs.lemmas.Bool.{cases_Bool, cases_eq, cases_lt, eq-eqb, eqb-true}
 use Rattle.std.proofs.lemmas.List.{get_or-map, get_or-set_other, get_or-set_same, get_or_append_left, get_or_push, length-map, length-set, length_push, take_more}
 use Rattle.loop_labels.specs.Fronts.{none}
-use Rattle.measure.proofs.PlaceLaws.{in_place, place_in}
+use Rattle.mesh_report.proofs.PlaceLaws.{in_place, place_in}
 use Rattle.part_laws.specs.ByLabels.{firsts}
 use Rattle.verdict_laws.proofs.Lists.{In, any_in, in_any}
 use Rattle.part_walk.specs.Begun.{AreBegun, IsEmpty}

@@ -17,7 +17,7 @@ use Rattle.flat_mesh.proofs.NumberOf.{number_is_rank}
 use Rattle.label_joins.specs.Walks.{IsLeast}
 use Rattle.loop_labels.specs.Fronts.{none, row_name}
 use Rattle.loop_labels.specs.Labelling.{Known}
-use Rattle.measure.proofs.PlaceLaws.{in_place}
+use Rattle.mesh_report.proofs.PlaceLaws.{in_place}
 use Rattle.measure_laws.specs.Totals.{total}
 use Rattle.mesh_laws.proofs.Cells.{range_at_least}
 use Rattle.mesh_report.proofs.Sums.{sum_agree}

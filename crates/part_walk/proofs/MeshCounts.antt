@@ -24,7 +24,7 @@ use Rattle.flat_mesh.specs.Lattice.{Leveled, heights}
 use Rattle.mesh_report.specs.Report.{Summary, components, part_of, total_of, used}
 use Rattle.mesh_report.specs.declared.part.Part.{Part}
 use Rattle.mesh_report.proofs.NumberLaws.{filter_all}
-use Rattle.measure.proofs.PlaceLaws.{in_place}
+use Rattle.mesh_report.proofs.PlaceLaws.{in_place}
 use Rattle.measure_laws.specs.Totals.{total}
 use Rattle.loop_labels.specs.Fronts.{row_name}
 use Rattle.loop_labels.specs.Labelling.{Known}
