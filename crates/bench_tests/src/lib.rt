@@ -7,6 +7,6 @@ mod asked;
 #[cfg(test)]
 mod bench;
 #[cfg(test)]
-mod windows;
-#[cfg(test)]
 mod walked;
+#[cfg(test)]
+mod windows;

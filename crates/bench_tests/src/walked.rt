@@ -1,20 +1,27 @@
-//! What the bench answers of random volumes, beside what is told by the triangles of extraction from scratch.
+//! What the bench answers of random volumes, beside what the triangles of extraction from scratch say.
 
-ghost use Rattle.std.specs.Prelude.{◌≡◌, IfSome, None};
+ghost use Rattle.std.specs.Prelude.{◌≡◌, ◌<◌, IfOk, length};
+ghost use Rattle.iso_defs.specs.Scratch.{triangles, vertices};
+ghost use Rattle.iso_base.specs.Shifted.{field};
+ghost use Rattle.iso_base.specs.Triangles.{triangles_of};
 
 use crate::asked::begin;
 use bench_core::{Bench, Capacity};
+use fan_laws::{mesh_sizes, one_fan};
 use flat_mesh::extract_flat;
-use iso_base::{Level, SampleKind, Sizes, VoxelData};
+use iso_base::{Level, Memory, SampleKind, Sizes, TriangleList, VoxelData};
 use mesh_measures::mesh_measures;
-use mesh_report::report;
+use mesh_report::{Report, report};
 use std::alloc::Global;
 use std::process::Abort;
 use std::test::Fail;
 use voxel_list::VoxelList;
 
 /// The next number of a series, and a part of it.
-fn next(seed: &mut u64, bound: u64) -> u64 {
+fn next(seed: &mut u64, bound: u64) -> u64
+    requires { 0 < bound }
+    ensures { result < bound }
+{
     *seed = seed
         .wrapping_mul(6_364_136_223_846_793_005)
         .wrapping_add(1_442_695_040_888_963_407);
@@ -39,20 +46,50 @@ fn volume_of(rt: &impl Abort, alloc: Global, seed: &mut u64) -> Result<VoxelList
     let samples = samples_of(alloc, seed, nx * ny * nz)?;
     let volume = VoxelList::of(VoxelData::new(sizes, SampleKind::U8, samples));
     if next(seed, 3) == 0 {
-        return Ok(volume.padded(alloc, 0).ok().expect(rt, "there is room for a pad"));
+        return Ok(
+            volume
+                .padded(alloc, 0)
+                .ok()
+                .expect(rt, "there is room for a pad"),
+        );
     }
     Ok(volume)
 }
 
-/// Whether the bench answers what the triangles tell.
-fn has_answers(alloc: Global, bench: &Bench, volume: &VoxelList, level: Level) -> Result<bool, Fail> {
-    let triangles = extract_flat(alloc, volume, level)?.triangle_list(alloc)?;
-    let wanted = report(alloc, &triangles)?;
+/// The triangles of the mesh of a volume from scratch.
+fn mesh_triangles(alloc: Global, volume: &VoxelList, level: Level) -> Result<TriangleList, Memory>
+    ensures vertices { IfOk result (λ t. t.vertex_count ≡ length (vertices volume.now.grid (field volume.now.samples level))) }
+    ensures triangles { IfOk result (λ t. triangles_of t.triangles ≡ triangles volume.now.grid (field volume.now.samples level)) }
+{
+    extract_flat(alloc, volume, level)?.triangle_list(alloc)
+}
+
+/// The report on these triangles.
+fn report_by_triangles(alloc: Global, volume: &VoxelList, level: Level) -> Result<Report, Memory> {
+    one_fan(volume, level);
+    mesh_sizes();
+    let _ = volume.sizes();
+    let triangles = mesh_triangles(alloc, volume, level)?;
+    report(alloc, &triangles)
+}
+
+/// Whether the bench answers what the triangles say.
+fn has_answers(
+    alloc: Global,
+    bench: &Bench,
+    volume: &VoxelList,
+    level: Level,
+) -> Result<bool, Fail> {
+    let wanted = report_by_triangles(alloc, volume, level)?;
     let measured = mesh_measures(alloc, volume, level)?;
     let (Ok(told), Ok(shares)) = (bench.report(), bench.measure()) else {
         return Ok(false);
     };
-    Ok(told.total() == wanted.total() && told.parts() == wanted.parts() && shares.shares() == measured.shares())
+    Ok(
+        told.total() == wanted.total()
+            && told.parts() == wanted.parts()
+            && shares.shares() == measured.shares(),
+    )
 }
 
 #[test]
