@@ -9,9 +9,10 @@ use crate::asked::begin;
 use bench_core::{Bench, Capacity};
 use fan_laws::{mesh_sizes, one_fan};
 use flat_mesh::extract_flat;
-use iso_base::{Level, Memory, SampleKind, Sizes, TriangleList, VoxelData};
+use iso_base::{Level, Memory, TriangleList};
 use mesh_measures::mesh_measures;
 use mesh_report::{Report, report};
+use nrrd_read::read_volume;
 use std::alloc::Global;
 use std::process::Abort;
 use std::test::Fail;
@@ -28,30 +29,54 @@ fn next(seed: &mut u64, bound: u64) -> u64
     (*seed >> 33) % bound
 }
 
-/// Samples of 0 to 4, of which the lower ones are more or less frequent.
-fn samples_of(alloc: Global, seed: &mut u64, count: u64) -> Result<Vec<i64>, Fail> {
-    let mut samples = Vec::with_capacity(alloc, count as usize)?;
+/// The header of a volume file, and how many samples the volume has.
+fn header(choice: u64) -> (&'static [u8], u64) {
+    match choice {
+        0 => (
+            b"NRRD0001\ntype: uint8\ndimension: 3\nsizes: 2 3 4\nencoding: raw\n\n".as_slice(),
+            24,
+        ),
+        1 => (
+            b"NRRD0001\ntype: uint8\ndimension: 3\nsizes: 5 2 9\nencoding: raw\n\n".as_slice(),
+            90,
+        ),
+        2 => (
+            b"NRRD0001\ntype: uint8\ndimension: 3\nsizes: 9 6 3\nencoding: raw\n\n".as_slice(),
+            162,
+        ),
+        3 => (
+            b"NRRD0001\ntype: uint8\ndimension: 3\nsizes: 4 5 10\nencoding: raw\n\n".as_slice(),
+            200,
+        ),
+        _ => (
+            b"NRRD0001\ntype: uint8\ndimension: 3\nsizes: 10 6 9\nencoding: raw\n\n".as_slice(),
+            540,
+        ),
+    }
+}
+
+/// A volume file with samples of 0 to 4, of which the lower ones are more or less frequent.
+fn file_of(alloc: Global, seed: &mut u64) -> Result<Vec<u8>, Fail> {
+    let (header, count) = header(next(seed, 5));
+    let mut bytes = Vec::from_slice(alloc, header)?;
     let most = 2 + next(seed, 4);
     for _ in 0..count {
         let (a, b) = (next(seed, most), next(seed, 5));
-        samples.push((a.min(b)) as i64)?;
+        bytes.push(a.min(b) as u8)?;
     }
-    Ok(samples)
+    Ok(bytes)
 }
 
 /// A volume of 2 to 10 points along each axis, with a pad or without one.
 fn volume_of(rt: &impl Abort, alloc: Global, seed: &mut u64) -> Result<VoxelList, Fail> {
-    let (nx, ny, nz) = (2 + next(seed, 9), 2 + next(seed, 5), 2 + next(seed, 9));
-    let sizes = Sizes::new(nx, ny, nz).ok().expect(rt, "these are sizes");
-    let samples = samples_of(alloc, seed, nx * ny * nz)?;
-    let volume = VoxelList::of(VoxelData::new(sizes, SampleKind::U8, samples));
+    let bytes = file_of(alloc, seed)?;
+    let (voxels, _) = read_volume(alloc, &bytes)
+        .ok()
+        .expect(rt, "it is a volume file");
+    let volume = VoxelList::of(voxels);
     if next(seed, 3) == 0 {
-        return Ok(
-            volume
-                .padded(alloc, 0)
-                .ok()
-                .expect(rt, "there is room for a pad"),
-        );
+        let padded = volume.padded(alloc, 0).ok();
+        return Ok(padded.expect(rt, "there is room for a pad"));
     }
     Ok(volume)
 }
