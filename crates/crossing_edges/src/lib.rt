@@ -5,6 +5,7 @@
 mod counts;
 mod edges;
 mod flags;
+mod lanes;
 
 pub use counts::{begin_none, count_all_edges, count_edges};
 pub use edges::{EdgeVertices, crossing_points, edge_vertices, position_on};

@@ -1,9 +1,9 @@
 //! The samples of a volume in bytes.
-ghost use Rattle.std.specs.Prelude.{◌≡◌, ◌+◌, ◌*◌, ◌<◌, ◌≤◌, ◌^◌, All, length, map};
+ghost use Rattle.std.specs.Prelude.{◌≡◌, ℤ, ◌+◌, ◌*◌, ◌<◌, ◌≤◌, ◌^◌, All, cond, int_le, length, map};
 ghost use Rattle.std.specs.List.{range_with_len};
 ghost use Rattle.iso_base.specs.Samples.{width_of};
 ghost use Rattle.text_samples.specs.Samples.{sample_of, samples_in};
-ghost use Rattle.samples.specs.Signs.{sign_of};
+ghost use Rattle.samples.specs.Signs.{IsBound, sign_of};
 
 use crate::lies::Lies;
 use iso_base::{Level, Point, Sizes, index};
@@ -92,6 +92,20 @@ fn read_run<K: Lies, T: Packed>(bytes: &[u8], start: usize, into: &mut [T])
     }
 }
 
+/// Writes 1 for each sample from an index on that is at least a bound, and 0 for each other, as many as there is room for; where
+/// there is no bound, 0 throughout.
+#[inline(always)]
+fn put_by_bound<K: Lies>(bytes: &[u8], start: usize, bound: Option<K::Number>, into: &mut [u8])
+    requires room { width_of K.kind * (start + length into.old) ≤ length bytes.now }
+    requires few { start + length into.old < 2 ^ 32 }
+    ensures { (least : ℤ) → IsBound K.Number.Fits K.Number.value least bound
+        → into.new ≡ map (λ k. cond (int_le least (sample_of K.kind K.big bytes.now (start + k))) 1 0) (range_with_len 0 (length into.old)) }
+{
+    for k in 0..into.len() {
+        into[k] = sign(K::read(bytes, start + k), bound);
+    }
+}
+
 /// Writes the signs of samples from an index on, as many as there is room for.
 fn put_run_signs<K: Lies>(bytes: &[u8], start: usize, level: Level, into: &mut [u8])
     requires room { width_of K.kind * (start + length into.old) ≤ length bytes.now }
@@ -99,8 +113,10 @@ fn put_run_signs<K: Lies>(bytes: &[u8], start: usize, level: Level, into: &mut [
     ensures { into.new ≡ map (λ k. sign_of level (sample_of K.kind K.big bytes.now (start + k))) (range_with_len 0 (length into.old)) }
 {
     let bound = K::Number::at_least(level.least_above());
-    for k in 0..into.len() {
-        into[k] = sign(K::read(bytes, start + k), bound);
+    // Each case has its own loop, so that none asks of each number again whether there is a bound.
+    match bound {
+        Some(bound) => put_by_bound::<K>(bytes, start, Some(bound), into),
+        None => put_by_bound::<K>(bytes, start, None, into),
     }
 }
 

@@ -1,3 +1,4 @@
 pub mod Cells
+pub mod LeastAbove
 pub mod Lists
 pub mod Rows

@@ -1,5 +1,5 @@
 //! Numbers that samples are kept as.
-ghost use Rattle.std.specs.Prelude.{◌≡◌, ℤ, ◌<◌, length, map, pos};
+ghost use Rattle.std.specs.Prelude.{◌≡◌, ℤ, ◌<◌, int_le, length, map, pos};
 ghost use Rattle.std.specs.Int.{int_max, int_min};
 ghost use Rattle.iso_base.specs.Samples.{IsOfKind};
 ghost use Rattle.iso_base.specs.Volume.{sample};
@@ -32,7 +32,11 @@ pub trait Packed: Copy {
     fn at_least(least: i64) -> Option<Self>
         ensures { IsBound Fits value least result };
 
-    /// The lesser of two. Numbers are compared in the width that they are kept in, so that many bytes are at once.
+    /// Whether it is at least another. Numbers are compared in the width that they are kept in, so that many bytes are at once.
+    fn is_at_least(self, bound: Self) -> bool
+        ensures { result ≡ int_le (value bound) (value self) };
+
+    /// The lesser of two, compared in their width too.
     fn lesser(self, other: Self) -> Self
         ensures { value result ≡ int_min (value self) (value other) };
 
@@ -66,6 +70,11 @@ impl Packed for u8 {
             return None;
         }
         Some(least.max(i64::from(u8::MIN)) as u8)
+    }
+
+    #[inline(always)]
+    fn is_at_least(self, bound: u8) -> bool {
+        self >= bound
     }
 
     #[inline(always)]
@@ -107,6 +116,11 @@ impl Packed for i8 {
     }
 
     #[inline(always)]
+    fn is_at_least(self, bound: i8) -> bool {
+        self >= bound
+    }
+
+    #[inline(always)]
     fn lesser(self, other: i8) -> i8 {
         self.min(other)
     }
@@ -142,6 +156,11 @@ impl Packed for u16 {
             return None;
         }
         Some(least.max(i64::from(u16::MIN)) as u16)
+    }
+
+    #[inline(always)]
+    fn is_at_least(self, bound: u16) -> bool {
+        self >= bound
     }
 
     #[inline(always)]
@@ -183,6 +202,11 @@ impl Packed for i16 {
     }
 
     #[inline(always)]
+    fn is_at_least(self, bound: i16) -> bool {
+        self >= bound
+    }
+
+    #[inline(always)]
     fn lesser(self, other: i16) -> i16 {
         self.min(other)
     }
@@ -218,6 +242,11 @@ impl Packed for u32 {
             return None;
         }
         Some(least.max(i64::from(u32::MIN)) as u32)
+    }
+
+    #[inline(always)]
+    fn is_at_least(self, bound: u32) -> bool {
+        self >= bound
     }
 
     #[inline(always)]
@@ -259,6 +288,11 @@ impl Packed for i32 {
     }
 
     #[inline(always)]
+    fn is_at_least(self, bound: i32) -> bool {
+        self >= bound
+    }
+
+    #[inline(always)]
     fn lesser(self, other: i32) -> i32 {
         self.min(other)
     }
@@ -291,6 +325,11 @@ impl Packed for i64 {
 
     fn at_least(least: i64) -> Option<i64> {
         Some(least)
+    }
+
+    #[inline(always)]
+    fn is_at_least(self, bound: i64) -> bool {
+        self >= bound
     }
 
     #[inline(always)]

@@ -10,9 +10,10 @@ use iso_base::Level;
 pub fn sign<T: Packed>(number: T, bound: Option<T>) -> u8
     ensures { (least : ℤ) → IsBound T.Fits T.value least bound → result ≡ cond (int_le least (T.value number)) 1 0 }
 {
-    let sample = number.sample();
+    // Reading the sample brings in that there is room for it.
+    let _ = number.sample();
     match bound {
-        Some(bound) => u8::from(sample >= bound.sample()),
+        Some(bound) => u8::from(number.is_at_least(bound)),
         None => 0,
     }
 }
@@ -25,14 +26,26 @@ pub fn sample_sign(sample: i64, level: Level) -> u8
     if sample >= level.least_above() { 1 } else { 0 }
 }
 
+/// Writes 1 for each number that is at least a bound, and 0 for each other; where there is no bound, 0 throughout.
+#[inline(always)]
+fn put_by_bound<T: Packed>(numbers: &[T], bound: Option<T>, into: &mut [u8])
+    requires { length numbers.now ≡ length into.old }
+    ensures { (least : ℤ) → IsBound T.Fits T.value least bound → into.new ≡ map (λ sample. cond (int_le least sample) 1 0) (map T.value numbers.now) }
+{
+    for k in 0..numbers.len() {
+        into[k] = sign(numbers[k], bound);
+    }
+}
+
 /// Writes 1 for each number above the level, and 0 for each other.
 #[inline(always)]
 pub fn put_signs<T: Packed>(numbers: &[T], level: Level, into: &mut [u8])
     requires { length numbers.now ≡ length into.old }
     ensures { into.new ≡ map (sign_of level) (map T.value numbers.now) }
 {
-    let bound = T::at_least(level.least_above());
-    for k in 0..numbers.len() {
-        into[k] = sign(numbers[k], bound);
+    // Each case has its own loop, so that none asks of each number again whether there is a bound.
+    match T::at_least(level.least_above()) {
+        Some(bound) => put_by_bound(numbers, Some(bound), into),
+        None => put_by_bound(numbers, None, into),
     }
 }

@@ -1,13 +1,16 @@
-use Rattle.std.proofs.Common.{arith, pos, map, length, ◌∙◌, sym, ◌<◌}
-use Rattle.std.proofs.lemmas.List.{ext_get_or, length-map, get_or-map}
-use Rattle.samples.specs.Signs.{sign_of}
+use Rattle.std.proofs.Common.{◌≡◌, ◌∙◌, ap, int_le, map, of_z, rules, to_z, w64}
+use Rattle.std.proofs.lemmas.Int.{to_z-of_z}
+use Rattle.samples.proofs.LeastAbove.{by_least}
 use Rattle.samples.proofs.signs.put_signs.Goals as goal
 
-pub returns : goal.returns
-returns g c =
-    let samples = map g.T.Packed.value c.args.numbers.now in
-    let len = length-map c.args.numbers.now g.T.Packed.value in
-    let all = length-map samples (sign_of c.args.level) in
-    ext_get_or 0 c.loop-k.into (map (sign_of c.args.level) samples) (c.loop-k.auto.into ∙ sym c.requires ∙ sym len ∙ sym all)
-    (λ j low. (let within : j < length samples = omega (arith, low, c.loop-k.auto.into, c.requires, len) in
-    c.loop-k.invariant j (omega (arith, within, len, c.loop-k-test.false)) ∙ sym (get_or-map (sign_of c.args.level) samples j (pos 0) 0 within)))
+pub returns-in-Some : goal.returns-in-Some
+returns-in-Some g c =
+    let least : to_z w64 (of_z w64 c.least_above.result) ≡ c.least_above.result = search (rules, to_z-of_z) in
+    c.put_by_bound.ensures (to_z w64 (of_z w64 c.least_above.result)) c.in-Some.ensures
+    ∙ by_least (λ s. s) c.args.level _ (λ s. ap (λ n. int_le n s) least ∙ c.least_above.ensures s) (map g.T.Packed.value c.args.numbers.now)
+
+pub returns-in-None : goal.returns-in-None
+returns-in-None g c =
+    let least : to_z w64 (of_z w64 c.least_above.result) ≡ c.least_above.result = search (rules, to_z-of_z) in
+    c.put_by_bound-in-None.ensures (to_z w64 (of_z w64 c.least_above.result)) c.in-None.ensures
+    ∙ by_least (λ s. s) c.args.level _ (λ s. ap (λ n. int_le n s) least ∙ c.least_above.ensures s) (map g.T.Packed.value c.args.numbers.now)
