@@ -1,8 +1,8 @@
 use Rattle.std.proofs.Common.{◌≡◌, ◌+◌, ◌≤◌, ◌∙◌, ℕ, List, ◌++◌, length, take, sym, ap, arith}
 use Rattle.std.proofs.lemmas.List.{append-nil, take-take}
 use Rattle.std.proofs.lemmas.Result.{err_from_is_err_and}
-use Rattle.stitch.proofs.Settled.{block_cut, block_written}
-use Rattle.stitch.proofs.block.Block.settle.Goals as goal
+use Rattle.mesh_lines.proofs.Settled.{block_cut, block_written}
+use Rattle.mesh_lines.proofs.block.Block.settle.Goals as goal
 
 pub returns-in_err-write_all_of-clause-put : goal.returns-in_err-write_all_of-clause-put
 returns-in_err-write_all_of-clause-put g c =
