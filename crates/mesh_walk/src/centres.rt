@@ -195,8 +195,9 @@ fn write_eight<H: Heights, K: Sink>(
         (centres_text style v (row_start v.grid cells.now.y cells.now.z + 8 * eight) (eight_at v.grid (eight + 1) - 8 * eight)) }
     ensures bytes { IfOk result (λ _. block.new.total ≤ block.old.total + 256 * (eight_at (H.leveled field.now).grid (eight + 1) - 8 * eight)) }
 {
+    let last = field.sizes().nx() - 1;
     let from = 8 * eight;
-    let end = (from + 8).min(field.sizes().nx() - 1);
+    let end = (from + 8).min(last);
     if end - from == 8 && cells.have_no_loops(from) {
         return Ok(());
     }
@@ -240,7 +241,7 @@ fn write_row<R: MeshRows, K: Sink>(
 ) -> Result<(), Failed>
     requires ranks { AreRowRanks (R.leveled rows.old) walk.ranks.now walk.total }
     requires row { row < row_count (R.leveled rows.old).grid }
-    ensures adds { Adds (K.seen sink.old) (K.seen sink.new) block.old block.new result (row_centres_text walk.style (R.leveled rows.old) row) }
+    ensures adds { Adds (K.seen sink.old) (K.seen sink.new) block.old block.new result (row_centres_text walk.entry.style (R.leveled rows.old) row) }
     ensures bytes { IfOk result (λ _. block.new.total ≤ block.old.total + 256 * (R.leveled rows.old).grid.nx) }
     ensures volume { R.leveled rows.new ≡ R.leveled rows.old }
     ensures kept { R.kept rows.new ≡ R.kept rows.old }
@@ -263,7 +264,7 @@ pub fn write_centres<R: MeshRows, K: Sink>(
     sink: &mut K,
 ) -> Result<(), Failed>
     requires ranks { AreRowRanks (R.leveled rows.old) walk.ranks.now walk.total }
-    ensures adds { Adds (K.seen sink.old) (K.seen sink.new) block.old block.new result (all_centres_text walk.style (R.leveled rows.old)) }
+    ensures adds { Adds (K.seen sink.old) (K.seen sink.new) block.old block.new result (all_centres_text walk.entry.style (R.leveled rows.old)) }
     ensures bytes { let g = (R.leveled rows.old).grid in
         IfOk result (λ _. block.new.total ≤ block.old.total + 256 * (g.nx * row_count g)) }
     ensures volume { R.leveled rows.new ≡ R.leveled rows.old }

@@ -153,7 +153,7 @@ fn write_row<R: MeshRows, K: Sink>(
 ) -> Result<(), Failed>
     requires ranks { AreRowRanks (R.leveled rows.old) walk.ranks.now walk.total }
     requires row { row < row_count (R.leveled rows.old).grid }
-    ensures adds { Adds (K.seen sink.old) (K.seen sink.new) block.old block.new result (row_edges_text walk.style (R.leveled rows.old) row) }
+    ensures adds { Adds (K.seen sink.old) (K.seen sink.new) block.old block.new result (row_edges_text walk.entry.style (R.leveled rows.old) row) }
     ensures bytes { IfOk result (λ _. block.new.total ≤ block.old.total + 192 * (R.leveled rows.old).grid.nx) }
     ensures volume { R.leveled rows.new ≡ R.leveled rows.old }
     ensures kept { R.kept rows.new ≡ R.kept rows.old }
@@ -176,7 +176,7 @@ pub fn write_edges<R: MeshRows, K: Sink>(
     sink: &mut K,
 ) -> Result<(), Failed>
     requires ranks { AreRowRanks (R.leveled rows.old) walk.ranks.now walk.total }
-    ensures adds { Adds (K.seen sink.old) (K.seen sink.new) block.old block.new result (all_edges_text walk.style (R.leveled rows.old)) }
+    ensures adds { Adds (K.seen sink.old) (K.seen sink.new) block.old block.new result (all_edges_text walk.entry.style (R.leveled rows.old)) }
     ensures bytes { let g = (R.leveled rows.old).grid in
         IfOk result (λ _. block.new.total ≤ block.old.total + 192 * (g.nx * row_count g)) }
     ensures volume { R.leveled rows.new ≡ R.leveled rows.old }

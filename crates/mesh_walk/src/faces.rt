@@ -126,9 +126,9 @@ impl<'a> FaceRow<'a> {
             HasNumber v (row_start v.grid self.cells.now.y self.cells.now.z + x) next }
         ensures adds { let v = H.leveled field.now in
             Adds (K.seen sink.old) (K.seen sink.new) block.old block.new result
-            (faces_text self.style.format v (row_start v.grid self.cells.now.y self.cells.now.z + x) 1) }
+            (faces_text self.entry.style.format v (row_start v.grid self.entry.cells.now.y self.entry.cells.now.z + x) 1) }
         ensures next { let v = H.leveled field.now in
-            IfOk result (λ n. HasNumber v (row_start v.grid self.cells.now.y self.cells.now.z + x + 1) n) }
+            IfOk result (λ n. HasNumber v (row_start v.grid self.entry.cells.now.y self.entry.cells.now.z + x + 1) n) }
         ensures bytes { IfOk result (λ _. block.new.total ≤ block.old.total + 3072) }
     {
         let _ = field.sizes();
@@ -160,17 +160,18 @@ impl<'a> FaceRow<'a> {
         requires next { let v = H.leveled field.now in
             HasNumber v (row_start v.grid self.cells.now.y self.cells.now.z + 8 * eight) next }
         ensures adds { let v = H.leveled field.now in
-            let start = row_start v.grid self.cells.now.y self.cells.now.z in
+            let start = row_start v.grid self.entry.cells.now.y self.entry.cells.now.z in
             Adds (K.seen sink.old) (K.seen sink.new) block.old block.new result
-            (faces_text self.style.format v (start + 8 * eight) (eight_at v.grid (eight + 1) - 8 * eight)) }
+            (faces_text self.entry.style.format v (start + 8 * eight) (eight_at v.grid (eight + 1) - 8 * eight)) }
         ensures next { let v = H.leveled field.now in
-            let start = row_start v.grid self.cells.now.y self.cells.now.z in
+            let start = row_start v.grid self.entry.cells.now.y self.entry.cells.now.z in
             IfOk result (λ n. HasNumber v (start + eight_at v.grid (eight + 1)) n) }
         ensures bytes { let end = eight_at (H.leveled field.now).grid (eight + 1) in
             IfOk result (λ _. block.new.total ≤ block.old.total + 3072 * (end - 8 * eight)) }
     {
+        let last = field.sizes().nx() - 1;
         let from = 8 * eight;
-        let end = (from + 8).min(field.sizes().nx() - 1);
+        let end = (from + 8).min(last);
         if end - from == 8 && self.cells.have_no_loops(from) {
             return Ok(next);
         }
@@ -194,10 +195,10 @@ impl<'a> FaceRow<'a> {
         requires next { let v = H.leveled field.now in
             HasNumber v (row_start v.grid self.cells.now.y self.cells.now.z) next }
         ensures adds { let v = H.leveled field.now in
-            let start = row_start v.grid self.cells.now.y self.cells.now.z in
-            Adds (K.seen sink.old) (K.seen sink.new) block.old block.new result (faces_text self.style.format v start v.grid.nx) }
+            let start = row_start v.grid self.entry.cells.now.y self.entry.cells.now.z in
+            Adds (K.seen sink.old) (K.seen sink.new) block.old block.new result (faces_text self.entry.style.format v start v.grid.nx) }
         ensures next { let v = H.leveled field.now in
-            IfOk result (λ n. HasNumber v (row_start v.grid self.cells.now.y self.cells.now.z + v.grid.nx) n) }
+            IfOk result (λ n. HasNumber v (row_start v.grid self.entry.cells.now.y self.entry.cells.now.z + v.grid.nx) n) }
         ensures bytes { IfOk result (λ _. block.new.total ≤ block.old.total + 3072 * (H.leveled field.now).grid.nx) }
     {
         // The last point of a row begins no cell.
@@ -233,7 +234,7 @@ fn write_row<R: MeshRows, K: Sink>(
     requires ready { IsReady (R.leveled rows.old) faces.old.corners }
     requires next { HasNumber (R.leveled rows.old) ((R.leveled rows.old).grid.nx * row) faces.old.next }
     ensures adds { Adds (K.seen sink.old) (K.seen sink.new) block.old block.new result
-        (row_faces_text walk.style.format (R.leveled rows.old) row) }
+        (row_faces_text walk.entry.style.format (R.leveled rows.old) row) }
     ensures next { IfOk result (λ _. HasNumber (R.leveled rows.old) ((R.leveled rows.old).grid.nx * (row + 1)) faces.new.next) }
     ensures ready { IsReady (R.leveled rows.old) faces.new.corners }
     ensures bytes { IfOk result (λ _. block.new.total ≤ block.old.total + 3072 * (R.leveled rows.old).grid.nx) }
@@ -266,7 +267,7 @@ pub fn write_faces<R: MeshRows, K: Sink>(
 ) -> Result<(), Failed>
     requires ranks { AreRowRanks (R.leveled rows.old) walk.ranks.now walk.total }
     ensures adds { Adds (K.seen sink.old) (K.seen sink.new) block.old block.new result
-        (all_faces_text walk.style.format (R.leveled rows.old)) }
+        (all_faces_text walk.entry.style.format (R.leveled rows.old)) }
     ensures bytes { let g = (R.leveled rows.old).grid in
         IfOk result (λ _. block.new.total ≤ block.old.total + 3072 * (g.nx * row_count g)) }
     ensures volume { R.leveled rows.new ≡ R.leveled rows.old }

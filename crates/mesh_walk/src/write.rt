@@ -29,7 +29,7 @@ fn write_lines<R: MeshRows, K: Sink>(
     sink: &mut K,
 ) -> Result<(), Failed>
     requires ranks { AreRowRanks (R.leveled rows.old) walk.ranks.now walk.total }
-    ensures adds { Adds (K.seen sink.old) (K.seen sink.new) block.old block.new result (lines_text walk.style (R.leveled rows.old) faces) }
+    ensures adds { Adds (K.seen sink.old) (K.seen sink.new) block.old block.new result (lines_text walk.entry.style (R.leveled rows.old) faces) }
     ensures bytes { let g = (R.leveled rows.old).grid in
         IfOk result (λ _. block.new.total ≤ block.old.total + 256 + 3520 * (g.nx * row_count g)) }
     ensures volume { R.leveled rows.new ≡ R.leveled rows.old }
