@@ -1,17 +1,20 @@
 -- The crossing edges of a row of points, by their offsets and by their names.
 use Rattle.std.proofs.Common.{◌≡◌, ℕ, zero, suc, ◌+◌, ◌*◌, ◌/◌, ◌%◌, ◌<◌, ◌≤◌, Bool, true, false, cond, List, [], ◌∷◌, ◌++◌, map, take, drop, set, length, get_or, refl, sym, ◌∙◌, ap, ap₂, subst, arith, eqb, ◌-◌, add-zero, append-nil, append_assoc}
 use Rattle.std.specs.List.{filter, flat_map, range_with_len}
-use Rattle.std.proofs.lemmas.List.{get_or-map, length-map, length-take, map-append, take-set, take_all, take_more, take_more_set, take-append-drop}
+use Rattle.std.proofs.lemmas.List.{get_or-map, get_or-take, length-map, length-take-le, map-append, take-set, take_all, take_more, take_more_set, take-append-drop}
 use Rattle.std.proofs.lemmas.List.Concat.{flat_map-append}
 use Rattle.iso_defs.proofs.Ranges.{range_append}
 use Rattle.iso_defs.specs.Grid.{Grid}
 use Rattle.iso_defs.specs.Signs.{is_crossing}
 use Rattle.crossing_edges.specs.Flags.{bit, edge_place, flags_at, names_in, places_in}
 use Rattle.crossing_edges.proofs.Counting.{flag_first, flag_second, flag_third, names_empty, names_next, names_three}
+use Rattle.verdict_laws.proofs.Lists.{In-at, In-filter}
+use Rattle.mesh_laws.proofs.Cells.{range_at_least}
 use Rattle.flat_mesh.specs.Lattice.{Leveled, heights}
 use Rattle.flat_mesh.specs.Rows.{row_start}
 use Rattle.mesh_rows.specs.Rows.{AreEdges, AreFlags, row_names}
-use Rattle.mesh_walk.specs.Edges.{edges_among, edges_at}
+use Rattle.mesh_walk.specs.declared.edges.RowEdges.{RowEdges}
+use Rattle.mesh_walk.specs.Edges.{AreRowEdges, edges_among, edges_at}
 
 -- an offset that is written where an edge is crossing, and written over where it is not
 pub offset_put : (b : Bool) (xs : List ℕ) (at e k : ℕ) → k ≡ bit b → at < length xs → take (at + k) (set xs at e) ≡ take at xs ++ cond {A = List ℕ} b (e ∷ []) []
@@ -118,3 +121,58 @@ module _ (v : Leveled) (y z : ℕ) where
   -- the offsets by the flags of a row are those of its crossing edges
   pub edges_are : (flags edges : List ℕ) → AreFlags v y z flags → edges ≡ edges_among flags 0 v.grid.nx → AreEdges v y z edges
   edges_are flags edges are same = record { names = ap (map name) same ∙ names_to flags v.grid.nx are (omega arith) }
+
+-- the flags at the front of a buffer
+pub front_flags : (v : Leveled) (y z n : ℕ) (flags front : List ℕ) → n ≡ v.grid.nx → front ≡ take n flags → AreFlags v y z flags → AreFlags v y z front
+front_flags v y z n flags front all same are x low = ap (λ l. get_or l x 0) same ∙ (get_or-take n flags x 0 (omega arith) ∙ are x low)
+
+-- an edge of a row by its number
+pub record EdgeAt (v : Leveled) (row : RowEdges) (k : ℕ) : Type 0 where
+  pub low : k < length (row_names v row.y row.z)
+  pub name_is : get_or (row_names v row.y row.z) k 0 ≡ 3 * row_start v.grid row.y row.z + get_or row.edges k 0
+  pub in_row : get_or row.edges k 0 < 3 * v.grid.nx
+  pub place_is : get_or row.places k 0 ≡ edge_place v.grid (heights v) (3 * row_start v.grid row.y row.z + get_or row.edges k 0)
+
+module _ (v : Leveled) (row : RowEdges) (are : AreRowEdges v row) (room : row.count ≤ length row.edges) where
+  abbrev names : List ℕ
+  names = row_names v row.y row.z
+
+  abbrev listed : List ℕ
+  listed = take row.count row.edges
+
+  listed_count : length listed ≡ row.count
+  listed_count = length-take-le row.count row.edges room
+
+  -- how many edges there are
+  pub count_is : length names ≡ row.count
+  count_is = ap length (sym are.edges.names) ∙ (length-map listed (name v row.y row.z) ∙ listed_count)
+
+  pub edge_at : (k : ℕ) → k < row.count → EdgeAt v row k
+  unfolding names_in places_in
+  edge_at k low =
+      let within : k < length names = omega (arith, count_is) in
+      let offset : get_or listed k 0 ≡ get_or row.edges k 0 = get_or-take row.count row.edges k 0 low in
+      let is : get_or names k 0 ≡ name v row.y row.z (get_or row.edges k 0)
+      = ap (λ l. get_or l k 0) (sym are.edges.names) ∙ (get_or-map (name v row.y row.z) listed k 0 0 (omega (arith, listed_count)) ∙ ap (name v row.y row.z) offset) in
+      let known = In-filter (is_crossing v.grid (heights v)) (get_or names k 0) (range_with_len (3 * row_start v.grid row.y row.z) (3 * v.grid.nx)) (In-at names k 0 within) in
+      let bounds = range_at_least (3 * row_start v.grid row.y row.z) (3 * v.grid.nx) (get_or names k 0) known.0 in
+      record {
+        low = within;
+        name_is = is;
+        in_row = omega (arith, is, bounds.1);
+        place_is = sym (get_or-take row.count row.places k 0 low) ∙ (ap (λ l. get_or l k 0) are.places
+            ∙ (get_or-map (edge_place v.grid (heights v)) names k 0 0 within ∙ ap (edge_place v.grid (heights v)) is));
+      }
+
+-- the lines of the first edges of a row
+module _ (f : ℕ → List ℕ) (ns : List ℕ) where
+  pub lines_next : (k : ℕ) → k < length ns → flat_map f (take (k + 1) ns) ≡ flat_map f (take k ns) ++ f (get_or ns k 0)
+  lines_next k low =
+      ap (flat_map f) (take_more ns k 0 low) ∙ (flat_map-append f (take k ns) (get_or ns k 0 ∷ []) ∙ ap (λ l. flat_map f (take k ns) ++ l) (append-nil (f (get_or ns k 0))))
+
+  pub lines_cut : (k : ℕ) → k < length ns → flat_map f ns ≡ (flat_map f (take k ns) ++ f (get_or ns k 0)) ++ flat_map f (drop (k + 1) ns)
+  lines_cut k low =
+      ap (flat_map f) (sym (take-append-drop (k + 1) ns)) ∙ (flat_map-append f (take (k + 1) ns) (drop (k + 1) ns) ∙ ap (λ l. l ++ flat_map f (drop (k + 1) ns)) (lines_next k low))
+
+  pub lines_all : (k : ℕ) → length ns ≤ k → flat_map f (take k ns) ≡ flat_map f ns
+  lines_all k all = ap (flat_map f) (take_all k ns all)

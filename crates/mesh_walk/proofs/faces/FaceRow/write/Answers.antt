@@ -25,14 +25,14 @@ loop-eight-init g c =
       next = subst (λ q. HasNumber v q c.args.next) here c.requires.next;
     }
 
-pub write_eight-next-requires-clause-eight : goal.write_eight-next-requires-clause-eight
-write_eight-next-requires-clause-eight g c =
+pub write_eight-requires-clause-eight : goal.write_eight-requires-clause-eight
+write_eight-requires-clause-eight g c =
     let v = g.H.Heights.leveled c.args.field.now in
     let nx = width_is v _ _ c.sizes.ensures.value c.nx-nx.ensures.value in
     omega (arith, nx, c.loop-eight-test.true)
 
-pub write_eight-next-requires-clause-next : goal.write_eight-next-requires-clause-next
-write_eight-next-requires-clause-next g c =
+pub write_eight-requires-clause-next : goal.write_eight-requires-clause-next
+write_eight-requires-clause-next g c =
     let v = g.H.Heights.leveled c.args.field.now in
     let format = c.args.self.style.format in
     let cells = c.args.self.cells.now in

@@ -50,8 +50,8 @@ loop-x-init g c =
       next = c.requires.next;
     }
 
-pub write_cell-next-requires-clause-x : goal.write_cell-next-requires-clause-x
-write_cell-next-requires-clause-x g c =
+pub write_cell-requires-clause-x : goal.write_cell-requires-clause-x
+write_cell-requires-clause-x g c =
     let v = g.H.Heights.leveled c.args.field.now in
     let end = end_is v _ _ _ c.args.eight c.sizes.ensures.value c.nx-last.ensures.value c.min-end.ensures in
     omega (arith, end, c.loop-x-test.true, c.requires.eight)
