@@ -1,5 +1,5 @@
 -- The crossing edges of a row of points, by their offsets and by their names.
-use Rattle.std.proofs.Common.{◌≡◌, ℕ, zero, suc, ◌+◌, ◌*◌, ◌/◌, ◌%◌, ◌<◌, ◌≤◌, Bool, true, false, cond, List, [], ◌∷◌, ◌++◌, map, take, drop, set, length, get_or, refl, sym, ◌∙◌, ap, ap₂, subst, arith, eqb, ◌-◌, add-zero, append-nil, append_assoc}
+use Rattle.std.proofs.Common.{◌≡◌, ℕ, zero, suc, ◌+◌, ◌*◌, ◌/◌, ◌%◌, ◌<◌, ◌≤◌, Bool, true, false, cond, List, [], ◌∷◌, ◌++◌, map, take, drop, set, length, get_or, refl, sym, ◌∙◌, ap, ap₂, subst, arith, eqb, ◌-◌, add-zero, append-nil, append_assoc, inl, inr}
 use Rattle.std.specs.List.{filter, flat_map, range_with_len}
 use Rattle.std.proofs.lemmas.List.{get_or-map, get_or-take, length-map, length-take-le, map-append, take-set, take_all, take_more, take_more_set, take-append-drop}
 use Rattle.std.proofs.lemmas.List.Concat.{flat_map-append}
@@ -8,13 +8,16 @@ use Rattle.iso_defs.specs.Grid.{Grid}
 use Rattle.iso_defs.specs.Signs.{is_crossing}
 use Rattle.crossing_edges.specs.Flags.{bit, edge_place, flags_at, names_in, places_in}
 use Rattle.crossing_edges.proofs.Counting.{flag_first, flag_second, flag_third, names_empty, names_next, names_three}
-use Rattle.verdict_laws.proofs.Lists.{In-at, In-filter}
+use Rattle.verdict_laws.proofs.Lists.{In, In-filter}
 use Rattle.mesh_laws.proofs.Cells.{range_at_least}
 use Rattle.flat_mesh.specs.Lattice.{Leveled, heights}
 use Rattle.flat_mesh.specs.Rows.{row_start}
+use Rattle.mesh_lines.specs.declared.style.Style.{Style}
+use Rattle.mesh_rows.specs.Counts.{span}
 use Rattle.mesh_rows.specs.Rows.{AreEdges, AreFlags, row_names}
 use Rattle.mesh_walk.specs.declared.edges.RowEdges.{RowEdges}
 use Rattle.mesh_walk.specs.Edges.{AreRowEdges, edges_among, edges_at}
+use Rattle.mesh_walk.specs.Spans.{edge_line, edges_text}
 
 -- an offset that is written where an edge is crossing, and written over where it is not
 pub offset_put : (b : Bool) (xs : List ℕ) (at e k : ℕ) → k ≡ bit b → at < length xs → take (at + k) (set xs at e) ≡ take at xs ++ cond {A = List ℕ} b (e ∷ []) []
@@ -126,6 +129,16 @@ module _ (v : Leveled) (y z : ℕ) where
 pub front_flags : (v : Leveled) (y z n : ℕ) (flags front : List ℕ) → n ≡ v.grid.nx → front ≡ take n flags → AreFlags v y z flags → AreFlags v y z front
 front_flags v y z n flags front all same are x low = ap (λ l. get_or l x 0) same ∙ (get_or-take n flags x 0 (omega arith) ∙ are x low)
 
+-- the edges that are listed by these flags
+pub listed_by : (v : Leveled) (y z n : ℕ) (flags front edges : List ℕ) → n ≡ v.grid.nx → length front ≡ v.grid.nx → front ≡ take n flags → AreFlags v y z flags → edges ≡ edges_among front 0 (length front) → AreEdges v y z edges
+listed_by v y z n flags front edges all count same are listed =
+    edges_are v y z front edges (front_flags v y z n flags front all same are) (listed ∙ ap (edges_among front 0) count)
+
+In-at : {A : Type 0} (xs : List A) (k : ℕ) (d : A) → k < length xs → In (get_or xs k d) xs
+In-at [] k d h = absurd (omega arith)
+In-at (x ∷ xs) zero d h = inl refl
+In-at (x ∷ xs) (suc k) d h = inr (In-at xs k d (omega arith))
+
 -- an edge of a row by its number
 pub record EdgeAt (v : Leveled) (row : RowEdges) (k : ℕ) : Type 0 where
   pub low : k < length (row_names v row.y row.z)
@@ -133,7 +146,7 @@ pub record EdgeAt (v : Leveled) (row : RowEdges) (k : ℕ) : Type 0 where
   pub in_row : get_or row.edges k 0 < 3 * v.grid.nx
   pub place_is : get_or row.places k 0 ≡ edge_place v.grid (heights v) (3 * row_start v.grid row.y row.z + get_or row.edges k 0)
 
-module _ (v : Leveled) (row : RowEdges) (are : AreRowEdges v row) (room : row.count ≤ length row.edges) where
+module _ (v : Leveled) (row : RowEdges) (are : AreRowEdges v row) where
   abbrev names : List ℕ
   names = row_names v row.y row.z
 
@@ -141,7 +154,7 @@ module _ (v : Leveled) (row : RowEdges) (are : AreRowEdges v row) (room : row.co
   listed = take row.count row.edges
 
   listed_count : length listed ≡ row.count
-  listed_count = length-take-le row.count row.edges room
+  listed_count = length-take-le row.count row.edges are.room
 
   -- how many edges there are
   pub count_is : length names ≡ row.count
@@ -163,6 +176,11 @@ module _ (v : Leveled) (row : RowEdges) (are : AreRowEdges v row) (room : row.co
         place_is = sym (get_or-take row.count row.places k 0 low) ∙ (ap (λ l. get_or l k 0) are.places
             ∙ (get_or-map (edge_place v.grid (heights v)) names k 0 0 within ∙ ap (edge_place v.grid (heights v)) is));
       }
+
+-- the lines of the crossing edges of a row
+pub row_text : (v : Leveled) (style : Style) (y z : ℕ) → flat_map (edge_line style v) (row_names v y z) ≡ edges_text style v (3 * row_start v.grid y z) (3 * v.grid.nx)
+unfolding span names_in
+row_text v style y z = refl
 
 -- the lines of the first edges of a row
 module _ (f : ℕ → List ℕ) (ns : List ℕ) where

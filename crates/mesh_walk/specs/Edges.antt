@@ -1,5 +1,5 @@
 -- The crossing edges of a row of points by their offsets: three times how far an edge's point is along x, and its axis.
-use Rattle.std.specs.Prelude.{◌≡◌, ℕ, ◌+◌, ◌*◌, ◌/◌, ◌%◌, ◌<◌, ◌≤◌, ◌==◌, cond, List, [], ◌∷◌, ◌++◌, slice_index, take}
+use Rattle.std.specs.Prelude.{◌≡◌, ℕ, ◌+◌, ◌*◌, ◌/◌, ◌%◌, ◌<◌, ◌≤◌, ◌==◌, cond, List, [], ◌∷◌, ◌++◌, length, slice_index, take}
 use Rattle.std.specs.List.{flat_map, range_with_len}
 use Rattle.flat_mesh.specs.Lattice.{Leveled}
 use Rattle.mesh_rows.specs.Rows.{AreEdges, row_places}
@@ -19,5 +19,6 @@ pub record AreRowEdges (v : Leveled) (row : RowEdges) : Type 0 where
   pub y : row.y < v.grid.ny
   pub z : row.z < v.grid.nz
   pub count : row.count ≤ 3 * v.grid.nx
+  pub room : row.count ≤ length row.edges
   pub edges : AreEdges v row.y row.z (take row.count row.edges)
   pub places : take row.count row.places ≡ row_places v row.y row.z

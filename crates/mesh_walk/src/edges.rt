@@ -1,9 +1,9 @@
 //! The lines of the vertices on crossing edges, in order of name.
-ghost use Rattle.std.specs.Prelude.{◌≡◌, ◌+◌, ◌*◌, ◌/◌, ◌%◌, ◌<◌, ◌≤◌, ◌==◌, IfOk, if◌then◌else◌, slice_index};
+ghost use Rattle.std.specs.Prelude.{◌≡◌, ◌+◌, ◌*◌, ◌/◌, ◌%◌, ◌<◌, ◌≤◌, ◌==◌, IfOk, if◌then◌else◌, length, slice_index, take};
 ghost use Rattle.iso_defs.specs.Rows.{row_count};
-ghost use Rattle.flat_mesh.specs.Lattice.{Leveled};
 ghost use Rattle.flat_mesh.specs.Rows.{row_start};
-ghost use Rattle.mesh_lines.specs.Blocks.{Adds, IsBehind};
+ghost use Rattle.mesh_rows.specs.Rows.{AreEdges, row_places};
+ghost use Rattle.mesh_lines.specs.Blocks.{Adds};
 ghost use Rattle.mesh_walk.specs.Edges.{AreRowEdges};
 ghost use Rattle.mesh_walk.specs.Numbers.{AreRowRanks};
 ghost use Rattle.mesh_walk.specs.Spans.{all_edges_text, edge_line, edges_text, row_edges_text};
@@ -15,6 +15,26 @@ use byte_streams::{Failed, Sink};
 use flat_mesh::Heights;
 use mesh_lines::{Block, Style};
 use mesh_rows::MeshRows;
+
+/// Fills in where the crossing edges of a row are crossed, at the front of a buffer.
+fn set_places<R: MeshRows>(
+    rows: &mut R,
+    y: u32,
+    z: u32,
+    edges: &[u16],
+    places: &mut [u16; ROOM],
+)
+    requires y { y < (R.leveled rows.old).grid.ny }
+    requires z { z < (R.leveled rows.old).grid.nz }
+    requires edges { AreEdges (R.leveled rows.old) y z edges.now }
+    requires few { length edges.now ≤ 3078 }
+    ensures places { take (length edges.now) places.new ≡ row_places (R.leveled rows.old) y z }
+    ensures volume { R.leveled rows.new ≡ R.leveled rows.old }
+    ensures kept { R.kept rows.new ≡ R.kept rows.old }
+    ensures spent { R.spent rows.new ≡ R.spent rows.old }
+{
+    rows.fill_places(y, z, edges, &mut places[..edges.len()]);
+}
 
 /// The crossing edges that begin in a row of points: so many offsets, three times how far an edge's point is along x and its
 /// axis, and where they are crossed, in thousandths from their lower ends. The flags of the points are a buffer.
@@ -73,8 +93,8 @@ impl RowEdges {
     {
         let _ = rows.sizes();
         self.list(rows, y, z);
-        let count = self.count;
-        rows.fill_places(y, z, &self.edges[..count], &mut self.places[..count]);
+        let edges = &self.edges[..self.count];
+        set_places(rows, y, z, edges, &mut self.places);
     }
 
     /// Where the vertex on an edge is in thousandths, by the edge's number in the row.
