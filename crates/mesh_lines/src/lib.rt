@@ -1,0 +1,8 @@
+//! The lines of meshes in four formats, ASCII PLY, Wavefront OBJ, OFF and VTK, gathered in a block on the stack and written to a sink.
+#![tactic(auto)]
+
+mod block;
+mod style;
+
+pub use block::Block;
+pub use style::{Origin, Style};
