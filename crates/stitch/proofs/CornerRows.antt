@@ -6,7 +6,7 @@ use Rattle.iso_defs.specs.Rows.{row_count}
 use Rattle.iso_base.specs.Sizing.{IsGrid}
 use Rattle.flat_mesh.specs.Lattice.{Leveled}
 use Rattle.stitch_rows.specs.Bricks.{AreMarked}
-use Rattle.stitch_rows.specs.Rows.{AreFirst, AreFlags}
+use Rattle.mesh_rows.specs.Rows.{AreFirst, AreFlags}
 use Rattle.stitch.specs.declared.corners.Corners.{Corners}
 use Rattle.stitch.specs.FourRows.{AreCorners, AreNext, IsReady}
 use Rattle.stitch.proofs.RankedRows.{few_rows}

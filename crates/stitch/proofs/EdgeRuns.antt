@@ -5,7 +5,7 @@ use Rattle.iso_defs.specs.Grid.{Grid}
 use Rattle.crossing_edges.specs.Flags.{flags_at}
 use Rattle.flat_mesh.specs.Lattice.{Leveled, heights}
 use Rattle.flat_mesh.specs.Rows.{row_start}
-use Rattle.stitch_rows.specs.Rows.{AreFlags}
+use Rattle.mesh_rows.specs.Rows.{AreFlags}
 use Rattle.stitch.specs.Ends.{points_before, run_end}
 
 -- they begin with the brick, end in the row, and the next point of each is held by the brick too

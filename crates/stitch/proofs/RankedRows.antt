@@ -15,7 +15,7 @@ use Rattle.flat_mesh.specs.Lattice.{Leveled, heights}
 use Rattle.flat_mesh.specs.Rows.{row_start}
 use Rattle.flat_mesh.proofs.FirstNumbers.{rank_low}
 use Rattle.flat_mesh.proofs.Quiet.{quiet_rows}
-use Rattle.stitch_rows.specs.Rows.{AreFlags, IsStill}
+use Rattle.mesh_rows.specs.Rows.{AreFlags, IsStill}
 use Rattle.stitch_rows.proofs.FlagRows.{flags_list}
 use Rattle.stitch.specs.Numbers.{AreQuiet, AreRowRanks}
 

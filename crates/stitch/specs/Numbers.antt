@@ -5,10 +5,10 @@ use Rattle.iso_defs.specs.Lists.{below}
 use Rattle.iso_defs.specs.Grid.{Grid, is_cell}
 use Rattle.iso_defs.specs.Bricks.{bricks_along}
 use Rattle.stitch_rows.specs.Bricks.{first_brick}
-use Rattle.stitch_rows.specs.Rows.{AreCases}
+use Rattle.mesh_rows.specs.Rows.{AreCases}
 use Rattle.stitch_rows.specs.Named.{Named, asked_among}
-use Rattle.stitch.specs.Spans.{centres_among, triangles_among}
-use Rattle.stitch_rows.specs.declared.named.Counts.{Counts}
+use Rattle.mesh_rows.specs.Counts.{centres_among, triangles_among}
+use Rattle.mesh_rows.specs.declared.counts.Counts.{Counts}
 use Rattle.flat_mesh.specs.Faces.{loops_at}
 use Rattle.iso_defs.specs.Rows.{row_count}
 use Rattle.crossing_edges.specs.Flags.{rank}

@@ -10,7 +10,7 @@ ghost use Rattle.flat_mesh.specs.Faces.{AllCross, loops_at};
 ghost use Rattle.flat_mesh.specs.Lattice.{heights};
 ghost use Rattle.stitch_rows.specs.Bricks.{AreMarked, first_brick};
 ghost use Rattle.stitch_rows.specs.Named.{NamesCases};
-ghost use Rattle.stitch_rows.specs.Rows.{IsCaseOf};
+ghost use Rattle.mesh_rows.specs.Rows.{IsCaseOf};
 ghost use Rattle.stitch.specs.Blocks.{Adds, IsBehind};
 ghost use Rattle.stitch.specs.Numbers.{AreRowRanks, IsCaseRow, asked_before, asked_in_row};
 ghost use Rattle.stitch.specs.Spans.{all_centres_text, centre_line, centres_text, loop_lines, row_centres_text};

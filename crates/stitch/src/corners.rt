@@ -8,7 +8,7 @@ ghost use Rattle.crossing_edges.specs.Flags.{rank};
 ghost use Rattle.flat_mesh.specs.Lattice.{Leveled, heights};
 ghost use Rattle.flat_mesh.specs.Rows.{row_start};
 ghost use Rattle.stitch_rows.specs.Bricks.{AreMarked};
-ghost use Rattle.stitch_rows.specs.Rows.{AreFirst, AreFlags};
+ghost use Rattle.mesh_rows.specs.Rows.{AreFirst, AreFlags};
 ghost use Rattle.stitch.specs.FourRows.{AreCorners, AreNear, IsReady};
 ghost use Rattle.stitch.specs.Numbers.{AreRowRanks};
 

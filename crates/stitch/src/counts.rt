@@ -5,8 +5,9 @@ ghost use Rattle.iso_defs.specs.Rows.{row_count};
 ghost use Rattle.flat_mesh.specs.Centres.{IsCellAt};
 ghost use Rattle.flat_mesh.specs.Lattice.{heights};
 ghost use Rattle.stitch_rows.specs.Named.{NamesCases, asked_among};
-ghost use Rattle.stitch_rows.specs.Rows.{IsCaseOf};
-ghost use Rattle.stitch.specs.Numbers.{AreCounts, IsCaseRow};
+ghost use Rattle.mesh_rows.specs.Rows.{IsCaseOf};
+ghost use Rattle.stitch.specs.Numbers.{IsCaseRow};
+ghost use Rattle.mesh_rows.specs.Counts.{AreCounts};
 
 use crate::ranks::row_at;
 use crate::walk::have_no_loops;

@@ -9,7 +9,7 @@ ghost use Rattle.flat_mesh.specs.Faces.{cell_faces, centres_of, loop_faces};
 ghost use Rattle.flat_mesh.specs.Centres.{IsCellAt};
 ghost use Rattle.stitch_rows.specs.Bricks.{AreMarked, first_brick};
 ghost use Rattle.stitch_rows.specs.Named.{NamesCases};
-ghost use Rattle.stitch_rows.specs.Rows.{IsCaseOf};
+ghost use Rattle.mesh_rows.specs.Rows.{IsCaseOf};
 ghost use Rattle.stitch.specs.Blocks.{Adds, IsBehind};
 ghost use Rattle.stitch.specs.Numbers.{AreRowRanks, IsCaseRow, asked_before, asked_in_row};
 ghost use Rattle.stitch.specs.Spans.{all_faces_text, face_lines, faces_text, row_faces_text};

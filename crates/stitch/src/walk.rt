@@ -5,7 +5,7 @@ ghost use Rattle.cell_loops.specs.Loops.{row_loops};
 ghost use Rattle.flat_mesh.specs.Lattice.{heights};
 ghost use Rattle.stitch_rows.specs.Bricks.{AreMarked, first_brick};
 ghost use Rattle.stitch_rows.specs.Named.{NamesCases};
-ghost use Rattle.stitch_rows.specs.Rows.{AreCases};
+ghost use Rattle.mesh_rows.specs.Rows.{AreCases};
 ghost use Rattle.stitch.specs.Numbers.{AreQuiet, AreRowRanks, IsCaseRow, asked_in_row};
 
 use crate::ranks::{is_quiet, row_at};

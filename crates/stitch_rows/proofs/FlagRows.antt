@@ -19,7 +19,8 @@ use Rattle.flat_mesh.specs.Rows.{row_start, sign_bit}
 use Rattle.flat_mesh.proofs.FirstNumbers.{rank_low}
 use Rattle.flat_mesh.proofs.Known.{flags_low}
 use Rattle.stitch_rows.specs.Bricks.{next_at}
-use Rattle.stitch_rows.specs.Rows.{AreFirst, AreFlags, AreFlagsTo, HasMoreFlags, bit_right, run_flags}
+use Rattle.stitch_rows.specs.Rows.{HasMoreFlags, bit_right, run_flags}
+use Rattle.mesh_rows.specs.Rows.{AreFirst, AreFlags, AreFlagsTo}
 use Rattle.stitch_rows.specs.Runs.{IsRun}
 use Rattle.corner_signs.specs.Rows.{bit_from}
 use Rattle.iso_base.specs.Shifted.{is_above_level}

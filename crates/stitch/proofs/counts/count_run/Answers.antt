@@ -1,6 +1,6 @@
 use Rattle.std.proofs.Common.{◌≡◌, ◌+◌, ◌*◌, ◌<◌, ◌-◌, ◌∙◌, ap, subst, refl, arith}
 use Rattle.iso_defs.specs.Grid.{Grid}
-use Rattle.stitch.specs.Numbers.{AreCounts}
+use Rattle.mesh_rows.specs.Counts.{AreCounts}
 use Rattle.stitch.proofs.CellRuns.{case_at, cell_at, quiet_counts, quiet_run}
 use Rattle.stitch.proofs.counts.count_run.Goals as goal
 

@@ -1,5 +1,5 @@
 use Rattle.std.proofs.Common.{◌+◌}
-use Rattle.stitch.specs.Numbers.{AreCounts}
+use Rattle.mesh_rows.specs.Counts.{AreCounts}
 use Rattle.stitch.proofs.counts.count_run.Given as goal
 
 abbrev pub invariant-loop-x : goal.invariant-loop-x
