@@ -7,7 +7,7 @@ use Rattle.iso_base.specs.Sizing.{IsGrid}
 use Rattle.flat_mesh.specs.Lattice.{Leveled, heights}
 use Rattle.stitch_rows.specs.declared.active.ActiveRow.{ActiveRow}
 use Rattle.stitch_rows.specs.declared.bricks.BrickRow.{BrickRow}
-use Rattle.stitch_rows.specs.Bricks.{AreMarked, HoldRow, IsActive, IsNextFrom, first_brick}
+use Rattle.stitch_rows.specs.Bricks.{AreMarked, HoldRow, IsActive, IsNextFrom}
 use Rattle.stitch_rows.specs.Named.{Named, asked_along, asked_among}
 use Rattle.stitch_rows.specs.Rows.{AreZerosFrom}
 use Rattle.mesh_rows.specs.Rows.{AreCasesTo, IsCaseOf}

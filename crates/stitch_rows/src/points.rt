@@ -9,14 +9,11 @@ ghost use Rattle.stitch_rows.specs.Bricks.{AreMarked, IsPointRow};
 ghost use Rattle.stitch_rows.specs.Rows.{AreRuns, AreZerosFrom};
 
 use crate::active::ActiveRow;
-use crate::bricks::{BrickRow, PointRow, count_along};
+use crate::bricks::{PointRow, count_along, row_place};
 use crate::field::{Field, Offset};
 use crate::flags::{Flagged, put_eight, put_last, put_zeros};
 use packed_samples::PackedRun;
 use samples::Packed;
-
-/// The most points of a row.
-pub const ROW: usize = 1026;
 
 /// The samples of the points of a row that a brick holds, and those of the next points along y and z, or the points' own again
 /// where there are none.
@@ -29,7 +26,7 @@ pub struct PointRuns<'a, T> {
 
 /// The samples of the points of a row that a brick holds, and of the next ones: those from 8 * x on.
 #[inline(always)]
-pub fn point_runs<'c, T: Packed>(
+fn point_runs<'c, T: Packed>(
     field: &Field,
     copies: &'c [T],
     row: PointRow,
@@ -46,14 +43,6 @@ pub fn point_runs<'c, T: Packed>(
         up: field.run(copies, row, Offset { up, far: 0 }, x),
         far: field.run(copies, row, Offset { up: 0, far }, x),
     }
-}
-
-/// Where the samples of a row of points begin in its first brick, among those of all bricks.
-#[inline(always)]
-fn row_place(row: BrickRow) -> usize
-    ensures { result ≡ 729 * row.first + 9 * (row.y + 9 * row.z) }
-{
-    729 * row.first as usize + 9 * (row.y as usize + 9 * row.z as usize)
 }
 
 /// The samples of nine points of a row that a brick holds, and of the next ones, where more points are behind them in the row. `place`
