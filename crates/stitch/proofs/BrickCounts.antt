@@ -19,7 +19,7 @@ use Rattle.stitch_rows.proofs.QuietBricks.{unmixed_loops}
 use Rattle.mesh_rows.specs.declared.counts.Counts.{Counts}
 use Rattle.mesh_rows.specs.Counts.{AreCounts, centres_among, triangles_among}
 use Rattle.stitch.proofs.BrickSums.{of_all, span_sum}
-use Rattle.stitch.proofs.CellRuns.{centres_of_case, triangles_of_case}
+use Rattle.stitch.proofs.CaseCounts.{centres_of_case, triangles_of_case}
 use Rattle.stitch.proofs.Uptos.{upto, upto_append, upto_low, upto_more, zeros}
 
 none_pass : (p : ℕ → Bool) (xs : List ℕ) → list_any p xs ≡ false → filter p xs ≡ []
