@@ -1,4 +1,4 @@
 pub mod Asked
 pub mod Kept
 pub mod Joining
-pub mod Standin
+pub mod Origins

@@ -1,0 +1,119 @@
+//! A mesh written while its volume is walked.
+ghost use Rattle.std.specs.Prelude.{◌≡◌, ◌+◌, ◌*◌, ◌≤◌, IfOk, is_some};
+ghost use Rattle.iso_defs.specs.Bricks.{brick_count};
+ghost use Rattle.iso_defs.specs.Texts.{scratch_ply};
+ghost use Rattle.iso_base.specs.Shifted.{field};
+ghost use Rattle.byte_streams.specs.Seen.{Puts};
+ghost use Rattle.flat_mesh.specs.Lattice.{heights};
+ghost use Rattle.flat_mesh.specs.Mesh.{mesh_of};
+ghost use Rattle.mesh_lines.specs.Lines.{text_of, written_of};
+ghost use Rattle.mesh_write.specs.Mesh.{obj_written, ply_written, scratch_obj};
+ghost use Rattle.span_tree.specs.Spans.{IsRightFor};
+ghost use Rattle.stitch_rows.specs.Named.{NamesCases, asked_among};
+ghost use Rattle.stitch.specs.Origins.{origin_for};
+
+use mesh_walk::write_mesh;
+use crate::store::StoreRows;
+use brick_store::BrickStore;
+use byte_streams::{Failed, Sink};
+use edge_points::RowRanks;
+use iso_base::{Level, MeshFormat, Steps, Written};
+use mesh_lines::{Origin, Style};
+use span_tree::SpanTree;
+use std::sync::ledger::Ledger;
+use stitch_rows::{CellRows, Field};
+
+/// Where the coordinates of the mesh of a volume are counted from.
+fn origin_of(store: &BrickStore) -> Origin
+    ensures { result ≡ origin_for (is_some store.now.pad) }
+{
+    if store.pad().is_some() {
+        Origin::Pad
+    } else {
+        Origin::Volume
+    }
+}
+
+/// Appends the text of the mesh in a style, and says how many vertices, faces and bytes were written.
+fn write_in<R: CellRows, K: Sink, L: Ledger>(
+    style: Style,
+    field: &Field,
+    rows: &mut R,
+    ranks: &mut RowRanks,
+    sink: &mut K,
+    steps: &mut Steps<L>,
+) -> Result<Written, Failed>
+    requires named { NamesCases (R.named rows.old) field.now.grid (heights field.now) }
+    requires ranks { ranks.old.grid ≡ field.now.grid }
+    ensures text { Puts (K.seen sink.old) (K.seen sink.new) result (text_of style (mesh_of field.now.grid (heights field.now))) }
+    ensures written { IfOk result (λ w. w ≡ written_of style (mesh_of field.now.grid (heights field.now))) }
+    ensures ranks { ranks.new.grid ≡ ranks.old.grid }
+    ensures same { R.named rows.new ≡ R.named rows.old }
+    ensures least { steps.old ≤ steps.new }
+    ensures most { steps.new
+        ≤ steps.old + 1536 * asked_among field.now.grid (heights field.now) (R.named rows.old) 0 (brick_count field.now.grid) }
+{
+    let _ = field.sizes();
+    let mut store = StoreRows::new(field, rows, steps);
+    write_mesh(&mut store, style, ranks, sink)
+}
+
+/// Appends the text of the mesh of a volume in bricks at a level, as PLY, and says how many vertices, faces and bytes were
+/// written. The mesh is never held, and no memory is taken. `Failed` comes only where the sink's count rose; a front of the
+/// text was then taken. Each active brick is asked once for its counts and each of its rows at most twice, and no other brick.
+pub fn write_ply<R: CellRows, K: Sink, L: Ledger>(
+    store: &BrickStore,
+    tree: &SpanTree,
+    level: Level,
+    rows: &mut R,
+    ranks: &mut RowRanks,
+    sink: &mut K,
+    steps: &mut Steps<L>,
+) -> Result<Written, Failed>
+    requires tree { IsRightFor tree.now store.now }
+    requires named { NamesCases (R.named rows.old) store.now.grid (field store.now.samples level) }
+    requires ranks { ranks.old.grid ≡ store.now.grid }
+    ensures text { Puts (K.seen sink.old) (K.seen sink.new) result (scratch_ply (is_some store.now.pad) store.now.grid (field store.now.samples level)) }
+    ensures written { IfOk result (λ w. w ≡ ply_written (is_some store.now.pad) (mesh_of store.now.grid (field store.now.samples level))) }
+    ensures ranks { ranks.new.grid ≡ ranks.old.grid }
+    ensures same { R.named rows.new ≡ R.named rows.old }
+    ensures least { steps.old ≤ steps.new }
+    ensures most { steps.new ≤ steps.old + 1536 * asked_among store.now.grid (field store.now.samples level) (R.named rows.old) 0 (brick_count store.now.grid) }
+{
+    let _ = store.sizes();
+    let style = Style {
+        format: MeshFormat::Ply,
+        origin: origin_of(store),
+    };
+    let field = Field::new(store, tree, level);
+    write_in(style, &field, rows, ranks, sink, steps)
+}
+
+/// Appends the text of the same mesh as OBJ, as `write_ply` does. Its faces count vertices from 1.
+pub fn write_obj<R: CellRows, K: Sink, L: Ledger>(
+    store: &BrickStore,
+    tree: &SpanTree,
+    level: Level,
+    rows: &mut R,
+    ranks: &mut RowRanks,
+    sink: &mut K,
+    steps: &mut Steps<L>,
+) -> Result<Written, Failed>
+    requires tree { IsRightFor tree.now store.now }
+    requires named { NamesCases (R.named rows.old) store.now.grid (field store.now.samples level) }
+    requires ranks { ranks.old.grid ≡ store.now.grid }
+    ensures text { Puts (K.seen sink.old) (K.seen sink.new) result (scratch_obj (is_some store.now.pad) store.now.grid (field store.now.samples level)) }
+    ensures written { IfOk result (λ w. w ≡ obj_written (is_some store.now.pad) (mesh_of store.now.grid (field store.now.samples level))) }
+    ensures ranks { ranks.new.grid ≡ ranks.old.grid }
+    ensures same { R.named rows.new ≡ R.named rows.old }
+    ensures least { steps.old ≤ steps.new }
+    ensures most { steps.new ≤ steps.old + 1536 * asked_among store.now.grid (field store.now.samples level) (R.named rows.old) 0 (brick_count store.now.grid) }
+{
+    let _ = store.sizes();
+    let style = Style {
+        format: MeshFormat::Obj,
+        origin: origin_of(store),
+    };
+    let field = Field::new(store, tree, level);
+    write_in(style, &field, rows, ranks, sink, steps)
+}
