@@ -1,25 +1,28 @@
 -- The text of a mesh in a style: its format, and where its coordinates are counted from.
-use Rattle.std.specs.Prelude.{ℕ, List, [], ◌∷◌, ◌++◌, false, length, true}
+use Rattle.std.specs.Prelude.{ℕ, ◌+◌, ◌*◌, ℤ, pos, List, [], ◌∷◌, ◌++◌, length, slice_index, true}
 use Rattle.std.specs.List.{flat_map}
 use Rattle.iso_defs.specs.Cell.{Triangle}
 use Rattle.iso_defs.specs.Place.{Position}
-use Rattle.iso_defs.specs.Texts.{line, numbers_text, position_text}
+use Rattle.iso_defs.specs.Texts.{line, numbers_text, printed}
 use Rattle.iso_base.specs.declared.fault.Written.{Written}
 use Rattle.iso_base.specs.declared.format.MeshFormat.{MeshFormat}
 use Rattle.iso_base.specs.declared.format.MeshFormat.TheVariants.{Ply, Obj, Off, Vtk}
 use Rattle.flat_mesh.specs.Mesh.{FlatMesh}
-use Rattle.mesh_text.specs.Lines.{ply_head}
+use Rattle.mesh_text.specs.Lines.{coordinates_text, ply_head}
 use Rattle.mesh_more.specs.Heads.{off_head, vtk_faces, vtk_head}
-use Rattle.mesh_more.specs.Texts.{moved}
 use Rattle.mesh_lines.specs.declared.style.Origin.{Origin}
 use Rattle.mesh_lines.specs.declared.style.Origin.TheVariants.{Volume, Pad, Window}
 use Rattle.mesh_lines.specs.declared.style.Style.{Style}
 
+-- a coordinate along an axis as it is printed: less the pad's layer, or counted from the first point of the larger volume
+abbrev pub origin_coordinate : Origin → ℕ → ℕ → ℤ
+origin_coordinate Volume axis n = pos n
+origin_coordinate Pad axis n = printed true n
+origin_coordinate (Window at) axis n = pos (1000 * slice_index (at.x ∷ at.y ∷ at.z ∷ []) axis + n)
+
 -- a position as its numbers are printed
 abbrev pub origin_text : Origin → Position → List ℕ
-origin_text Volume p = position_text false p
-origin_text Pad p = position_text true p
-origin_text (Window at) p = position_text false (moved (at.x, at.y, at.z) p)
+origin_text origin p = coordinates_text (origin_coordinate origin 0 p.0) (origin_coordinate origin 1 p.1) (origin_coordinate origin 2 p.2)
 
 -- what stands before these numbers: OBJ names the line
 abbrev pub vertex_letter : MeshFormat → List ℕ

@@ -2,7 +2,7 @@
 ghost use Rattle.std.specs.Prelude.{◌≡◌, ◌+◌, ◌<◌, ◌≤◌, ◌^◌, ◌++◌, length, unsigned_abs};
 ghost use Rattle.iso_base.specs.Triangles.{triangle_of};
 ghost use Rattle.mesh_text.specs.Lines.{letter_line};
-ghost use Rattle.mesh_lines.specs.Lines.{vertex_line};
+ghost use Rattle.mesh_lines.specs.Lines.{origin_coordinate, vertex_line};
 ghost use Rattle.mesh_lines.specs.Triangles.{corner_text, first_of, letter_of};
 
 use iso_base::{MeshFormat, Point, Thousandth};
@@ -50,7 +50,7 @@ impl Style {
     #[tactic(auto, unfolding(crate::specs::Lines::vertex_line))]
     fn gather_printed(self, origin: Origin, at: &[u32; 3], lines: &mut Lines)
         requires same { origin ≡ self.origin }
-        requires { length lines.old + 64 ≤ 4096 }
+        requires room { length lines.old + 64 ≤ 4096 }
         ensures line { lines.new ≡ lines.old ++ vertex_line self (0, triangle_of at.now) }
         ensures few { length lines.new ≤ length lines.old + 64 }
     {
