@@ -1,0 +1,14 @@
+pub mod Adding
+pub mod SpanLaws
+pub mod FlagRows
+pub mod RankedRows
+pub mod AnyName
+pub mod EdgeLines
+pub mod RowNames
+pub mod CellRuns
+pub mod FaceLines
+pub mod CornerNumbers
+pub mod CornerRows
+pub mod CentreLines
+pub mod MeshText
+pub mod WholeMesh

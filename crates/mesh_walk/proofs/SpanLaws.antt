@@ -1,0 +1,72 @@
+-- Runs of numbers, piece by piece.
+use Rattle.std.proofs.Common.{◌≡◌, ℕ, ◌+◌, ◌-◌, ◌<◌, ◌≤◌, Bool, true, false, cond, List, [], ◌∷◌, ◌++◌, length, Ok, Err, refl, sym, ◌∙◌, ap, ap₂, subst, arith, append-nil, length-append, inl, inr}
+use Rattle.std.specs.List.{filter, flat_map, range_with_len}
+use Rattle.std.proofs.lemmas.List.Elements.{filter-append}
+use Rattle.std.proofs.lemmas.List.Concat.{flat_map-append}
+use Rattle.iso_defs.proofs.Ranges.{range_append}
+use Rattle.byte_streams.specs.Seen.{Tape}
+use Rattle.byte_streams.specs.declared.Failed.{Failed}
+use Rattle.mesh_laws.proofs.Cells.{range_at_least}
+use Rattle.verdict_laws.proofs.Lists.{In, In-filter}
+use Rattle.mesh_lines.specs.Blocks.{Adds, Gathered}
+use Rattle.mesh_rows.specs.Counts.{span}
+use Rattle.mesh_walk.proofs.Adding.{adds_as, adds_both, adds_front, adds_none}
+
+module _ {X : Type 0} (f : ℕ → List X) (p : ℕ → Bool) where
+  pub span_none : (a : ℕ) → span f p a 0 ≡ []
+  unfolding span
+  span_none a = refl
+
+  pub span_more : (a m n : ℕ) → span f p a (m + n) ≡ span f p a m ++ span f p (a + m) n
+  unfolding span
+  span_more a m n =
+      ap (λ l. flat_map f (filter p l)) (range_append a m n)
+      ∙ (ap (flat_map f) (filter-append p (range_with_len a m) (range_with_len (a + m) n))
+      ∙ flat_map-append f (filter p (range_with_len a m)) (filter p (range_with_len (a + m) n)))
+
+  -- one number that passes, and one that does not
+  pub span_one : (a : ℕ) → p a ≡ true → span f p a 1 ≡ f a
+  unfolding span
+  span_one a e = ap (λ b. flat_map f (cond {A = List ℕ} b (a ∷ []) [])) e ∙ append-nil (f a)
+
+  pub span_not : (a : ℕ) → p a ≡ false → span f p a 1 ≡ []
+  unfolding span
+  span_not a e = ap (λ b. flat_map f (cond {A = List ℕ} b (a ∷ []) [])) e
+
+  nothing : (xs : List ℕ) → ((x : ℕ) → In x xs → f x ≡ []) → flat_map f xs ≡ []
+  nothing [] h = refl
+  nothing (x ∷ xs) h = ap₂ ◌++◌ (h x (inl refl)) (nothing xs (λ y i. h y (inr i)))
+
+  -- a run that gives nothing
+  pub span_quiet : (a n : ℕ) → ((q : ℕ) → a ≤ q → q < a + n → p q ≡ true → f q ≡ []) → span f p a n ≡ []
+  unfolding span
+  span_quiet a n quiet = nothing (filter p (range_with_len a n)) (λ q i.
+      let r : In q (range_with_len a n) × (p q ≡ true) = In-filter p q (range_with_len a n) i in
+      let b : (a ≤ q) × (q < a + n) = range_at_least a n q r.0 in
+      quiet q b.0 b.1 r.1)
+
+  pub length_more : (a m n : ℕ) → length (span f p a (m + n)) ≡ length (span f p a m) + length (span f p (a + m) n)
+  length_more a m n = ap length (span_more a m n) ∙ length-append (span f p a m) (span f p (a + m) n)
+
+-- how what is put grows along a run
+module _ (f : ℕ → List ℕ) (p : ℕ → Bool) (a : ℕ) where
+  pub run_none : {T : Type 0} (t : Tape) (b : Gathered) (x : T) → Adds t t b b (Ok x) (span f p a 0)
+  run_none t b x = adds_as t t b b (Ok x) [] (span f p a 0) (sym (span_none f p a)) (adds_none t b x)
+
+  pub run_more : {T U : Type 0} (t0 t1 t2 : Tape) (b0 b1 b2 : Gathered) (x : U) (y : T) (m n k c : ℕ) → c ≡ a + m → k ≡ m + n
+      → Adds t0 t1 b0 b1 (Ok x) (span f p a m) → Adds t1 t2 b1 b2 (Ok y) (span f p c n) → Adds t0 t2 b0 b2 (Ok y) (span f p a k)
+  run_more t0 t1 t2 b0 b1 b2 x y m n k c from to before here =
+      let there = subst (λ c. Adds t1 t2 b1 b2 (Ok y) (span f p c n)) from here in
+      adds_as t0 t2 b0 b2 (Ok y) (span f p a m ++ span f p (a + m) n) (span f p a k) (sym (span_more f p a m n) ∙ ap (span f p a) (sym to))
+      (adds_both t0 t1 t2 b0 b1 b2 x (Ok y) (span f p a m) (span f p (a + m) n) before there)
+
+  pub run_failed : {T U V : Type 0} (t0 t1 t2 : Tape) (b0 b1 b2 b3 : Gathered) (x : U) (e e' : Failed) (m n k c : ℕ) → c ≡ a + m → m + n ≤ k
+      → Adds t0 t1 b0 b1 (Ok x) (span f p a m) → Adds {T = V} t1 t2 b1 b2 (Err e) (span f p c n) → Adds {T = T} t0 t2 b0 b3 (Err e') (span f p a k)
+  run_failed {V = V} t0 t1 t2 b0 b1 b2 b3 x e e' m n k c from within before here =
+      let there = subst (λ c. Adds {T = V} t1 t2 b1 b2 (Err e) (span f p c n)) from here in
+      let rest : ℕ = k - (m + n) in
+      let to : k ≡ m + n + rest = omega arith in
+      let parts : span f p a k ≡ (span f p a m ++ span f p (a + m) n) ++ span f p (a + (m + n)) rest
+      = ap (span f p a) to ∙ (span_more f p a (m + n) rest ∙ ap (λ l. l ++ span f p (a + (m + n)) rest) (span_more f p a m n)) in
+      adds_front t0 t2 b0 b2 b3 e e' (span f p a m ++ span f p (a + m) n) (span f p (a + (m + n)) rest) (span f p a k) parts
+      (adds_both t0 t1 t2 b0 b1 b2 x (Err e) (span f p a m) (span f p (a + m) n) before there)

@@ -1,0 +1,14 @@
+use Rattle.std.proofs.Common.{◌+◌, ◌-◌, ◌*◌, ◌≤◌, Ok}
+use Rattle.flat_mesh.specs.Rows.{row_start}
+use Rattle.mesh_lines.specs.Blocks.{Adds}
+use Rattle.mesh_walk.specs.Spans.{centres_text}
+use Rattle.mesh_walk.proofs.centres.write_eight.Given as goal
+
+abbrev pub invariant-loop-x : goal.invariant-loop-x
+invariant-loop-x g l =
+    let v = g.H.Heights.leveled l.field in
+    record {
+      adds : Adds {T = Unit {0}} (g.K.Sink.seen l.fn.sink) (g.K.Sink.seen l.sink) l.fn.block l.block (Ok tt)
+          (centres_text l.style v (row_start v.grid l.cells.y l.cells.z + 8 * l.eight) (l.x - 8 * l.eight));
+      bytes : l.block.total ≤ l.fn.block.total + 256 * (l.x - 8 * l.eight);
+    }

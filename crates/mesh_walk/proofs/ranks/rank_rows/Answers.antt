@@ -1,0 +1,97 @@
+use Rattle.std.proofs.Common.{◌≡◌, ℕ, ◌+◌, ◌*◌, ◌≤◌, get_or, sym, refl, ◌∙◌, ap, subst, inl, inr, arith}
+use Rattle.std.proofs.lemmas.Bool.{cases_lt}
+use Rattle.iso_defs.specs.Grid.{Grid}
+use Rattle.iso_defs.specs.Rows.{row_count}
+use Rattle.edge_points.specs.Rows.{sums_before}
+use Rattle.flat_mesh.specs.Lattice.{Leveled}
+use Rattle.flat_mesh.specs.Rows.{row_start}
+use Rattle.mesh_walk.specs.Numbers.{edges_to}
+use Rattle.mesh_walk.proofs.RankedRows.{RowAt, count_more, each_few, found_row, none_before, ranked, row_of_same, rows_are, total_low}
+use Rattle.mesh_walk.proofs.ranks.rank_rows.Goals as goal
+
+pub loop-row-init : goal.loop-row-init
+loop-row-init g c = record {
+  grid = c.requires;
+  rows = c.sizes.ensures.rows ∙ ap row_count c.requires;
+  total = sym (none_before (g.R.Heights.leveled c.args.rows.now));
+  sums = λ k low. absurd (omega arith);
+  few = λ k low. absurd (omega arith);
+  volume = refl;
+  kept = refl;
+  spent = refl;
+}
+
+pub row_edges-count-requires-clause-y : goal.row_edges-count-requires-clause-y
+row_edges-count-requires-clause-y g c =
+    let v = g.R.Heights.leveled c.args.rows.now in
+    let at = found_row v _ _ _ _ c.sizes-sizes.ensures.value c.row_at-y.ensures.y c.row_at-y.ensures.z c.row_at-y.ensures.row in
+    (row_of_same (g.R.Heights.leveled c.loop-row.rows) v _ _ _ c.loop-row.invariant.volume at).y_low
+
+pub row_edges-count-requires-clause-z : goal.row_edges-count-requires-clause-z
+row_edges-count-requires-clause-z g c =
+    let v = g.R.Heights.leveled c.args.rows.now in
+    let at = found_row v _ _ _ _ c.sizes-sizes.ensures.value c.row_at-y.ensures.y c.row_at-y.ensures.z c.row_at-y.ensures.row in
+    (row_of_same (g.R.Heights.leveled c.loop-row.rows) v _ _ _ c.loop-row.invariant.volume at).z_low
+
+pub overflow_add-total : goal.overflow_add-total
+overflow_add-total g c =
+    let v = g.R.Heights.leveled c.args.rows.now in
+    let rows = rows_are v _ _ _ c.sizes-sizes.ensures.value c.ny.ensures.value c.nz.ensures.value in
+    let few = subst (λ (v : Leveled). c.row_edges-count.result ≤ 3 * v.grid.nx) c.loop-row.invariant.volume c.row_edges-count.ensures.bound in
+    omega (arith, total_low v c.loop-row.total c.loop-row.row c.sizes-sizes.ensures.leveled.grid (omega (arith, c.loop-row-test.true, rows)) c.loop-row.invariant.total, few)
+
+pub loop-row-preserved : goal.loop-row-preserved
+loop-row-preserved g c =
+    let v = g.R.Heights.leveled c.args.rows.now in
+    let row = c.loop-row.row in
+    let count = c.row_edges-count.result in
+    let new = c.set_count.new.self in
+    let invariant = c.loop-row.invariant in
+    let rows = rows_are v _ _ _ c.sizes-sizes.ensures.value c.ny.ensures.value c.nz.ensures.value in
+    let y = c.row_at-y.result.0 in
+    let z = c.row_at-y.result.1 in
+    let at = found_row v _ _ _ _ c.sizes-sizes.ensures.value c.row_at-y.ensures.y c.row_at-y.ensures.z c.row_at-y.ensures.row in
+    let value = subst (λ (v : Leveled). edges_to v (row_start v.grid y z + v.grid.nx) ≡ edges_to v (row_start v.grid y z) + count) invariant.volume c.row_edges-count.ensures.value in
+    let bound = subst (λ (v : Leveled). count ≤ 3 * v.grid.nx) invariant.volume c.row_edges-count.ensures.bound in
+    let place : v.grid.nx * (y + v.grid.ny * z) ≡ v.grid.nx * row = ap (λ n. v.grid.nx * n) at.row_is in
+    let next : v.grid.nx * (y + v.grid.ny * z) + v.grid.nx ≡ v.grid.nx * (row + 1) = omega (arith, place) in
+    let one : edges_to v (v.grid.nx * (row + 1)) ≡ edges_to v (v.grid.nx * row) + count
+    = sym (ap (edges_to v) next) ∙ (value ∙ ap (λ n. edges_to v n + count) place) in
+    let set = count_more v c.loop-row.ranks new row y z count invariant.grid invariant.rows (omega (arith, rows, c.loop-row-test.true)) at.row_is c.set_count.ensures in
+    record {
+      grid = set.grid;
+      rows = set.rows;
+      total = ap (λ n. n + count) invariant.total ∙ sym one;
+      sums = λ k low. elim (cases_lt k row) [
+        | inl earlier ↦ invariant.sums k earlier ∙ ap (λ n. edges_to v (v.grid.nx * k) + n) (sym (set.others k earlier))
+        | inr here ↦ (
+            let same : k ≡ row = omega arith in
+            subst (λ n. edges_to v (v.grid.nx * (n + 1)) ≡ edges_to v (v.grid.nx * n) + get_or new.numbers n 0) (sym same) (one ∙ ap (λ n. edges_to v (v.grid.nx * row) + n) (sym set.same)))
+      ];
+      few = λ k low. elim (cases_lt k row) [
+        | inl earlier ↦ subst (λ n. n ≤ 3 * v.grid.nx) (sym (set.others k earlier)) (invariant.few k earlier)
+        | inr here ↦ (
+            let same : k ≡ row = omega arith in
+            subst (λ n. get_or new.numbers n 0 ≤ 3 * v.grid.nx) (sym same) (subst (λ n. n ≤ 3 * v.grid.nx) (sym set.same) bound))
+      ];
+      volume = c.row_edges-count.ensures.volume ∙ invariant.volume;
+      kept = c.row_edges-count.ensures.kept ∙ invariant.kept;
+      spent = c.row_edges-count.ensures.spent ∙ invariant.spent;
+    }
+
+pub finish-requires : goal.finish-requires
+finish-requires g c =
+    let v = g.R.Heights.leveled c.args.rows.now in
+    let rows = rows_are v _ _ _ c.sizes-sizes.ensures.value c.ny.ensures.value c.nz.ensures.value in
+    let nx : 3 * c.loop-row.ranks.grid.nx ≡ 3 * v.grid.nx = ap (λ (g : Grid). 3 * g.nx) c.loop-row.invariant.grid in
+    each_few (3 * c.loop-row.ranks.grid.nx) c.loop-row.ranks.numbers (λ k low. omega (arith, nx, c.loop-row.invariant.few k (omega (arith, c.loop-row-test.false, rows, c.loop-row.invariant.rows))))
+
+pub returns-clause-ranks : goal.returns-clause-ranks
+returns-clause-ranks g c =
+    let v = g.R.Heights.leveled c.args.rows.now in
+    let rows = rows_are v _ _ _ c.sizes-sizes.ensures.value c.ny.ensures.value c.nz.ensures.value in
+    let end : c.loop-row.row ≡ row_count v.grid = omega (arith, c.loop-row-test.false, rows, c.loop-row.auto.row-end) in
+    let made : c.finish.new.self ≡ record { grid = v.grid; numbers = sums_before c.loop-row.ranks.numbers }
+    = c.finish.ensures ∙ ap (λ (g : Grid). record { grid = g; numbers = sums_before c.loop-row.ranks.numbers }) c.loop-row.invariant.grid in
+    ranked v c.loop-row.ranks.numbers (λ k low. c.loop-row.invariant.sums k (omega (arith, end, c.loop-row.invariant.rows))) c.finish.new.self c.loop-row.total made c.loop-row.invariant.rows
+    (c.loop-row.invariant.total ∙ ap (λ n. edges_to v (v.grid.nx * n)) end)

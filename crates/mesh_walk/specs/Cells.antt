@@ -1,0 +1,18 @@
+-- A row of cells as the code holds it.
+use Rattle.std.specs.Prelude.{◌≡◌, ℕ, ◌+◌, ◌-◌, ◌*◌, ◌<◌, min}
+use Rattle.iso_defs.specs.Grid.{Grid}
+use Rattle.flat_mesh.specs.Lattice.{Leveled}
+use Rattle.flat_mesh.specs.Rows.{row_start}
+use Rattle.mesh_rows.specs.Rows.{AreCases}
+use Rattle.mesh_walk.specs.declared.cells.RowCells.{RowCells}
+
+-- it is in the grid, and has the cases of its cells
+pub record AreCells (v : Leveled) (cells : RowCells) : Type 0 where
+  pub y : cells.y + 1 < v.grid.ny
+  pub z : cells.z + 1 < v.grid.nz
+  pub start : cells.start ≡ row_start v.grid cells.y cells.z
+  pub each : AreCases v cells.y cells.z cells.cases
+
+-- where the eight cells of a number begin in a row, or where its cells end
+abbrev pub eight_at : Grid → ℕ → ℕ
+eight_at g eight = min (8 * eight) (g.nx - 1)

@@ -1,0 +1,5 @@
+pub mod Spans
+pub mod Numbers
+pub mod Cells
+pub mod Edges
+pub mod FourRows

@@ -1,0 +1,130 @@
+//! A row of cells, and its cases.
+ghost use Rattle.std.specs.Prelude.{◌≡◌, ℕ, [], ◌+◌, ◌*◌, ◌<◌, ◌≤◌, false, IsTrue, slice_index, length};
+ghost use Rattle.cell_loops.specs.Loops.{row_loops};
+ghost use Rattle.flat_mesh.specs.Lattice.{Leveled};
+ghost use Rattle.flat_mesh.specs.Centres.{IsCellAt};
+ghost use Rattle.flat_mesh.specs.Rows.{row_start};
+ghost use Rattle.mesh_walk.specs.Cells.{AreCells};
+ghost use Rattle.mesh_walk.specs.Numbers.{AreQuiet, AreRowRanks, cost_of_row};
+
+use crate::ranks::ROW;
+use crate::walk::Walk;
+use case_table::CaseRow;
+use cell_loops::loop_count;
+use flat_mesh::{Cell, Heights};
+use iso_base::Point;
+use mesh_rows::MeshRows;
+use std::simd::prelude::*;
+
+/// Whether the eight cases from a place on are one case. This saves work and no text rests on it: the contract leaves `false`
+/// free.
+#[inline(always)]
+fn are_same(cases: &[u16], from: usize) -> bool
+    requires { from + 8 ≤ length cases.now }
+    ensures { IsTrue result → (k : ℕ) → k < 8 → slice_index cases.now (from + k) ≡ slice_index cases.now from }
+{
+    let eight = u16x8::from_slice(&cases[from..]);
+    eight.simd_eq(u16x8::splat(cases[from])).all()
+}
+
+/// A row of cells: where its first point is, and for each cell the number of a case that has its loops.
+#[derive(Drop)]
+pub struct RowCells {
+    pub y: u32,
+    pub z: u32,
+    pub start: u32,
+    pub cases: [u16; ROW],
+}
+
+impl RowCells {
+    /// A row of which nothing is known.
+    pub fn new() -> RowCells {
+        RowCells {
+            y: 0,
+            z: 0,
+            start: 0,
+            cases: [0; ROW],
+        }
+    }
+
+    /// The cell at a place of the row.
+    #[inline(always)]
+    pub fn cell<H: Heights>(&self, field: &H, x: u32) -> Cell
+        requires cells { AreCells (H.leveled field.now) self.now }
+        requires x { x + 1 < (H.leveled field.now).grid.nx }
+        ensures cell { IsCellAt (H.leveled field.now).grid result }
+        ensures y { result.low.y ≡ self.now.y }
+        ensures z { result.low.z ≡ self.now.z }
+        ensures index { result.index ≡ row_start (H.leveled field.now).grid self.now.y self.now.z + x }
+    {
+        let _ = field.sizes();
+        Cell {
+            index: self.start + x,
+            low: Point {
+                x,
+                y: self.y,
+                z: self.z,
+            },
+        }
+    }
+
+    /// Whether the eight cells from a place on have one case, and it has no loops. `false` is free, as above.
+    #[inline(always)]
+    pub fn have_no_loops(&self, from: u32) -> bool
+        requires eight { from + 8 ≤ 1026 }
+        requires case { slice_index self.now.cases from < 656 }
+        ensures { IsTrue result → (k : ℕ) → k < 8 → row_loops (slice_index self.now.cases (from + k)) ≡ [] }
+    {
+        let from = from as usize;
+        if loop_count(CaseRow::of(self.cases[from])) != 0 {
+            return false;
+        }
+        are_same(&self.cases, from)
+    }
+
+    /// Turns to a row of cells. It has their cases then.
+    fn turn_to<R: MeshRows>(&mut self, rows: &mut R, y: u32, z: u32)
+        requires y { y + 1 < (R.leveled rows.old).grid.ny }
+        requires z { z + 1 < (R.leveled rows.old).grid.nz }
+        ensures cells { AreCells (R.leveled rows.old) self.new }
+        ensures y { self.new.y ≡ y }
+        ensures z { self.new.z ≡ z }
+        ensures volume { R.leveled rows.new ≡ R.leveled rows.old }
+        ensures kept { R.kept rows.new ≡ R.kept rows.old }
+        ensures least { R.spent rows.old ≤ R.spent rows.new }
+        ensures most { let cost = R.row_cost (R.kept rows.old) in
+            R.spent rows.new ≤ R.spent rows.old + cost (y + (R.leveled rows.old).grid.ny * z) }
+    {
+        let sizes = rows.sizes();
+        let nx = sizes.nx();
+        self.y = y;
+        self.z = z;
+        self.start = nx * (y + sizes.ny() * z);
+        rows.fill_cases(y, z, &mut self.cases[..nx as usize]);
+    }
+
+    /// Turns to the row of cells that a row of points begins, and says whether it may have loops: not where the row begins none,
+    /// or no crossing edge begins in the rows of points around them. Rows are asked for cases at most once.
+    pub fn find<R: MeshRows>(&mut self, rows: &mut R, walk: Walk<'_>, y: u32, z: u32) -> bool
+        requires ranks { AreRowRanks (R.leveled rows.old) walk.ranks.now walk.total }
+        requires y { y < (R.leveled rows.old).grid.ny }
+        requires z { z < (R.leveled rows.old).grid.nz }
+        ensures quiet { let v = R.leveled rows.old in
+            result ≡ false → AreQuiet v (row_start v.grid y z) v.grid.nx }
+        ensures cells { IsTrue result → AreCells (R.leveled rows.old) self.new }
+        ensures y { IsTrue result → self.new.y ≡ y }
+        ensures z { IsTrue result → self.new.z ≡ z }
+        ensures volume { R.leveled rows.new ≡ R.leveled rows.old }
+        ensures kept { R.kept rows.new ≡ R.kept rows.old }
+        ensures least { R.spent rows.old ≤ R.spent rows.new }
+        ensures most { let g = (R.leveled rows.old).grid in
+            R.spent rows.new ≤ R.spent rows.old + cost_of_row g (R.row_cost (R.kept rows.old)) (y + g.ny * z) }
+    {
+        let sizes = rows.sizes();
+        if y + 1 == sizes.ny() || z + 1 == sizes.nz() || walk.is_quiet(rows, y, z) {
+            return false;
+        }
+        self.turn_to(rows, y, z);
+        true
+    }
+}

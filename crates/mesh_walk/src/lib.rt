@@ -1,0 +1,14 @@
+//! The text of the mesh of a volume at a level, written while its rows are walked: the mesh is never held, and no memory is taken.
+#![tactic(auto)]
+
+mod cells;
+mod centres;
+mod corners;
+mod edges;
+mod faces;
+mod offsets;
+mod ranks;
+mod walk;
+mod write;
+
+pub use write::write_mesh;
