@@ -1,7 +1,7 @@
 use Rattle.std.proofs.Common.{rules}
 use Rattle.std.proofs.lemmas.Result.{err_from_is_err_and}
 use Rattle.iso_io.proofs.Shelving.{has_started, not_started, stored_any}
-use Rattle.bench_core.proofs.windows.write_moved.Goals as goal
+use Rattle.bench_core.proofs.windows.write_file.Goals as goal
 
 pub new-file-requires : goal.new-file-requires
 new-file-requires g c = has_started _ _ _ _ c.in_ok-start.ensures
