@@ -11,7 +11,7 @@ use Rattle.brick_mesh.proofs.Runs.{entries_all, entries_few, is_active_in}
 use Rattle.cell_loops.specs.Loops.{row_centres, row_triangles}
 use Rattle.cell_loops.proofs.Shapes.{centre_bound, centres_at, few_triangles}
 use Rattle.stitch_rows.specs.Named.{centres_of_entries, triangles_of_entries}
-use Rattle.stitch_rows.specs.declared.named.Counts.{Counts}
+use Rattle.mesh_rows.specs.declared.counts.Counts.{Counts}
 use Rattle.kept_mesh.proofs.EntryRuns.{none, small, step}
 
 -- none

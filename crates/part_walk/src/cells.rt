@@ -5,7 +5,7 @@ ghost use Rattle.iso_defs.specs.Grid.{index};
 ghost use Rattle.cell_loops.specs.Loops.{row_loops};
 ghost use Rattle.flat_mesh.specs.Centres.{IsCellAt};
 ghost use Rattle.flat_mesh.specs.Rows.{row_start};
-ghost use Rattle.stitch_rows.specs.Rows.{AreCases, IsCaseOf};
+ghost use Rattle.mesh_rows.specs.Rows.{AreCases, IsCaseOf};
 ghost use Rattle.part_walk.specs.Walks.{ArePlaces, IsWalked, loops_before};
 
 use crate::tally::Tally;

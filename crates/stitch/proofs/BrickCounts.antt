@@ -16,11 +16,10 @@ use Rattle.stitch_rows.specs.Named.{Named, asked_among, centres_of_entries, tria
 use Rattle.stitch_rows.proofs.Asked.{asked_more}
 use Rattle.stitch_rows.proofs.CellCases.{case_is}
 use Rattle.stitch_rows.proofs.QuietBricks.{unmixed_loops}
-use Rattle.stitch_rows.specs.declared.named.Counts.{Counts}
-use Rattle.stitch.specs.Numbers.{AreCounts}
-use Rattle.stitch.specs.Spans.{centres_among, triangles_among}
+use Rattle.mesh_rows.specs.declared.counts.Counts.{Counts}
+use Rattle.mesh_rows.specs.Counts.{AreCounts, centres_among, triangles_among}
 use Rattle.stitch.proofs.BrickSums.{of_all, span_sum}
-use Rattle.stitch.proofs.CellRuns.{centres_of_case, triangles_of_case}
+use Rattle.stitch.proofs.CaseCounts.{centres_of_case, triangles_of_case}
 use Rattle.stitch.proofs.Uptos.{upto, upto_append, upto_low, upto_more, zeros}
 
 none_pass : (p : ℕ → Bool) (xs : List ℕ) → list_any p xs ≡ false → filter p xs ≡ []

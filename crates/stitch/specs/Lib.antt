@@ -1,7 +1,4 @@
-pub mod Blocks
-pub mod FaceTexts
-pub mod Spans
-pub mod Numbers
-pub mod FourRows
+pub mod Asked
+pub mod Kept
 pub mod Joining
-pub mod Ends
+pub mod Origins

@@ -12,7 +12,7 @@ use Rattle.flat_mesh.specs.Lattice.{Leveled, heights}
 use Rattle.stitch_rows.specs.declared.bricks.BrickRow.{BrickRow}
 use Rattle.stitch_rows.specs.Bricks.{HoldRow}
 use Rattle.stitch_rows.specs.Named.{HaveLoops, IsCellRow, Named, NamesCases}
-use Rattle.stitch_rows.specs.Rows.{AreCasesTo, IsCaseOf}
+use Rattle.mesh_rows.specs.Rows.{AreCasesTo, IsCaseOf}
 use Rattle.stitch_rows.proofs.Places.{cell_row, point_is, row_there, start_x, starts}
 use Rattle.stitch_rows.proofs.QuietBricks.{quiet_cell}
 use Rattle.stitch_rows.proofs.CellCases.{case_is, quiet_case}

@@ -9,7 +9,7 @@ use Rattle.flat_mesh.specs.Cases.{joined_at, signs_at}
 use Rattle.flat_mesh.specs.Lattice.{Leveled, heights}
 use Rattle.flat_mesh.specs.Faces.{loops_at}
 use Rattle.flat_mesh.proofs.CellCase.{loops_are}
-use Rattle.stitch_rows.specs.Rows.{IsCaseOf}
+use Rattle.mesh_rows.specs.Rows.{IsCaseOf}
 
 -- the case of a cell has its loops
 pub case_is : (v : Leveled) (q : ℕ) → IsCaseOf v q (cell_case v.grid (heights v) q)

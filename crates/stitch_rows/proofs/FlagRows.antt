@@ -1,25 +1,23 @@
--- The flags and the numbers of the points of a row, from the signs of three rows.
-use Rattle.std.proofs.Common.{◌≡◌, ℕ, ◌+◌, ◌-◌, ◌*◌, ◌^◌, ◌<◌, ◌≤◌, cond, List, All, map, length, get_or, take, min, refl, sym, ◌∙◌, ap, subst, arith, ltb, inl, inr, ℤ, pos, zero-add}
+-- The flags of the points of a row, from the signs of three rows.
+use Rattle.std.proofs.Common.{◌≡◌, ℕ, ◌+◌, ◌-◌, ◌*◌, ◌<◌, ◌≤◌, cond, List, map, length, get_or, min, refl, sym, ◌∙◌, ap, arith, ltb, inl, inr, ℤ, pos, zero-add}
 use Rattle.std.specs.Prelude.{int_le}
-use Rattle.std.specs.List.{sum_by}
 use Rattle.std.proofs.lemmas.Bool.{cases_lt, lt-ltb, le-ltb}
-use Rattle.std.proofs.lemmas.List.{ext_get_or, get_or-map, get_or_default}
+use Rattle.std.proofs.lemmas.List.{ext_get_or, get_or-map}
 use Rattle.std.proofs.lemmas.List.FromFn.{get_or-map-range_with_len, length-map-range_with_len}
 use Rattle.iso_defs.specs.Lists.{below}
 use Rattle.iso_defs.specs.Grid.{index, point_count}
 use Rattle.iso_defs.proofs.Points.{index_in}
-use Rattle.crossing_edges.specs.Flags.{edges_in, flags_at, flags_from, rank}
+use Rattle.crossing_edges.specs.Flags.{flags_at, flags_from}
 use Rattle.crossing_edges.specs.Signs.{flag_of, right_of, sign_flags, sign_of}
-use Rattle.crossing_edges.proofs.Counting.{length-flags_from, rank_along}
+use Rattle.crossing_edges.proofs.Counting.{length-flags_from}
 use Rattle.crossing_edges.proofs.FlagParts.{row_in}
 use Rattle.crossing_edges.proofs.RowFlags.{row_flags}
 use Rattle.crossing_edges.proofs.SignFlags.{flags_are}
 use Rattle.flat_mesh.specs.Lattice.{IsLeveled, Leveled, heights}
 use Rattle.flat_mesh.specs.Rows.{row_start, sign_bit}
-use Rattle.flat_mesh.proofs.FirstNumbers.{rank_low}
-use Rattle.flat_mesh.proofs.Known.{flags_low}
 use Rattle.stitch_rows.specs.Bricks.{next_at}
-use Rattle.stitch_rows.specs.Rows.{AreFirst, AreFlags, AreFlagsTo, HasMoreFlags, bit_right, run_flags}
+use Rattle.stitch_rows.specs.Rows.{HasMoreFlags, bit_right, run_flags}
+use Rattle.mesh_rows.specs.Rows.{AreFlags, AreFlagsTo}
 use Rattle.stitch_rows.specs.Runs.{IsRun}
 use Rattle.corner_signs.specs.Rows.{bit_from}
 use Rattle.iso_base.specs.Shifted.{is_above_level}
@@ -32,11 +30,6 @@ flags_list v y z flags len each =
     (λ i h. each i (omega arith)
     ∙ sym (get_or-map-range_with_len (flags_at v.grid (heights v)) (row_start v.grid y z) v.grid.nx i (row_start v.grid y z + i) 0 (omega arith) refl))
 
-pub flags_small : (v : Leveled) (y z : ℕ) (flags : List ℕ) → length flags ≡ v.grid.nx → AreFlags v y z flags → All (λ f. f < 8) flags
-flags_small v y z flags len each k d low =
-    let within : k < v.grid.nx = omega arith in
-    subst (λ f. f < 8) (sym (get_or_default flags k d 0 low ∙ each k within)) (flags_low v.grid (heights v) (row_start v.grid y z + k))
-
 -- a row of points lies in the grid
 pub row_fits : (v : Leveled) (y z : ℕ) → y < v.grid.ny → z < v.grid.nz → row_start v.grid y z + v.grid.nx ≤ point_count v.grid
 row_fits v y z hy hz =
@@ -47,21 +40,6 @@ row_fits v y z hy hz =
     low_row a b m n h k =
         let one : index (record { nx = m; ny = n; nz = 1 }) a b 0 < point_count (record { nx = m; ny = n; nz = 1 }) = index_in (record { nx = m; ny = n; nz = 1 }) a b 0 h k (omega arith) in
         omega arith
-
--- the numbers
-pub first_are : (v : Leveled) (y z before : ℕ) (flags first : List ℕ) → before ≡ rank v.grid (heights v) (3 * row_start v.grid y z) → length flags ≡ v.grid.nx → AreFlags v y z flags
-    → ((i : ℕ) → i ≤ length flags → get_or first i 0 ≡ before + sum_by edges_in (take i flags)) → AreFirst v y z first
-first_are v y z before flags first start len each sums x low =
-    sums x (omega arith) ∙ (ap (λ n. n + sum_by edges_in (take x flags)) start
-    ∙ (ap (λ fs. rank v.grid (heights v) (3 * row_start v.grid y z) + sum_by edges_in (take x fs)) (flags_list v y z flags len each)
-    ∙ sym (rank_along v.grid (heights v) (row_start v.grid y z) v.grid.nx x low)))
-
-pub before_low : (v : Leveled) (y z before : ℕ) → IsLeveled v → y < v.grid.ny → z < v.grid.nz → before ≡ rank v.grid (heights v) (3 * row_start v.grid y z) → before + 3 * v.grid.nx < 2 ^ 32
-before_low v y z before is hy hz start =
-    let fits = row_fits v y z hy hz in
-    let count = is.grid.count in
-    let low = rank_low v.grid (heights v) (3 * row_start v.grid y z) in
-    omega (arith, start)
 
 sign_at : (v : Leveled) (p : ℕ) → IsLeveled v → p < point_count v.grid → get_or (map (sign_of v.level) v.samples) p 0 ≡ sign_bit v p
 sign_at v p is low = let count = is.count in get_or-map (sign_of v.level) v.samples p (pos 0) 0 (omega arith)

@@ -14,3 +14,4 @@ pub mod LoopCases
 pub mod Corners
 pub mod EightLanes
 pub mod OneSide
+pub mod EdgeEnds

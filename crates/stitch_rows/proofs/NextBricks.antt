@@ -1,5 +1,5 @@
 -- The next active brick, found by a tree.
-use Rattle.std.proofs.Common.{◌≡◌, ℕ, ◌+◌, ◌-◌, ◌*◌, ◌/◌, ◌<◌, ◌≤◌, false, List, get_or, length, min, set, sym, ◌∙◌, ap, subst, arith, inl, inr, ℤ, ◌^◌}
+use Rattle.std.proofs.Common.{◌≡◌, ℕ, ◌+◌, ◌-◌, ◌*◌, ◌/◌, ◌<◌, ◌≤◌, false, List, get_or, length, min, refl, set, sym, ◌∙◌, ap, subst, arith, inl, inr, ℤ, ◌^◌}
 use Rattle.std.proofs.lemmas.Bool.{cases_lt}
 use Rattle.std.proofs.lemmas.List.{get_or-set_other, get_or-set_same}
 use Rattle.std.proofs.Math.Nat.{mul-le-mul_left, mul-le-mul_right}
@@ -13,7 +13,8 @@ use Rattle.brick_store.specs.Next.{IsFirst}
 use Rattle.stitch_rows.specs.declared.active.ActiveLayer.{ActiveLayer}
 use Rattle.stitch_rows.specs.declared.active.ActiveRow.{ActiveRow}
 use Rattle.stitch_rows.specs.declared.bricks.BrickRow.{BrickRow}
-use Rattle.stitch_rows.specs.Bricks.{AreMarked, AreNextTo, HoldRow, IsMarkedLayer, IsNextFrom, brick_at, first_brick}
+use Rattle.stitch_rows.specs.declared.bricks.PointRow.{PointRow}
+use Rattle.stitch_rows.specs.Bricks.{AreMarked, AreNextTo, HoldRow, IsMarkedLayer, IsNextFrom, IsPointRow, brick_at, first_brick}
 use Rattle.stitch_rows.specs.Rows.{at_level}
 use Rattle.stitch_rows.proofs.Places.{few_bricks, number_in}
 
@@ -76,7 +77,7 @@ row_in_layer v is y z hy hz =
 -- a layer's notes say it of a row of its bricks
 pub row_marked : (v : Leveled) (is : IsGrid v.grid) (layer : ActiveLayer) (y z first start : ℕ) → y < v.grid.ny → z < v.grid.nz → IsMarkedLayer v layer
     → layer.first ≡ first_brick v.grid 0 z → first ≡ first_brick v.grid y z → start ≡ first - layer.first
-    → AreMarked v (record { first = first; start = start; y = y / 8; z = z / 8; layer = layer })
+    → AreMarked v (record { y = y; z = z; first = first; start = start; layer = layer })
 row_marked v is layer y z first start hy hz are begin e at =
     let within = row_in_layer v is y z hy hz in
     let few_x : bricks_along v.grid 0 ≤ 129 = let h = is.x.most in omega arith in
@@ -101,6 +102,29 @@ row_marked v is layer y z first start hy hz are begin e at =
     eighths g y z y2 z2 ey ez =
         ap (λ n. bricks_along g 0 * (min n (bricks_along g 1 - 1) + bricks_along g 1 * min (z / 8) (bricks_along g 2 - 1))) ey
         ∙ ap (λ n. bricks_along g 0 * (min (y2 / 8) (bricks_along g 1 - 1) + bricks_along g 1 * min n (bricks_along g 2 - 1))) ez
+
+-- they say the same of another row of points that the bricks hold
+pub marked_at : (v : Leveled) (row : ActiveRow) (y z : ℕ) → y / 8 ≡ row.y / 8 → z / 8 ≡ row.z / 8 → AreMarked v row → AreMarked v (record row { y = y; z = z })
+marked_at v row y z same_y same_z marks = record {
+  layer = marks.layer;
+  next = marks.next;
+  start = marks.start;
+  rows = λ y2 z2 hy hz ey ez. marks.rows y2 z2 hy hz (ey ∙ same_y) (ez ∙ same_z);
+}
+
+-- the number of its first brick
+pub first_is : (v : Leveled) (row : ActiveRow) → row.y < v.grid.ny → row.z < v.grid.nz → AreMarked v row → row.first ≡ first_brick v.grid row.y row.z
+first_is v row hy hz marks = marks.rows row.y row.z hy hz refl refl
+
+-- as the row itself has it
+pub first_of : (v : Leveled) (active : ActiveRow) (row : PointRow) → AreMarked v active → IsPointRow v.grid row → row.y ≡ active.y → row.z ≡ active.z
+    → active.first ≡ row.bricks.first
+first_of v active row marks is same_y same_z =
+    marks.rows row.y row.z is.y_low is.z_low (ap (λ n. n / 8) same_y) (ap (λ n. n / 8) same_z) ∙ sym is.bricks.first
+
+-- what is known at the coordinates of a row, at the same coordinates
+pub at_row : (P : ℕ → ℕ → Type 0) (y z a b : ℕ) → y ≡ a → z ≡ b → P y z → P a b
+at_row P y z a b ey ez h = subst (λ n. P n b) ey (subst (λ n. P y n) ez h)
 
 -- a layer has at most so many bricks
 pub few_in_layer : (a b : ℕ) → a ≤ 129 → b ≤ 129 → a * b ≤ 16641

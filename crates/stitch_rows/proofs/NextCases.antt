@@ -7,9 +7,10 @@ use Rattle.iso_base.specs.Sizing.{IsGrid}
 use Rattle.flat_mesh.specs.Lattice.{Leveled, heights}
 use Rattle.stitch_rows.specs.declared.active.ActiveRow.{ActiveRow}
 use Rattle.stitch_rows.specs.declared.bricks.BrickRow.{BrickRow}
-use Rattle.stitch_rows.specs.Bricks.{AreMarked, HoldRow, IsActive, IsNextFrom, first_brick}
+use Rattle.stitch_rows.specs.Bricks.{AreMarked, HoldRow, IsActive, IsNextFrom}
 use Rattle.stitch_rows.specs.Named.{Named, asked_along, asked_among}
-use Rattle.stitch_rows.specs.Rows.{AreCasesTo, AreZerosFrom, IsCaseOf}
+use Rattle.stitch_rows.specs.Rows.{AreZerosFrom}
+use Rattle.mesh_rows.specs.Rows.{AreCasesTo, IsCaseOf}
 use Rattle.stitch_rows.proofs.Asked.{asked_more, asked_still}
 use Rattle.stitch_rows.proofs.CaseRows.{quiet_at}
 use Rattle.stitch_rows.proofs.NextBricks.{noted}
@@ -22,16 +23,16 @@ module _ (v : Leveled) (is : IsGrid v.grid) (y z : ℕ) (hy : y + 1 < v.grid.ny)
       number_in v.grid is x y z wide (omega arith) (omega arith) held hold
 
   -- a place that a walk comes to holds an active brick, where it is in the row
-  module _ (row : ActiveRow) (marked : AreMarked v row) (first : row.first ≡ first_brick v.grid y z) where
+  module _ (row : ActiveRow) (marked : AreMarked v row) (first : row.first ≡ held.first) where
     note : (x : ℕ) → x < bricks_along v.grid 0 → IsNextFrom v.grid (heights v) (held.first + x) (get_or row.layer.next_from (row.start + x) 0)
-    note x low = noted v is row y z held (omega arith) (omega arith) hold marked (first ∙ sym hold.first) x low
+    note x low = noted v is row y z held (omega arith) (omega arith) hold marked first x low
 
     pub least_of : (x : ℕ) → x < bricks_along v.grid 0 → row.first ≤ get_or row.layer.next_from (row.start + x) 0
-    least_of x low = let n = note x low in let least = n.least in let begin = hold.first in omega arith
+    least_of x low = let n = note x low in let least = n.least in omega arith
 
     pub next_is : (x next : ℕ) → x < bricks_along v.grid 0 → row.first + next ≡ get_or row.layer.next_from (row.start + x) 0
         → IsNextFrom v.grid (heights v) (held.first + x) (held.first + next)
-    next_is x next low at = subst (IsNextFrom v.grid (heights v) (held.first + x)) (sym at ∙ ap (λ n. n + next) (first ∙ sym hold.first)) (note x low)
+    next_is x next low at = subst (IsNextFrom v.grid (heights v) (held.first + x)) (sym at ∙ ap (λ n. n + next) first) (note x low)
 
   pub is_active_at : (x : ℕ) → x < bricks_along v.grid 0 → (held.first + x < brick_count v.grid → IsActive v (held.first + x)) → IsActive v (held.first + x)
   is_active_at x low active = active (known x low)

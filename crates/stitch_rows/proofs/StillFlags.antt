@@ -10,7 +10,8 @@ use Rattle.flat_mesh.specs.Lattice.{IsLeveled, Leveled, heights}
 use Rattle.flat_mesh.specs.Rows.{row_start, sign_bit}
 use Rattle.stitch_rows.specs.declared.bricks.BrickRow.{BrickRow}
 use Rattle.stitch_rows.specs.Bricks.{HoldRow, IsNextFrom, brick_at, next_at}
-use Rattle.stitch_rows.specs.Rows.{AreFlagsTo, AreZerosFrom, HasMoreFlags}
+use Rattle.stitch_rows.specs.Rows.{AreZerosFrom, HasMoreFlags}
+use Rattle.mesh_rows.specs.Rows.{AreFlagsTo}
 use Rattle.stitch_rows.proofs.FlagRows.{point_flags}
 use Rattle.stitch_rows.proofs.Places.{number_in, point_is, row_there}
 use Rattle.stitch_rows.proofs.Corners.{corner_at}

@@ -13,7 +13,8 @@ use Rattle.flat_mesh.specs.Lattice.{IsLeveled, Leveled, heights}
 use Rattle.stitch_rows.specs.declared.active.ActiveRow.{ActiveRow}
 use Rattle.stitch_rows.specs.declared.bricks.BrickRow.{BrickRow}
 use Rattle.stitch_rows.specs.Bricks.{AreMarked, HoldRow, IsNextFrom, brick_at, first_brick, is_active_row}
-use Rattle.stitch_rows.specs.Rows.{AreStill, IsStill}
+use Rattle.stitch_rows.specs.Rows.{AreStill}
+use Rattle.mesh_rows.specs.Rows.{IsStill}
 use Rattle.stitch_rows.proofs.CaseRows.{quiet_loops}
 use Rattle.stitch_rows.proofs.NextBricks.{noted}
 use Rattle.stitch_rows.proofs.QuietBricks.{clash}

@@ -8,7 +8,7 @@ use Rattle.flat_mesh.specs.Lattice.{Leveled, heights}
 use Rattle.stitch_rows.specs.declared.active.ActiveLayer.{ActiveLayer}
 use Rattle.stitch_rows.specs.declared.active.ActiveRow.{ActiveRow}
 use Rattle.stitch_rows.specs.declared.bricks.BrickRow.{BrickRow}
-use Rattle.stitch_rows.specs.declared.points.Rows.{Rows}
+use Rattle.stitch_rows.specs.declared.bricks.PointRow.{PointRow}
 
 -- the last row of bricks along an axis that holds a coordinate
 abbrev pub brick_at : Grid → ℕ → ℕ → ℕ
@@ -28,11 +28,13 @@ pub record HoldRow (g : Grid) (y z : ℕ) (row : BrickRow) : Type 0 where
 abbrev pub next_at : ℕ → ℕ → ℕ
 next_at c size = min (c + 1) (size - 1)
 
--- the same of a row, and how far from it the next ones along y and z are
-pub record HoldRows (g : Grid) (y z : ℕ) (rows : Rows) : Type 0 where
-  pub here : HoldRow g y z rows.here
-  pub up : y + rows.up ≡ next_at y g.ny
-  pub far : z + rows.far ≡ next_at z g.nz
+-- a row of points has these bricks, and the next ones along y and z are so far from it
+pub record IsPointRow (g : Grid) (row : PointRow) : Type 0 where
+  pub y_low : row.y < g.ny
+  pub z_low : row.z < g.nz
+  pub bricks : HoldRow g row.y row.z row.bricks
+  pub up : row.y + row.up ≡ next_at row.y g.ny
+  pub far : row.z + row.far ≡ next_at row.z g.nz
 
 -- a brick is active at a level
 pub record IsActive (v : Leveled) (brick : ℕ) : Type 0 where
@@ -56,11 +58,11 @@ pub record AreNextTo (v : Leveled) (first count : ℕ) (next : List ℕ) : Type 
 abbrev pub IsMarkedLayer : Leveled → ActiveLayer → Type 0
 IsMarkedLayer v layer = AreNextTo v layer.first (bricks_along v.grid 0 * bricks_along v.grid 1) layer.next_from
 
--- and for those of them that hold some rows of points
+-- and for those of them that hold the rows of points round one
 pub record AreMarked (v : Leveled) (marks : ActiveRow) : Type 0 where
   pub layer : IsMarkedLayer v marks.layer
   pub next :
       (x : ℕ) → x < bricks_along v.grid 0 → marks.first + x < brick_count v.grid
       → IsNextFrom v.grid (heights v) (marks.first + x) (slice_index marks.layer.next_from (marks.start + x))
   pub start : marks.start ≤ 129 * 128
-  pub rows : (y z : ℕ) → y < v.grid.ny → z < v.grid.nz → y / 8 ≡ marks.y → z / 8 ≡ marks.z → marks.first ≡ first_brick v.grid y z
+  pub rows : (y z : ℕ) → y < v.grid.ny → z < v.grid.nz → y / 8 ≡ marks.y / 8 → z / 8 ≡ marks.z / 8 → marks.first ≡ first_brick v.grid y z

@@ -5,7 +5,7 @@ use Rattle.iso_defs.specs.Grid.{Grid}
 use Rattle.iso_defs.specs.Bricks.{brick_count, bricks_along, entries, in_brick, is_active, row_cases}
 use Rattle.cell_loops.specs.Loops.{row_centres, row_loops, row_triangles}
 use Rattle.stitch_rows.specs.Bricks.{first_brick}
-use Rattle.stitch_rows.specs.declared.named.Counts.{Counts}
+use Rattle.mesh_rows.specs.declared.counts.Counts.{Counts}
 
 -- for each row of each brick the case numbers of its cells, what the cells of each brick have, and which bricks are kept
 pub record Named : Type 0 where

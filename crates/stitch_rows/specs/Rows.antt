@@ -4,12 +4,12 @@ use Rattle.iso_defs.specs.Grid.{index}
 use Rattle.iso_defs.specs.Bricks.{bricks_along}
 use Rattle.iso_base.specs.Volume.{Volume, sample}
 use Rattle.corner_signs.specs.Rows.{bit_from}
-use Rattle.cell_loops.specs.Loops.{row_loops}
-use Rattle.crossing_edges.specs.Flags.{flags_at, rank}
+use Rattle.crossing_edges.specs.Flags.{flags_at}
 use Rattle.crossing_edges.specs.Signs.{flag_of}
 use Rattle.flat_mesh.specs.Lattice.{Leveled, heights}
 use Rattle.flat_mesh.specs.Faces.{loops_at}
 use Rattle.flat_mesh.specs.Rows.{row_start}
+use Rattle.mesh_rows.specs.Rows.{AreFlags, AreFlagsTo}
 use Rattle.stitch_rows.specs.declared.points.PointRuns.{PointRuns}
 use Rattle.stitch_rows.specs.Bricks.{IsNextFrom, first_brick, next_at}
 use Rattle.stitch_rows.specs.Runs.{IsRun}
@@ -32,31 +32,6 @@ pub record AreRuns {T : Type 0} (value : T → ℤ) (v : Leveled) (x y z : ℕ) 
   pub up : IsRun v x (next_at y v.grid.ny) z (map value runs.up.now)
   pub far : IsRun v x y (next_at z v.grid.nz) (map value runs.far.now)
 
--- a number of a case that has the loops of a cell
-pub record IsCaseOf (v : Leveled) (q case : ℕ) : Type 0 where
-  pub small : case < 656
-  pub loops : row_loops case ≡ loops_at v q
-
--- numbers of cases that have the loops of the first cells of a row
-abbrev pub AreCasesTo : Leveled → ℕ → ℕ → ℕ → List ℕ → Type 0
-AreCasesTo v y z count cases = (x : ℕ) → x + 1 < v.grid.nx → x < count → IsCaseOf v (index v.grid x y z) (slice_index cases x)
-
--- those of all its cells
-abbrev pub AreCases : Leveled → ℕ → ℕ → List ℕ → Type 0
-AreCases v y z cases = AreCasesTo v y z v.grid.nx cases
-
--- the flags of the first points of a row
-abbrev pub AreFlagsTo : Leveled → ℕ → ℕ → ℕ → List ℕ → Type 0
-AreFlagsTo v y z count flags = (x : ℕ) → x < v.grid.nx → x < count → slice_index flags x ≡ flags_at v.grid (heights v) (row_start v.grid y z + x)
-
--- and of all
-abbrev pub AreFlags : Leveled → ℕ → ℕ → List ℕ → Type 0
-AreFlags v y z flags = (x : ℕ) → x < v.grid.nx → slice_index flags x ≡ flags_at v.grid (heights v) (row_start v.grid y z + x)
-
--- no crossing edge begins at a point of a row
-pub record IsStill (v : Leveled) (y z : ℕ) : Type 0 where
-  pub none : (x : ℕ) → x < v.grid.nx → flags_at v.grid (heights v) (row_start v.grid y z + x) ≡ 0
-
 -- from one place of a row of bricks on the next active brick stands at another, and from behind them all at no other: at points between
 -- them no crossing edge begins, and cells between them have no loops
 pub record AreStill (v : Leveled) (y z from next : ℕ) : Type 0 where
@@ -72,10 +47,6 @@ pub record AreStill (v : Leveled) (y z from next : ℕ) : Type 0 where
 pub record HasMoreFlags (v : Leveled) (y z count : ℕ) (flags : List ℕ) : Type 0 where
   pub first : AreFlagsTo v y z count flags
   pub all : v.grid.nx ≤ count + 1 → AreFlags v y z flags
-
--- the numbers of their first crossing edges, and behind them that of the next row
-abbrev pub AreFirst : Leveled → ℕ → ℕ → List ℕ → Type 0
-AreFirst v y z first = (x : ℕ) → x ≤ v.grid.nx → slice_index first x ≡ rank v.grid (heights v) (3 * (row_start v.grid y z + x))
 
 -- the numbers from a place on are 0
 abbrev pub AreZerosFrom : ℕ → List ℕ → Type 0

@@ -4,7 +4,8 @@ ghost use Rattle.iso_defs.specs.Bricks.{bricks_along};
 ghost use Rattle.iso_base.specs.Sizing.{IsGrid};
 ghost use Rattle.flat_mesh.specs.Lattice.{Leveled, heights};
 ghost use Rattle.stitch_rows.specs.Bricks.{AreMarked, AreNextTo, IsMarkedLayer, IsNextFrom, first_brick, is_active_row};
-ghost use Rattle.stitch_rows.specs.Rows.{AreStill, IsStill};
+ghost use Rattle.stitch_rows.specs.Rows.{AreStill};
+ghost use Rattle.mesh_rows.specs.Rows.{IsStill};
 
 use crate::bricks::{BrickRow, count_along};
 use crate::field::Field;
@@ -20,15 +21,15 @@ pub struct ActiveLayer {
     pub next_from: [u32; LAYER],
 }
 
-/// Which bricks are active of those that stand one after the other along x, from the one numbered `first` on: their notes begin at
-/// `start` among those of their layer. They hold the rows of points whose coordinates y and z, divided by eight and rounded down, are
-/// `y` and `z`. A walk comes back to the rows of a layer slice after slice, and looks for its active bricks once.
+/// The row of points at `y` and `z`, and which bricks are active of those that hold it. They stand one after the other along x, from
+/// the one numbered `first` on, and their notes begin at `start` among those of their layer. A walk comes back to the rows of a layer
+/// slice after slice, and looks for its active bricks once.
 #[derive(Drop)]
 pub struct ActiveRow {
-    pub first: u32,
-    pub start: usize,
     pub y: u32,
     pub z: u32,
+    pub first: u32,
+    pub start: usize,
     pub layer: ActiveLayer,
 }
 
@@ -79,15 +80,15 @@ fn mark_layer(field: &Field, z: u32, layer: &mut ActiveLayer)
 }
 
 impl ActiveRow {
-    /// Marks of no bricks.
+    /// A row of no volume.
     pub fn new() -> ActiveRow
         ensures { (v : Leveled) → IsGrid v.grid → AreMarked v result }
     {
         ActiveRow {
-            first: u32::MAX,
-            start: 0,
             y: u32::MAX,
             z: u32::MAX,
+            first: u32::MAX,
+            start: 0,
             layer: ActiveLayer {
                 first: u32::MAX,
                 next_from: [0; LAYER],
@@ -95,49 +96,51 @@ impl ActiveRow {
         }
     }
 
-    /// Marks the bricks that hold a row of points, and their layer unless it is marked.
+    /// Goes to a row of points that other bricks hold, and marks their layer unless it is marked.
     fn mark_anew(&mut self, field: &Field, y: u32, z: u32)
         requires y { y < field.now.grid.ny }
         requires z { z < field.now.grid.nz }
         requires marked { AreMarked field.now self.old }
         ensures marked { AreMarked field.now self.new }
-        ensures first { self.new.first ≡ first_brick field.now.grid y z }
+        ensures y { self.new.y ≡ y }
+        ensures z { self.new.z ≡ z }
     {
         let sizes = field.sizes();
         let row = BrickRow::of(&sizes, y, z);
         mark_layer(field, z, &mut self.layer);
         self.first = row.first;
         self.start = (row.first - self.layer.first) as usize;
-        self.y = y / 8;
-        self.z = z / 8;
+        self.y = y;
+        self.z = z;
     }
 
-    /// Marks the bricks that hold a row of points, unless they are marked.
+    /// Goes to a row of points, and marks the bricks that hold it unless they are marked.
     #[inline(always)]
     pub fn mark(&mut self, field: &Field, y: u32, z: u32)
         requires y { y < field.now.grid.ny }
         requires z { z < field.now.grid.nz }
         requires marked { AreMarked field.now self.old }
         ensures marked { AreMarked field.now self.new }
-        ensures first { self.new.first ≡ first_brick field.now.grid y z }
+        ensures y { self.new.y ≡ y }
+        ensures z { self.new.z ≡ z }
     {
-        if y / 8 == self.y && z / 8 == self.z {
+        if y / 8 == self.y / 8 && z / 8 == self.z / 8 {
+            self.y = y;
+            self.z = z;
             return;
         }
         self.mark_anew(field, y, z);
     }
 
-    /// Whether no brick of the row is active: no crossing edge begins at a point of the row of points then.
+    /// Whether no brick that holds the row is active: no crossing edge begins at its points then.
     #[inline(always)]
-    pub fn is_still(&self, field: &Field, y: u32, z: u32) -> bool
+    pub fn is_still(&self, field: &Field) -> bool
         requires active { AreMarked field.now self.now }
-        requires first { self.now.first ≡ first_brick field.now.grid y z }
-        requires y { y < field.now.grid.ny }
-        requires z { z < field.now.grid.nz }
-        ensures still { IsTrue result → IsStill field.now y z }
-        ensures active { result ≡ not (is_active_row field.now y z) }
+        requires y { self.now.y < field.now.grid.ny }
+        requires z { self.now.z < field.now.grid.nz }
+        ensures still { IsTrue result → IsStill field.now self.now.y self.now.z }
+        ensures active { result ≡ not (is_active_row field.now self.now.y self.now.z) }
     {
-        let _ = (y, z);
         let sizes = field.sizes();
         self.next(0) >= count_along(sizes.nx())
     }
@@ -145,15 +148,13 @@ impl ActiveRow {
     /// Where the next active brick stands from a place of the row on, at most behind its last brick: beyond the row where there is none. No
     /// crossing edge begins at a point between the two places, and no cell between them has loops.
     #[inline(always)]
-    pub fn next_from(&self, field: &Field, x: u32, y: u32, z: u32) -> u32
+    pub fn next_from(&self, field: &Field, x: u32) -> u32
         requires active { AreMarked field.now self.now }
-        requires first { self.now.first ≡ first_brick field.now.grid y z }
         requires x { x ≤ bricks_along field.now.grid 0 }
-        requires y { y < field.now.grid.ny }
-        requires z { z < field.now.grid.nz }
-        ensures { AreStill field.now y z x result }
+        requires y { self.now.y < field.now.grid.ny }
+        requires z { self.now.z < field.now.grid.nz }
+        ensures { AreStill field.now self.now.y self.now.z x result }
     {
-        let _ = (y, z);
         let sizes = field.sizes();
         if x < count_along(sizes.nx()) {
             self.next(x)

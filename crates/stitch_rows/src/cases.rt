@@ -1,12 +1,13 @@
 //! The cases of the cells of a row, brick by brick.
 ghost use Rattle.std.specs.Prelude.{◌≡◌, ℕ, ◌+◌, ◌*◌, ◌<◌, ◌≤◌, length, slice_index};
 ghost use Rattle.flat_mesh.specs.Lattice.{heights};
-ghost use Rattle.stitch_rows.specs.Bricks.{AreMarked, HoldRow, IsActive, first_brick};
+ghost use Rattle.stitch_rows.specs.Bricks.{AreMarked, IsActive, IsPointRow};
 ghost use Rattle.stitch_rows.specs.Named.{NamesCases, asked_along, asked_among};
-ghost use Rattle.stitch_rows.specs.Rows.{AreCases, AreCasesTo, AreZerosFrom};
+ghost use Rattle.stitch_rows.specs.Rows.{AreZerosFrom};
+ghost use Rattle.mesh_rows.specs.Rows.{AreCases, AreCasesTo};
 
 use crate::active::ActiveRow;
-use crate::bricks::{BrickRow, count_along};
+use crate::bricks::{PointRow, count_along};
 use crate::field::Field;
 use crate::named::CellRows;
 use arrayvec::ArrayVec;
@@ -44,66 +45,71 @@ fn put_zeros(out: &mut [u16])
 fn active_cases<R: CellRows, L: Ledger>(
     field: &Field,
     rows: &mut R,
-    row: BrickRow,
+    row: PointRow,
     x: u32,
-    y: u32,
-    z: u32,
     cases: &mut [u16],
     steps: &mut Steps<L>,
 )
     requires x { 8 * x + 1 < field.now.grid.nx }
-    requires y { y + 1 < field.now.grid.ny }
-    requires z { z + 1 < field.now.grid.nz }
-    requires row { HoldRow field.now.grid y z row }
+    requires y { row.y + 1 < field.now.grid.ny }
+    requires z { row.z + 1 < field.now.grid.nz }
+    requires row { IsPointRow field.now.grid row }
     requires cases { length cases.old ≡ field.now.grid.nx }
-    requires active { IsActive field.now (row.first + x) }
+    requires active { IsActive field.now (row.bricks.first + x) }
     requires named { NamesCases (R.named rows.old) field.now.grid (heights field.now) }
-    requires before { AreCasesTo field.now y z (8 * x) cases.old }
+    requires before { AreCasesTo field.now row.y row.z (8 * x) cases.old }
     requires zeros { AreZerosFrom (8 * x) cases.old }
-    ensures cases { AreCasesTo field.now y z (8 * x + 8) cases.new }
+    ensures cases { AreCasesTo field.now row.y row.z (8 * x + 8) cases.new }
     ensures zeros { AreZerosFrom (8 * x + 8) cases.new }
     ensures same { R.named rows.new ≡ R.named rows.old }
     ensures least { steps.old ≤ steps.new }
-    ensures most { steps.new ≤ steps.old + 8 * asked_among field.now.grid (heights field.now) (R.named rows.old) (row.first + x) 1 }
+    ensures most { steps.new
+        ≤ steps.old + 8 * asked_among field.now.grid (heights field.now) (R.named rows.old) (row.bricks.first + x) 1 }
 {
     let _ = field.sizes();
+    let bricks = row.bricks;
     let mut run = ArrayVec::new();
-    rows.row(BrickId(row.first + x), row.y, row.z, &mut run, steps);
+    rows.row(
+        BrickId(bricks.first + x),
+        bricks.y,
+        bricks.z,
+        &mut run,
+        steps,
+    );
     put_run(run.as_slice(), 8 * x as usize, cases);
 }
 
-/// Writes for each cell of a row the number of a case that has its loops. It asks for each row of an active brick once, and
-/// for no row of another one: the cells of a brick that is not active have no loops, so that it goes from one active brick to the next.
+/// Writes for each cell that begins in a row of points the number of a case that has its loops. It asks for each row of an active
+/// brick once, and for no row of another one: the cells of a brick that is not active have no loops, so that it goes from one active
+/// brick to the next.
 pub fn case_row<R: CellRows, L: Ledger>(
     field: &Field,
     active: &ActiveRow,
     rows: &mut R,
-    y: u32,
-    z: u32,
     cases: &mut [u16],
     steps: &mut Steps<L>,
 )
     requires active { AreMarked field.now active.now }
-    requires first { active.now.first ≡ first_brick field.now.grid y z }
-    requires y { y + 1 < field.now.grid.ny }
-    requires z { z + 1 < field.now.grid.nz }
+    requires y { active.now.y + 1 < field.now.grid.ny }
+    requires z { active.now.z + 1 < field.now.grid.nz }
     requires cases { length cases.old ≡ field.now.grid.nx }
     requires named { NamesCases (R.named rows.old) field.now.grid (heights field.now) }
-    ensures cases { AreCases field.now y z cases.new }
+    ensures cases { AreCases field.now active.now.y active.now.z cases.new }
     ensures same { R.named rows.new ≡ R.named rows.old }
     ensures least { steps.old ≤ steps.new }
-    ensures most { steps.new ≤ steps.old + 8 * asked_along field.now.grid (heights field.now) (R.named rows.old) y z }
+    ensures most { steps.new
+        ≤ steps.old + 8 * asked_along field.now.grid (heights field.now) (R.named rows.old) active.now.y active.now.z }
 {
     let sizes = field.sizes();
-    let row = BrickRow::of_cells(&sizes, y, z);
+    let row = PointRow::of(&sizes, active.y, active.z);
     let last = count_along(sizes.nx()) - 1;
     put_zeros(cases);
     let mut x = active.next(0);
     while x < last {
-        active_cases(field, rows, row, x, y, z, cases, steps);
+        active_cases(field, rows, row, x, cases, steps);
         x = active.next(x + 1);
     }
     if x == last {
-        active_cases(field, rows, row, last, y, z, cases, steps);
+        active_cases(field, rows, row, last, cases, steps);
     }
 }

@@ -11,11 +11,11 @@ ghost use Rattle.flat_mesh.specs.Cases.{values_at};
 ghost use Rattle.flat_mesh.specs.Centres.{IsCellAt};
 ghost use Rattle.flat_mesh.specs.Lattice.{IsLeveled, heights};
 ghost use Rattle.span_tree.specs.Spans.{IsRightFor};
-ghost use Rattle.stitch_rows.specs.Bricks.{HoldRow, IsNextFrom};
+ghost use Rattle.stitch_rows.specs.Bricks.{IsNextFrom, IsPointRow};
 ghost use Rattle.stitch_rows.specs.Runs.{IsRun};
 ghost use Rattle.stitch_rows.specs.Rows.{at_level};
 
-use crate::bricks::BrickRow;
+use crate::bricks::{BrickRow, PointRow};
 use brick_store::{BrickId, BrickStore};
 use flat_mesh::{Cell, Heights};
 use iso_base::{Level, Sizes};
@@ -33,6 +33,13 @@ fn copied_height(level: Level, copies: &PackedRun<'_>, place: usize) -> i64
     ensures bound { unsigned_abs result < 2 ^ 44 }
 {
     level.shifted(copies.at(place))
+}
+
+/// How many rows further along y and z: none or one.
+#[derive(Clone, Copy)]
+pub(crate) struct Offset {
+    pub up: u8,
+    pub far: u8,
 }
 
 /// A volume in bricks at a level, with the tree that finds its active bricks. Contracts see its grid, its samples and the
@@ -97,26 +104,24 @@ impl<'a> Field<'a> {
     pub(crate) fn run<'c, T: Packed>(
         &self,
         copies: &'c [T],
-        row: BrickRow,
-        up: u8,
-        far: u8,
+        row: PointRow,
+        by: Offset,
         x: u32,
-        y: u32,
-        z: u32,
     ) -> &'c [T]
         requires copies { AreAllCopies self.now.grid self.now.samples (map T.value copies.now) }
         requires x { 8 * x + 1 < self.now.grid.nx }
-        requires y { y + up < self.now.grid.ny }
-        requires z { z + far < self.now.grid.nz }
-        requires up { up ≤ 1 }
-        requires far { far ≤ 1 }
-        requires row { HoldRow self.now.grid y z row }
-        ensures { IsRun self.now (8 * x) (y + up) (z + far) (map T.value result.now) }
+        requires y { row.y + by.up < self.now.grid.ny }
+        requires z { row.z + by.far < self.now.grid.nz }
+        requires up { by.up ≤ 1 }
+        requires far { by.far ≤ 1 }
+        requires row { IsPointRow self.now.grid row }
+        ensures { IsRun self.now (8 * x) (row.y + by.up) (row.z + by.far) (map T.value result.now) }
     {
-        let _ = (y, z);
         let sizes = self.store.sizes();
-        let brick = row.first as usize + x as usize;
-        let start = 729 * brick + 9 * ((row.y + up) as usize + 9 * (row.z + far) as usize);
+        let bricks = row.bricks;
+        let brick = bricks.first as usize + x as usize;
+        let start = 729 * brick
+            + 9 * ((bricks.y + by.up) as usize + 9 * (bricks.z + by.far) as usize);
         let count = (sizes.nx() - 8 * x).min(9) as usize;
         &copies[start..start + count]
     }
@@ -126,25 +131,22 @@ impl<'a> Field<'a> {
     pub(crate) fn full_run<'c, T: Packed>(
         &self,
         copies: &'c [T],
-        row: BrickRow,
-        up: u8,
-        far: u8,
+        row: PointRow,
+        by: Offset,
         x: u32,
-        y: u32,
-        z: u32,
         start: usize,
     ) -> &'c [T]
         requires copies { AreAllCopies self.now.grid self.now.samples (map T.value copies.now) }
         requires x { 8 * x + 9 < self.now.grid.nx }
-        requires y { y + up < self.now.grid.ny }
-        requires z { z + far < self.now.grid.nz }
-        requires up { up ≤ 1 }
-        requires far { far ≤ 1 }
-        requires row { HoldRow self.now.grid y z row }
-        requires start { start ≡ 729 * (row.first + x) + 9 * (row.y + up + 9 * (row.z + far)) }
-        ensures { IsRun self.now (8 * x) (y + up) (z + far) (map T.value result.now) }
+        requires y { row.y + by.up < self.now.grid.ny }
+        requires z { row.z + by.far < self.now.grid.nz }
+        requires up { by.up ≤ 1 }
+        requires far { by.far ≤ 1 }
+        requires row { IsPointRow self.now.grid row }
+        requires start { start ≡ 729 * (row.bricks.first + x) + 9 * (row.bricks.y + by.up + 9 * (row.bricks.z + by.far)) }
+        ensures { IsRun self.now (8 * x) (row.y + by.up) (row.z + by.far) (map T.value result.now) }
     {
-        let _ = (row, up, far, x, y, z);
+        let _ = (row, by, x);
         let _ = self.store.sizes();
         &copies[start..start + 9]
     }

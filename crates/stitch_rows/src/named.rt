@@ -6,14 +6,8 @@ ghost use Rattle.stitch_rows.specs.Named.{IsCellRow, Named, row_cost};
 use arrayvec::ArrayVec;
 use brick_store::BrickId;
 use iso_base::Steps;
+use mesh_rows::Counts;
 use std::sync::ledger::Ledger;
-
-/// How many centres and how many triangles some cells have.
-#[derive(Clone, Copy)]
-pub struct Counts {
-    pub centres: u32,
-    pub faces: u32,
-}
 
 /// Who names the cases of the cells of a volume, by the rows of its bricks. It is seen as the grid, the case numbers that it
 /// names for each row of each brick, what it counts in each brick, and which bricks it names as kept; no call changes these.

@@ -7,41 +7,41 @@ use Rattle.stitch_rows.proofs.Places.{few_bricks}
 use Rattle.stitch_rows.proofs.CaseRows.{cases_more, is_row, run_length}
 use Rattle.stitch_rows.proofs.cases.active_cases.Goals as goal
 
-pub overflow_add-row : goal.overflow_add-row
-overflow_add-row g c =
+pub overflow_add-bricks : goal.overflow_add-bricks
+overflow_add-bricks g c =
     let v = c.args.field.now in
-    let row = is_row v c.sizes.ensures.leveled.grid c.args.x c.args.y c.args.z c.requires.x c.requires.y c.requires.z c.args.row c.requires.row in
+    let row = is_row v c.sizes.ensures.leveled.grid c.args.x c.args.row.y c.args.row.z c.requires.x c.requires.y c.requires.z c.args.row.bricks c.requires.row.bricks in
     omega (arith, row.known, few_bricks v.grid c.sizes.ensures.leveled.grid)
 
 pub row-requires : goal.row-requires
 row-requires g c =
     let v = c.args.field.now in
-    subst (λ (g : Grid). IsCellRow g (c.args.row.first + c.args.x) c.args.row.y c.args.row.z) (sym c.requires.named.grid)
-    (is_row v c.sizes.ensures.leveled.grid c.args.x c.args.y c.args.z c.requires.x c.requires.y c.requires.z c.args.row c.requires.row)
+    subst (λ (g : Grid). IsCellRow g (c.args.row.bricks.first + c.args.x) c.args.row.bricks.y c.args.row.bricks.z) (sym c.requires.named.grid)
+    (is_row v c.sizes.ensures.leveled.grid c.args.x c.args.row.y c.args.row.z c.requires.x c.requires.y c.requires.z c.args.row.bricks c.requires.row.bricks)
 
 pub put_run-requires : goal.put_run-requires
 put_run-requires g c =
     let v = c.args.field.now in
-    let len = run_length v c.sizes.ensures.leveled.grid c.args.x c.args.y c.args.z c.requires.x c.requires.y c.requires.z c.args.row c.requires.row
+    let len = run_length v c.sizes.ensures.leveled.grid c.args.x c.args.row.y c.args.row.z c.requires.x c.requires.y c.requires.z c.args.row.bricks c.requires.row.bricks
     (g.R.CellRows.named c.args.rows.now) c.requires.named c.requires.active.is c.as_slice.result.now (c.as_slice.ensures.value ∙ c.row.ensures.cases) in
     omega (arith, len, c.requires.cases)
 
 pub returns-clause-cases : goal.returns-clause-cases
 returns-clause-cases g c =
     let v = c.args.field.now in
-    cases_more v c.sizes.ensures.leveled.grid c.args.x c.args.y c.args.z c.requires.x c.requires.y c.requires.z c.args.row c.requires.row
+    cases_more v c.sizes.ensures.leveled.grid c.args.x c.args.row.y c.args.row.z c.requires.x c.requires.y c.requires.z c.args.row.bricks c.requires.row.bricks
     (g.R.CellRows.named c.args.rows.now) c.requires.named c.requires.active.is c.as_slice.result.now (c.as_slice.ensures.value ∙ c.row.ensures.cases)
     (8 * c.args.x) c.args.cases.now c.put_run.new.out refl c.put_run.ensures.inside c.put_run.ensures.before c.requires.before
 
 pub returns-clause-most : goal.returns-clause-most
 returns-clause-most g c =
     let v = c.args.field.now in
-    let one = asked_one v.grid (heights v) (g.R.CellRows.named c.args.rows.now) (c.args.row.first + c.args.x) c.requires.active.is in
+    let one = asked_one v.grid (heights v) (g.R.CellRows.named c.args.rows.now) (c.args.row.bricks.first + c.args.x) c.requires.active.is in
     omega (arith, one, c.row.ensures.most)
 
 pub returns-clause-zeros : goal.returns-clause-zeros
 returns-clause-zeros g c = λ k from low.
     let v = c.args.field.now in
-    let len = run_length v c.sizes.ensures.leveled.grid c.args.x c.args.y c.args.z c.requires.x c.requires.y c.requires.z c.args.row c.requires.row
+    let len = run_length v c.sizes.ensures.leveled.grid c.args.x c.args.row.y c.args.row.z c.requires.x c.requires.y c.requires.z c.args.row.bricks c.requires.row.bricks
     (g.R.CellRows.named c.args.rows.now) c.requires.named c.requires.active.is c.as_slice.result.now (c.as_slice.ensures.value ∙ c.row.ensures.cases) in
     c.put_run.ensures.behind k (omega (arith, len)) ∙ c.requires.zeros k (omega arith) (omega (arith, low))

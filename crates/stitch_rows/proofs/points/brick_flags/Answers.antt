@@ -21,11 +21,11 @@ returns-clause-flags g c =
     let here : List ℤ = map g.T.Packed.value runs.here.now in
     let up : List ℤ = map g.T.Packed.value runs.up.now in
     let far : List ℤ = map g.T.Packed.value runs.far.now in
-    let e : to_z w64 (of_z w64 c.args.least) ≡ c.args.least = search (rules, to_z-of_z) in
-    (flags_more v c.sizes.ensures.leveled c.args.y c.args.z c.requires.y c.requires.z c.args.x (min 9 (v.grid.nx - 8 * c.args.x))
-    (to_z w64 (of_z w64 c.args.least)) here up far c.args.flags.now c.put_eight.new.flags (omega (arith, c.requires.x)) refl
+    let e : to_z w64 (of_z w64 c.least_above-least.result) ≡ c.least_above-least.result = search (rules, to_z-of_z) in
+    (flags_more v c.sizes.ensures.leveled c.args.row.y c.args.row.z c.requires.row.y_low c.requires.row.z_low c.args.x (min 9 (v.grid.nx - 8 * c.args.x))
+    (to_z w64 (of_z w64 c.least_above-least.result)) here up far c.args.flags.now c.put_eight.new.flags (omega (arith, c.requires.x)) refl
     c.full_runs-runs.ensures.here c.full_runs-runs.ensures.up c.full_runs-runs.ensures.far
-    (λ s. ap (λ l. int_le l s) e ∙ c.requires.least s)
+    (λ s. ap (λ l. int_le l s) e ∙ c.least_above-least.ensures s)
     (λ i low near. c.put_eight.ensures.inside i (near c.requires.x))
     c.put_eight.ensures.before c.requires.before).first
 

@@ -4,7 +4,7 @@ use Rattle.stitch_rows.proofs.points.flag_bricks.Given as goal
 
 abbrev pub invariant-loop-x : goal.invariant-loop-x
 invariant-loop-x g l = record {
-  flags : HasMoreFlags l.field l.y l.z (8 * l.x) l.flags;
+  flags : HasMoreFlags l.field l.row.y l.row.z (8 * l.x) l.flags;
   zeros : AreZerosFrom (8 * l.x) l.flags;
 }
 

@@ -22,10 +22,10 @@ returns g c =
     let here : List ℤ = map g.T.Packed.value runs.here.now in
     let up : List ℤ = map g.T.Packed.value runs.up.now in
     let far : List ℤ = map g.T.Packed.value runs.far.now in
-    let e : to_z w64 (of_z w64 c.args.least) ≡ c.args.least = search (rules, to_z-of_z) in
-    (flags_more v c.sizes.ensures.leveled c.args.y c.args.z c.requires.y c.requires.z c.args.x (min 9 (v.grid.nx - 8 * c.args.x))
-    (to_z w64 (of_z w64 c.args.least)) here up far c.args.flags.now c.put_last.new.flags c.requires.x refl
+    let e : to_z w64 (of_z w64 c.least_above-least.result) ≡ c.least_above-least.result = search (rules, to_z-of_z) in
+    (flags_more v c.sizes.ensures.leveled c.args.row.y c.args.row.z c.requires.row.y_low c.requires.row.z_low c.args.x (min 9 (v.grid.nx - 8 * c.args.x))
+    (to_z w64 (of_z w64 c.least_above-least.result)) here up far c.args.flags.now c.put_last.new.flags c.requires.x refl
     c.point_runs-runs.ensures.here c.point_runs-runs.ensures.up c.point_runs-runs.ensures.far
-    (λ s. ap (λ l. int_le l s) e ∙ c.requires.least s)
+    (λ s. ap (λ l. int_le l s) e ∙ c.least_above-least.ensures s)
     (λ i low near. c.put_last.ensures.inside i (omega (arith, low, length-map runs.here.now g.T.Packed.value)))
     c.put_last.ensures.before c.requires.before).all (omega (arith, c.requires.last))

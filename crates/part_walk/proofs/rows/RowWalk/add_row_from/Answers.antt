@@ -1,7 +1,7 @@
 use Rattle.std.proofs.Common.{◌≡◌, ◌∙◌, ◌+◌, ◌*◌, ◌<◌, length, refl, sym, ap, subst, arith}
 use Rattle.iso_defs.specs.Grid.{Grid}
 use Rattle.flat_mesh.specs.Rows.{row_start}
-use Rattle.stitch_rows.specs.Rows.{AreCases}
+use Rattle.mesh_rows.specs.Rows.{AreCases}
 use Rattle.part_walk.specs.Walks.{IsWalked, loops_before}
 use Rattle.part_walk.proofs.RowLaws.{all_written, quiet_to}
 use Rattle.part_walk.proofs.rows.RowWalk.add_row_from.Goals as goal
