@@ -1,13 +1,16 @@
 -- What the cells of all bricks have, brick after brick.
 use Rattle.std.proofs.Common.{◌≡◌, ℕ, suc, ◌+◌, ◌-◌, ◌*◌, ◌^◌, ◌<◌, ◌≤◌, ◌||◌, Bool, true, false, cond, List, [], ◌∷◌, length, map, min, refl, sym, ◌∙◌, ap, subst, arith}
-use Rattle.std.specs.List.{filter, list_any}
+use Rattle.std.specs.List.{enumerate_from, filter, flat_map, list_any}
+use Rattle.std.proofs.lemmas.List.{length-map}
 use Rattle.iso_defs.specs.Lists.{below}
 use Rattle.iso_defs.specs.Grid.{is_cell, point_count}
 use Rattle.iso_defs.specs.Rows.{row_count}
-use Rattle.iso_defs.specs.Scratch.{cell_centres}
+use Rattle.iso_defs.specs.Cell.{Triangle, case_triangles, cell_joined, cell_signs, loop_triangles}
+use Rattle.iso_defs.specs.Scratch.{cell_centres, number_of, on_corners, vertex_name}
 use Rattle.iso_defs.specs.Bricks.{brick_cell, brick_count, cell_case, entries, is_active, is_active_cell}
-use Rattle.cell_loops.specs.Loops.{row_centres, row_triangles}
+use Rattle.cell_loops.specs.Loops.{row_centres, row_loops, row_triangles}
 use Rattle.cell_loops.proofs.Shapes.{few_triangles as few_of_case}
+use Rattle.flat_mesh.specs.Faces.{loops_at}
 use Rattle.flat_mesh.specs.Found.{numbered}
 use Rattle.flat_mesh.specs.Lattice.{IsLeveled, Leveled, heights}
 use Rattle.flat_mesh.proofs.CellAdds.{few_of_cell, no_centres, no_triangles}
@@ -19,7 +22,7 @@ use Rattle.stitch_rows.proofs.QuietBricks.{unmixed_loops}
 use Rattle.mesh_rows.specs.declared.counts.Counts.{Counts}
 use Rattle.mesh_rows.specs.Counts.{AreCounts, centres_among, triangles_among}
 use Rattle.stitch.proofs.BrickSums.{of_all, span_sum}
-use Rattle.stitch.proofs.CaseCounts.{centres_of_case, triangles_of_case}
+use Rattle.mesh_walk.proofs.CentreLines.{centres_of_case}
 use Rattle.stitch.proofs.Uptos.{upto, upto_append, upto_low, upto_more, zeros}
 
 none_pass : (p : ℕ → Bool) (xs : List ℕ) → list_any p xs ≡ false → filter p xs ≡ []
@@ -29,6 +32,14 @@ none_pass p (x ∷ xs) none = one (p x) none (none_pass p xs)
     one : (b : Bool) → (b || list_any p xs) ≡ false → (list_any p xs ≡ false → filter p xs ≡ []) → cond {A = List ℕ} b (x ∷ filter p xs) (filter p xs) ≡ []
     one true e later = absurd (cc)
     one false e later = later e
+
+-- the number of triangles of a cell, by its case
+triangles_of_case : (v : Leveled) (q case : ℕ) → row_loops case ≡ loops_at v q → length (row_triangles case) ≡ length (numbered v q)
+unfolding row_triangles row_loops loops_at
+triangles_of_case v q case same =
+    let ts : List Triangle = case_triangles (cell_signs v.grid (heights v) q) (cell_joined v.grid (heights v) q) in
+    ap (λ ls. length (flat_map (λ (l : ℕ × List ℕ). loop_triangles l.1 (12 + l.0)) (enumerate_from 0 ls))) same
+    ∙ sym (length-map (map (on_corners (vertex_name v.grid q)) ts) (on_corners (number_of v.grid (heights v))) ∙ length-map ts (on_corners (vertex_name v.grid q)))
 
 module _ (v : Leveled) where
   -- what the cells of a brick have

@@ -1,6 +1,6 @@
 -- The text of the mesh of a volume in a style is that from scratch.
-use Rattle.std.proofs.Common.{◌≡◌, ℕ, Bool, true, false, List, length, ℤ, Result, IfOk, refl, sym, ◌∙◌, ap, ap₂, subst}
-use Rattle.iso_defs.specs.Texts.{obj_text, ply_text, scratch_ply}
+use Rattle.std.proofs.Common.{◌≡◌, ℕ, Bool, true, false, List, ℤ, Result, IfOk, refl, ◌∙◌, ap, subst}
+use Rattle.iso_defs.specs.Texts.{scratch_ply}
 use Rattle.iso_base.specs.Shifted.{field}
 use Rattle.iso_base.specs.Volume.{Volume}
 use Rattle.iso_base.specs.declared.fault.Written.{Written}

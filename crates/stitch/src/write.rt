@@ -12,13 +12,13 @@ ghost use Rattle.span_tree.specs.Spans.{IsRightFor};
 ghost use Rattle.stitch_rows.specs.Named.{NamesCases, asked_among};
 ghost use Rattle.stitch.specs.Origins.{origin_for};
 
-use mesh_walk::write_mesh;
 use crate::store::StoreRows;
 use brick_store::BrickStore;
 use byte_streams::{Failed, Sink};
 use edge_points::RowRanks;
 use iso_base::{Level, MeshFormat, Steps, Written};
 use mesh_lines::{Origin, Style};
+use mesh_walk::write_mesh;
 use span_tree::SpanTree;
 use std::sync::ledger::Ledger;
 use stitch_rows::{CellRows, Field};

@@ -1,4 +1,4 @@
-use Rattle.std.proofs.Common.{◌≡◌, ◌+◌, ◌*◌, ◌≤◌, arith}
+use Rattle.std.proofs.Common.{◌+◌, ◌*◌, ◌≤◌, arith}
 use Rattle.flat_mesh.specs.Lattice.{heights}
 use Rattle.mesh_rows.specs.Rows.{AreCases}
 use Rattle.stitch_rows.specs.Named.{Named, asked_along}
