@@ -1,7 +1,9 @@
 -- Windows of a volume, and what a call that writes one does.
 use Rattle.std.proofs.Common.{◌≡◌, ◌⊎◌, ℕ, List, Result, Ok, Err, inl, inr, refl, sym, ap, ◌∙◌, subst, arith, ℤ}
 use Rattle.std.specs.Prelude.{Option, Some, None, IsSomeAnd, OnOk}
+use Rattle.iso_defs.specs.Grid.{Grid}
 use Rattle.iso_base.specs.Points.{IsPoint}
+use Rattle.iso_base.specs.Shifted.{field}
 use Rattle.iso_base.specs.Volume.{Volume, IsVolume}
 use Rattle.iso_base.specs.declared.point.Point.{Point}
 use Rattle.iso_base.specs.declared.fault.BenchFault.{BenchFault}
@@ -11,12 +13,17 @@ use Rattle.iso_base.specs.declared.format.MeshFormat.{MeshFormat}
 use Rattle.byte_streams.specs.declared.Failed.{Failed}
 use Rattle.iso_io.specs.Shelves.{Store, Stores, FilesCut, with_file}
 use Rattle.voxel_list.specs.Areas.{Area}
-use Rattle.flat_mesh.specs.Mesh.{FlatMesh}
+use Rattle.flat_mesh.specs.Lattice.{Leveled, heights}
+use Rattle.flat_mesh.specs.Mesh.{FlatMesh, mesh_of}
 use Rattle.mesh_more.specs.Texts.{moved_text}
 use Rattle.window_mesh.specs.Crops.{IsBoxOfKind, IsFaultOf, IsWindowOfMesh, refusal_of, window_of}
 use Rattle.window_mesh.specs.declared.boxes.WindowFault.{WindowFault}
 use Rattle.window_mesh.specs.declared.boxes.WindowFault.TheVariants.{Memory, Thin}
-use Rattle.window_write.specs.Lines.{steps_of, text_of, written_of}
+use Rattle.window_mesh.specs.Views.{InBox, boxed_list}
+use Rattle.mesh_lines.specs.Lines.{text_of, written_of}
+use Rattle.mesh_lines.specs.declared.style.Origin.TheVariants.{Window}
+use Rattle.mesh_lines.specs.declared.style.Style.{Style}
+use Rattle.mesh_lines.proofs.Texts as lines
 use Rattle.inner_volume.specs.Places.{IsInside}
 use Rattle.bench_core.specs.Windows.{WritesWindow, inner_corner, mesh_in, numbers_with, text_at, thin_fault, window_fault, window_text, window_written}
 use Rattle.bench_core.proofs.Changing.{inner_area}
@@ -43,21 +50,32 @@ refused_as a (Thin axis n) is = inl (ap (thin_fault (window_of a).grid) is.0 ∙
 pub no_fault : (a : Area) (axis : Option ℕ) → axis ≡ None → thin_fault (window_of a).grid axis ≡ None
 no_fault a axis e = ap (thin_fault (window_of a).grid) e
 
-module _ (v : Volume) (level : ℤ) (a : Area) (format : MeshFormat) (by : Point) (m : FlatMesh)
-    (mesh : m ≡ mesh_in v level a) (corner : steps_of by ≡ inner_corner v a) where
-  text_is : text_of format by m ≡ window_text v level (Some a) format
-  unfolding text_of window_text
-  text_is = ap (λ by. moved_text format by m.vertex_list m.triangle_list) corner ∙ ap (text_at v a format) mesh
+-- the mesh over the samples of a box is that of the box
+pub mesh_over : (v : Volume) (level : ℤ) (a : Area) (b : InBox) (sizes : Grid) (m : Leveled) → b ≡ record { volume = v; window = window_of a } → sizes ≡ b.window.grid
+    → m ≡ record { grid = sizes; samples = boxed_list b; level = level } → mesh_of m.grid (heights m) ≡ mesh_in v level a
+mesh_over v level a b sizes m box grid made =
+    ap (λ (m : Leveled). mesh_of m.grid (heights m)) made ∙ ap (λ g. mesh_of g (field (boxed_list b) level)) grid
+    ∙ ap (λ (b : InBox). mesh_of b.window.grid (field (boxed_list b) level)) box
 
-  written_is : written_of format by m ≡ window_written v level (Some a) format
-  unfolding text_of window_written
-  written_is =
-      ap (λ by. numbers_with m (moved_text format by m.vertex_list m.triangle_list)) corner
-      ∙ ap (λ (m : FlatMesh). numbers_with m (text_at v a format m)) mesh
+module _ (v : Volume) (level : ℤ) (a : Area) (format : MeshFormat) (at : Point) (m : FlatMesh)
+    (mesh : m ≡ mesh_in v level a) (corner : (at.x, at.y, at.z) ≡ inner_corner v a) where
+  abbrev style : Style
+  style = record { format = format; origin = Window at }
+
+  moved_is : text_of style m ≡ text_at v a format m
+  moved_is = lines.window_text at m format ∙ ap (λ by. moved_text format by m.vertex_list m.triangle_list) corner
+
+  text_is : text_of style m ≡ window_text v level (Some a) format
+  unfolding window_text
+  text_is = moved_is ∙ ap (text_at v a format) mesh
+
+  written_is : written_of style m ≡ window_written v level (Some a) format
+  unfolding window_written
+  written_is = ap (numbers_with m) moved_is ∙ ap (λ (m : FlatMesh). numbers_with m (text_at v a format m)) mesh
 
   -- the mesh was written as a file
   pub window_filed : (old new : Store) (w : Written) (name : List ℕ) → window_fault (Some a) ≡ None
-      → Stores {E = Failed} old new (Ok w) name (text_of format by m) → w ≡ written_of format by m → WritesWindow v level (Some a) format old new (Ok w) name
+      → Stores {E = Failed} old new (Ok w) name (text_of style m) → w ≡ written_of style m → WritesWindow v level (Some a) format old new (Ok w) name
   window_filed old new w name none is e = record {
     window = none;
     numbers = e ∙ written_is;
@@ -68,7 +86,7 @@ module _ (v : Volume) (level : ℤ) (a : Area) (format : MeshFormat) (by : Point
 
   -- or it was not
   pub window_cut : (old new : Store) (e : Failed) (name : List ℕ) → window_fault (Some a) ≡ None
-      → Stores {T = Written} old new (Err e) name (text_of format by m) → WritesWindow v level (Some a) format old new (Err faults.ShelfFailed) name
+      → Stores {T = Written} old new (Err e) name (text_of style m) → WritesWindow v level (Some a) format old new (Err faults.ShelfFailed) name
   window_cut old new e name none is = record {
     window = tt;
     numbers = tt;

@@ -20,7 +20,7 @@ use crate::edits::{area_change, is_in_range, one_change};
 use crate::fault::BeginFault;
 use crate::follow::follow;
 use crate::walked::{walked_measures, walked_numbers};
-use crate::windows::write_window;
+use crate::windows::{Window, write_window};
 use brick_store::BrickStore;
 use edge_points::RowRanks;
 use edit_log::{Change, EditLog};
@@ -409,8 +409,8 @@ impl Bench {
         let Some(area) = self.box_of(corners) else {
             return Err(BenchFault::Outside);
         };
-        let (store, level) = (&self.store, self.level);
-        write_window(self.alloc, store, level, &area, format, shelf, name)
+        let window = Window { area, format, name };
+        write_window(self.alloc, &self.store, self.level, &window, shelf)
     }
 
     /// The contour lines of plane z = k, with stored coordinates; with a pad they go over the pad's ring too. They lie

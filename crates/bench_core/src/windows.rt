@@ -1,48 +1,38 @@
 //! Windows of a volume as files of a shelf.
 
-ghost use Rattle.std.specs.Prelude.{◌≡◌, ◌⊎◌, [], IfErr, IfOk, None, OnOk, Some};
+ghost use Rattle.std.specs.Prelude.{◌≡◌, IfOk, OnOk, Some};
 ghost use Rattle.byte_streams.specs.Seen.{Puts};
 ghost use Rattle.iso_io.specs.Shelves.{Stores, file_tape};
+ghost use Rattle.flat_mesh.specs.Lattice.{heights};
+ghost use Rattle.flat_mesh.specs.Mesh.{mesh_of};
+ghost use Rattle.mesh_lines.specs.Lines.{text_of, written_of};
 ghost use Rattle.window_mesh.specs.Crops.{IsWindowOfMesh};
-ghost use Rattle.window_write.specs.Lines.{IsNear, steps_of, text_of, written_of};
 ghost use Rattle.inner_volume.specs.Places.{IsInside};
-ghost use Rattle.bench_core.specs.Windows.{WritesWindow, inner_corner, mesh_in, window_fault};
+ghost use Rattle.bench_core.specs.Windows.{WritesWindow, inner_corner};
 
 use brick_store::BrickStore;
-use flat_mesh::Mesh;
 use inner_volume::layer_of;
 use iso_base::{BenchFault, Level, MeshFormat, Point, Written};
 use iso_io::{Failed, Shelf, ShelfFile, Sink};
-use mesh_write::STAGE;
+use list_mesh::ListMesh;
+use mesh_lines::{Origin, Style};
+use samples::Samples;
 use std::alloc::Global;
 use voxel_list::FillBox;
-use window_mesh::named_window;
-use window_write::put_moved;
+use window_mesh::BoxSamples;
 
-/// The mesh of a box of points off the pad's layer.
-fn mesh_of_box(
-    alloc: Global,
-    store: &BrickStore,
-    level: Level,
-    area: &FillBox,
-) -> Result<Mesh, BenchFault>
-    requires low { IsInside store.now area.now.low }
-    requires high { IsInside store.now area.now.high }
-    ensures mesh { IfOk result (λ m. m ≡ mesh_in store.now level area.now) }
-    ensures part { OnOk result (IsWindowOfMesh store.now level area.now) }
-    ensures window { OnOk result (window_fault (Some area.now) ≡ None) }
-    ensures fault { IfErr result (λ fault. (window_fault (Some area.now) ≡ Some fault)
-        ⊎ ((fault ≡ BenchFault.Memory) × (window_fault (Some area.now) ≡ None))) }
-{
-    let _ = (store.sizes(), area.low());
-    Ok(named_window(alloc, store, area, level)?)
+/// A window to be written: a box of points of the stored grid, the format of the text, and the name of the file.
+#[derive(Clone, Copy)]
+pub struct Window<'a> {
+    pub area: FillBox,
+    pub format: MeshFormat,
+    pub name: &'a str,
 }
 
 /// Where the least corner of a box off the pad's layer lies in the volume without its pad.
 fn corner_of(store: &BrickStore, area: &FillBox) -> Point
     requires { IsInside store.now area.now.low }
-    ensures corner { steps_of result ≡ inner_corner store.now area.now }
-    ensures near { IsNear result }
+    ensures { (result.x, result.y, result.z) ≡ inner_corner store.now area.now }
 {
     let layer = layer_of(store);
     let low = area.low();
@@ -54,60 +44,56 @@ fn corner_of(store: &BrickStore, area: &FillBox) -> Point
 }
 
 // Apart, so that its caller learns that it is the same shelf afterwards.
-fn fill_file<H: Shelf>(
+fn fill_file<H: Shelf, S: Samples>(
     file: &mut ShelfFile<H>,
-    waiting: &mut Vec<u8>,
-    mesh: &Mesh,
-    format: MeshFormat,
-    by: Point,
+    mesh: &mut ListMesh<S>,
+    style: Style,
 ) -> Result<Written, Failed>
-    requires none { waiting.old.items ≡ [] }
-    requires near { IsNear by }
-    ensures text { Puts (file_tape file.old.shelf.ghost_name (H.seen file.old.shelf.now) file.old.name.now)
-        (file_tape file.new.shelf.ghost_name (H.seen file.new.shelf.now) file.new.name.now) result (text_of format by mesh.now) }
-    ensures written { IfOk result (λ w. w ≡ written_of format by mesh.now) }
+    ensures text { Puts
+        (file_tape file.old.shelf.ghost_name (H.seen file.old.shelf.now) file.old.name.now)
+        (file_tape file.new.shelf.ghost_name (H.seen file.new.shelf.now) file.new.name.now)
+        result (text_of style (mesh_of mesh.old.grid (heights mesh.old))) }
+    ensures written { IfOk result (λ w. w ≡ written_of style (mesh_of mesh.old.grid (heights mesh.old))) }
     ensures same_reference { file.new.shelf.ghost_name ≡ file.old.shelf.ghost_name }
 {
-    put_moved(file, waiting, mesh, format, by)
+    mesh.write(style, file)
 }
 
-/// Makes the name's file the text of a mesh whose positions are moved.
-fn write_moved<H: Shelf>(
+/// Makes the name's file the text of a mesh in a style.
+fn write_file<H: Shelf, S: Samples>(
     shelf: &mut H,
     name: &str,
-    waiting: &mut Vec<u8>,
-    mesh: &Mesh,
-    format: MeshFormat,
-    by: Point,
+    mesh: &mut ListMesh<S>,
+    style: Style,
 ) -> Result<Written, Failed>
-    requires none { waiting.old.items ≡ [] }
-    requires near { IsNear by }
-    ensures file { Stores (H.seen shelf.old) (H.seen shelf.new) result name.now (text_of format by mesh.now) }
-    ensures written { IfOk result (λ w. w ≡ written_of format by mesh.now) }
+    ensures file { let m = mesh.old in Stores (H.seen shelf.old) (H.seen shelf.new) result name.now (text_of style (mesh_of m.grid (heights m))) }
+    ensures written { IfOk result (λ w. w ≡ written_of style (mesh_of mesh.old.grid (heights mesh.old))) }
 {
     shelf.start(name)?;
     let mut file = ShelfFile::new(shelf, name);
-    fill_file(&mut file, waiting, mesh, format, by)
+    fill_file(&mut file, mesh, style)
 }
 
-/// Makes the name's file the mesh of a box of points off the pad's layer, in its place in the volume without its pad. The
-/// shelf is touched last, when the text is only to be written.
+/// Makes the name's file the mesh of a box of points off the pad's layer, in its place in the volume without its pad. The text
+/// is written as it is made, from the samples in the bricks. The shelf is touched last, when all memory is taken.
 pub fn write_window<H: Shelf>(
     alloc: Global,
     store: &BrickStore,
     level: Level,
-    area: &FillBox,
-    format: MeshFormat,
+    window: &Window,
     shelf: &mut H,
-    name: &str,
 ) -> Result<Written, BenchFault>
-    requires low { IsInside store.now area.now.low }
-    requires high { IsInside store.now area.now.high }
-    ensures window { WritesWindow store.now level (Some area.now) format (H.seen shelf.old) (H.seen shelf.new) result name.now }
-    ensures part { OnOk result (IsWindowOfMesh store.now level area.now) }
+    requires low { IsInside store.now window.now.area.low }
+    requires high { IsInside store.now window.now.area.high }
+    ensures window { let w = window.now in
+        WritesWindow store.now level (Some w.area) w.format (H.seen shelf.old) (H.seen shelf.new) result w.name.now }
+    ensures part { OnOk result (IsWindowOfMesh store.now level window.now.area) }
 {
-    let mesh = mesh_of_box(alloc, store, level, area)?;
-    let mut waiting = Vec::with_capacity(alloc, STAGE)?;
-    let by = corner_of(store, area);
-    Ok(write_moved(shelf, name, &mut waiting, &mesh, format, by)?)
+    let samples = BoxSamples::new(store, &window.area)?;
+    let mut mesh = ListMesh::of(alloc, samples.sizes(), &samples, level)?;
+    let style = Style {
+        format: window.format,
+        origin: Origin::Window(corner_of(store, &window.area)),
+    };
+    Ok(write_file(shelf, window.name, &mut mesh, style)?)
 }

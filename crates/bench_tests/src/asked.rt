@@ -130,15 +130,10 @@ pub fn shelf(alloc: Global, failing: &[u64]) -> Result<MemShelf, Memory> {
     MemShelf::new(alloc, 3, 65_536, Vec::from_slice(alloc, failing)?)
 }
 
-/// Whether a file of the shelf has these bytes.
-pub fn has_bytes(shelf: &MemShelf, name: &str, bytes: &[u8]) -> bool {
-    match shelf.file(name) {
-        Some(held) => held == bytes,
-        None => false,
-    }
-}
-
 /// Whether a file of the shelf is this text.
 pub fn has_file(shelf: &MemShelf, name: &str, text: &str) -> bool {
-    has_bytes(shelf, name, text.as_bytes())
+    match shelf.file(name) {
+        Some(held) => held == text.as_bytes(),
+        None => false,
+    }
 }

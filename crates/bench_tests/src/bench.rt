@@ -1,16 +1,15 @@
 ghost use Rattle.std.specs.Prelude.{◌≡◌, IfSome, None};
 
 use crate::asked::{
-    Edit, SaveAs, begin, change, contour, has_bytes, has_file, report, save, shelf, work, write,
+    Edit, SaveAs, begin, change, contour, has_file, report, save, shelf, work, write,
 };
 use bench_core::{Bench, BenchFault, Capacity, Contours, Part, Report};
 use flat_mesh::{Mesh, extract_flat};
-use iso_base::{Level, Sizes, Written};
-use iso_io::{MemShelf, MemSink};
+use iso_base::{Level, Sizes, Thousandth, Written};
+use iso_io::MemShelf;
 use mesh_text::TwoWayFormat;
-use mesh_write::put_mesh_as;
 use nrrd_read::read_volume;
-use std::alloc::Global;
+use std::alloc::{AllocError, Global};
 use std::process::Abort;
 use volume_gen::generated;
 use voxel_list::VoxelList;
@@ -232,31 +231,47 @@ fn scatter(bench: &mut Bench, seed: u64, count: u32) {
     }
 }
 
-/// The mesh of a volume from scratch.
-fn scratch_mesh(alloc: Global, volume: &VoxelList, level: i128) -> Option<Mesh> {
-    extract_flat(alloc, volume, Level::new(level)?).ok()
+/// Puts a coordinate, which is not negative, behind a text.
+fn push_coordinate(text: &mut String, at: Thousandth) -> Result<(), AllocError> {
+    write!(text, "{}.{:03}", at.0 / 1000, at.0 % 1000)
 }
 
-fn put_text(alloc: Global, mesh: &Mesh, sink: &mut MemSink) -> Option<Written> {
-    let mut waiting = Vec::with_capacity(alloc, 65_536).ok()?;
-    put_mesh_as(sink, &mut waiting, mesh, TwoWayFormat::Ply, false).ok()
+fn push_vertex(text: &mut String, [x, y, z]: [Thousandth; 3]) -> Result<(), AllocError> {
+    push_coordinate(text, x)?;
+    text.push_str(" ")?;
+    push_coordinate(text, y)?;
+    text.push_str(" ")?;
+    push_coordinate(text, z)?;
+    text.push_str("\n")
 }
 
-fn text_of(alloc: Global, mesh: &Mesh) -> Option<MemSink> {
-    let mut sink = MemSink::new(alloc, 65_536, Vec::new(alloc)).ok()?;
-    put_text(alloc, mesh, &mut sink)?;
-    Some(sink)
+/// The text of a mesh as PLY, from its lists.
+fn text_of(alloc: Global, mesh: &Mesh) -> Result<String, AllocError> {
+    let (vertices, faces) = (mesh.vertex_count(), mesh.triangle_count());
+    let mut text = format!(in alloc;
+        "ply\nformat ascii 1.0\nelement vertex {vertices}\nproperty float x\nproperty float y\nproperty float z\nelement face {faces}\nproperty list uchar int vertex_indices\nend_header\n"
+    )?;
+    for i in 0..vertices {
+        let (_, at) = mesh.vertex(i);
+        push_vertex(&mut text, at)?;
+    }
+    for [a, b, c] in mesh.triangles() {
+        write!(text, "3 {a} {b} {c}\n")?;
+    }
+    Ok(text)
 }
 
-fn scratch_text(alloc: Global, volume: &VoxelList, level: i128) -> Option<MemSink> {
-    text_of(alloc, &scratch_mesh(alloc, volume, level)?)
+/// The text of the mesh of a volume from scratch.
+fn scratch_text(alloc: Global, volume: &VoxelList, level: i128) -> Option<String> {
+    let mesh = extract_flat(alloc, volume, Level::new(level)?).ok()?;
+    text_of(alloc, &mesh).ok()
 }
 
 /// Whether the file `mesh` is the extraction from scratch of the volume that is in the file `volume`.
 fn is_from_scratch(alloc: Global, shelf: &MemShelf, level: i128) -> Option<bool> {
     let volume = volume_of(alloc, shelf.file("volume")?)?;
     let text = scratch_text(alloc, &volume, level)?;
-    Some(has_bytes(shelf, "mesh", text.bytes()))
+    Some(has_file(shelf, "mesh", &text))
 }
 
 fn check_written(rt: &impl Abort, bench: &mut Bench, shelf: &mut MemShelf) {

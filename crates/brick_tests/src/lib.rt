@@ -20,6 +20,10 @@ mod spans;
 #[cfg(test)]
 mod stores;
 #[cfg(test)]
+mod texts;
+#[cfg(test)]
 mod walks;
 #[cfg(test)]
 mod widths;
+#[cfg(test)]
+mod windows;

@@ -1,11 +1,14 @@
 //! Meshes written while their volume is walked, beside those of extraction from scratch.
-ghost use Rattle.std.specs.Prelude.{◌≡◌, false};
+ghost use Rattle.std.specs.Prelude.{◌≡◌, All, false, length};
 ghost use Rattle.iso_defs.specs.Bricks.{entries, row_cases};
+ghost use Rattle.iso_defs.specs.Grid.{point_count};
+ghost use Rattle.iso_base.specs.Samples.{IsSample};
 ghost use Rattle.iso_base.specs.Shifted.{field};
 ghost use Rattle.span_tree.specs.Spans.{IsRightFor};
 ghost use Rattle.stitch_rows.specs.Named.{counts_of_entries};
 
 use crate::stores::sizes_of;
+use crate::texts::{Text, text_of};
 use arrayvec::ArrayVec;
 use brick_mesh::{extract_brick, extract_row};
 use brick_store::{BrickId, BrickStore};
@@ -17,13 +20,13 @@ use kept_mesh::count_entries;
 use list_mesh::ListMesh;
 use mesh_lines::{Origin, Style};
 use mesh_text::TwoWayFormat;
-use mesh_write::{STAGE, put_mesh_as};
+use samples::Samples;
 use span_tree::SpanTree;
 use std::alloc::Global;
 use std::marker::Brand;
 use std::sync::ledger::{Blank, Ledger};
-use stitch::{CellRows, write_obj, write_ply};
-use stitch_rows::Counts;
+use stitch::{write_obj, write_ply};
+use stitch_rows::{CellRows, Counts};
 use volume_gen::generated;
 use voxel_list::VoxelList;
 
@@ -63,9 +66,9 @@ impl<'a> CellRows for FreshRows<'a> {
     }
 }
 
-/// A text and what its writer told of it.
+/// A text that a walk wrote, and what it told of it.
 #[derive(Drop)]
-struct Told {
+pub struct Told {
     sink: MemSink,
     written: Result<Written, Failed>,
 }
@@ -73,21 +76,6 @@ struct Told {
 /// A sink with room for each text.
 fn empty_sink(alloc: Global) -> Result<MemSink, Memory> {
     MemSink::new(alloc, ROOM, Vec::new(alloc))
-}
-
-/// The text of extraction from scratch.
-fn scratch_text(
-    alloc: Global,
-    volume: &VoxelList,
-    level: Level,
-    format: TwoWayFormat,
-) -> Result<Told, Memory> {
-    let padded = volume.pad().is_some();
-    let mesh = extract_flat(alloc, volume, level)?;
-    let mut waiting = Vec::with_capacity(alloc, STAGE)?;
-    let mut sink = empty_sink(alloc)?;
-    let written = put_mesh_as(&mut sink, &mut waiting, &mesh, format, padded);
-    Ok(Told { sink, written })
 }
 
 /// How a text is written.
@@ -100,20 +88,34 @@ fn style_of(format: TwoWayFormat, padded: bool) -> Style {
     Style { format, origin }
 }
 
-/// The text that is written while the list of samples is walked.
-fn listed_text(
+/// The text that is written while samples are walked.
+pub fn listed_text<S: Samples>(
+    alloc: Global,
+    sizes: Sizes,
+    samples: &S,
+    level: Level,
+    style: Style,
+) -> Result<Told, Memory>
+    requires count { length (S.list samples.now) ≡ point_count sizes }
+    requires samples { All IsSample (S.list samples.now) }
+{
+    let mut sink = empty_sink(alloc)?;
+    let mut mesh = ListMesh::of(alloc, sizes, samples, level)?;
+    let written = mesh.write(style, &mut sink);
+    Ok(Told { sink, written })
+}
+
+/// The same of a volume.
+fn volume_text(
     alloc: Global,
     volume: &VoxelList,
     level: Level,
     format: TwoWayFormat,
 ) -> Result<Told, Memory> {
-    let padded = volume.pad().is_some();
-    let mut sink = empty_sink(alloc)?;
     // Reading the samples brings in that they are in the range of samples.
     let _ = volume.samples();
-    let mut mesh = ListMesh::of(alloc, volume.sizes(), volume, level)?;
-    let written = mesh.write(style_of(format, padded), &mut sink);
-    Ok(Told { sink, written })
+    let style = style_of(format, volume.pad().is_some());
+    listed_text(alloc, volume.sizes(), volume, level, style)
 }
 
 /// Writes the text of a walk, with one share of the counter's book.
@@ -170,24 +172,26 @@ fn walked_text(
     Ok(Told { sink, written })
 }
 
-/// Whether two texts are the same and whole.
-fn are_same(a: &Told, b: &Told) -> bool {
-    let (Ok(first), Ok(second)) = (&a.written, &b.written) else {
+/// Whether a walk wrote this text.
+pub fn is_text(text: &Text, told: &Told) -> bool {
+    let Ok(written) = &told.written else {
         return false;
     };
-    first == second && a.sink.bytes() == b.sink.bytes()
+    *written == text.written() && told.sink.bytes() == text.lines.as_bytes()
 }
 
 /// The texts of extraction from scratch.
 #[derive(Drop)]
 struct Scratch {
-    ply: Told,
-    obj: Told,
+    ply: Text,
+    obj: Text,
 }
 
 fn scratch_texts(alloc: Global, volume: &VoxelList, level: Level) -> Result<Scratch, Memory> {
-    let ply = scratch_text(alloc, volume, level, TwoWayFormat::Ply)?;
-    let obj = scratch_text(alloc, volume, level, TwoWayFormat::Obj)?;
+    let padded = volume.pad().is_some();
+    let mesh = extract_flat(alloc, volume, level)?;
+    let ply = text_of(alloc, &mesh, TwoWayFormat::Ply, padded)?;
+    let obj = text_of(alloc, &mesh, TwoWayFormat::Obj, padded)?;
     Ok(Scratch { ply, obj })
 }
 
@@ -202,7 +206,7 @@ fn are_listed(
         (TwoWayFormat::Ply, &texts.ply),
         (TwoWayFormat::Obj, &texts.obj),
     ] {
-        if !are_same(scratch, &listed_text(alloc, volume, level, format)?) {
+        if !is_text(scratch, &volume_text(alloc, volume, level, format)?) {
             return Ok(false);
         }
     }
@@ -220,7 +224,7 @@ fn are_walked(
         (TwoWayFormat::Ply, &texts.ply),
         (TwoWayFormat::Obj, &texts.obj),
     ] {
-        if !are_same(scratch, &walked_text(alloc, store, level, format)?) {
+        if !is_text(scratch, &walked_text(alloc, store, level, format)?) {
             return Ok(false);
         }
     }
@@ -241,14 +245,6 @@ fn are_all_same(
     are_walked(alloc, &store, level, texts)
 }
 
-/// How many vertices a text has.
-fn vertices_in(told: &Told) -> Option<u32> {
-    let Ok(written) = &told.written else {
-        return None;
-    };
-    Some(written.vertices)
-}
-
 /// How many vertices all three ways write, where their texts are the same in both formats: from a mesh, while the list of
 /// samples is walked, and from brick to brick.
 fn vertices_of(alloc: Global, volume: VoxelList, level: Level) -> Option<u32> {
@@ -256,12 +252,12 @@ fn vertices_of(alloc: Global, volume: VoxelList, level: Level) -> Option<u32> {
     let Ok(true) = are_all_same(alloc, volume, level, &texts) else {
         return None;
     };
-    vertices_in(&texts.ply)
+    Some(texts.ply.vertices)
 }
 
 /// What the samples of a volume look like.
 #[derive(Clone, Copy)]
-enum Pattern {
+pub enum Pattern {
     /// Like chance: nearly each cell has a crossing edge at level 128.
     Chance,
     /// 0 and 10 in turn along each axis: all faces are ambiguous, and at level 5 each is a tie.
@@ -293,7 +289,7 @@ fn set_byte(volume: &mut VoxelList, p: Point, value: u8) {
 }
 
 /// A volume of these sizes, where they are sizes.
-fn patterned(alloc: Global, pattern: Pattern, [nx, ny, nz]: [u32; 3]) -> Option<VoxelList> {
+pub fn patterned(alloc: Global, pattern: Pattern, [nx, ny, nz]: [u32; 3]) -> Option<VoxelList> {
     let sizes = Sizes::new(u64::from(nx), u64::from(ny), u64::from(nz)).ok()?;
     let mut volume = VoxelList::of(generated(alloc, 0, &sizes).ok()?);
     for z in 0..nz {

@@ -2,6 +2,4 @@ pub mod Crossings
 pub mod Placing
 pub mod RowPoints
 pub mod Splitting
-pub mod Rows
-pub mod Scratches
 pub mod Waiting

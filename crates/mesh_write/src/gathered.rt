@@ -1,4 +1,4 @@
-//! Lines that are gathered before they are put behind what waits, and texts that are put there at once.
+//! Lines that are gathered before they are put behind what waits.
 
 ghost use Rattle.std.specs.Prelude.{◌≡◌, ◌+◌, ◌≤◌, ◌++◌, [], length, IfOk};
 ghost use Rattle.byte_streams.specs.Seen.{Puts, Stages};
@@ -8,7 +8,7 @@ use mesh_text::Lines;
 
 /// Puts the gathered lines behind what waits, of which whole blocks are written. `Failed` comes only where the sink's count
 /// rose; a front of it all was then taken.
-pub fn stage_gathered<K: Sink>(
+fn stage_gathered<K: Sink>(
     sink: &mut K,
     waiting: &mut Vec<u8>,
     lines: &mut Lines,
@@ -36,16 +36,6 @@ pub fn make_room<K: Sink>(
         return Ok(());
     }
     stage_gathered(sink, waiting, lines)
-}
-
-/// Puts a text behind what waits, and counts its bytes. `Failed` comes as from `stage_gathered`.
-#[inline(always)]
-pub fn stage_text<K: Sink>(sink: &mut K, waiting: &mut Vec<u8>, text: &[u8]) -> Result<u64, Failed>
-    ensures staged { Stages (K.seen sink.old) (K.seen sink.new) waiting.old.items waiting.new.items result text.now }
-    ensures bytes { IfOk result (λ n. n ≡ length text.now) }
-{
-    stage(sink, waiting, text)?;
-    Ok(text.len() as u64)
 }
 
 /// Writes what waits and then the gathered lines.

@@ -9,25 +9,29 @@ use flat_mesh::{Mesh, VertexName, extract_flat};
 use iso_base::{
     CellName, EdgeName, Level, Memory, SampleKind, Sizes, Thousandth, TriangleList, VoxelData,
 };
-use std::alloc::Global;
+use std::alloc::{AllocError, Global};
 use std::process::Abort;
 use std::test::Fail;
 use voxel_list::VoxelList;
 
-/// The mesh at a level of two by two by two samples, the first of which is 10.
-fn corner_mesh(alloc: Global, sizes: Sizes, level: Level) -> Result<Mesh, Memory>
+/// The volume of two by two by two samples, the first of which is 10.
+fn volume_of_corner(alloc: Global, sizes: Sizes) -> Result<VoxelList, AllocError>
     requires { sizes ≡ record { nx = 2; ny = 2; nz = 2 } }
 {
     let samples = vec![in alloc; 10, 0, 0, 0, 0, 0, 0, 0]?;
-    let volume = VoxelList::of(VoxelData::new(sizes, SampleKind::U8, samples));
-    extract_flat(alloc, &volume, level)
+    Ok(VoxelList::of(VoxelData::new(sizes, SampleKind::U8, samples)))
 }
 
-/// That mesh at level 5.
-pub fn corner_at_5(alloc: Global) -> Result<Mesh, Fail> {
+/// The same, with its sizes.
+pub fn corner_volume(alloc: Global) -> Result<VoxelList, Fail> {
     let sizes = two_a_side().ok_or("2, 2 and 2 are sizes")?;
+    Ok(volume_of_corner(alloc, sizes)?)
+}
+
+/// Its mesh at level 5.
+fn corner_at_5(alloc: Global) -> Result<Mesh, Fail> {
     let level = Level::new(5_000).ok_or("5 is a level")?;
-    Ok(corner_mesh(alloc, sizes, level)?)
+    Ok(extract_flat(alloc, &corner_volume(alloc)?, level)?)
 }
 
 fn check_corner(rt: &impl Abort, mesh: &Mesh) {

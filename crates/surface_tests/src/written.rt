@@ -1,15 +1,16 @@
-//! Tests of `mesh_write`.
+//! Tests of `list_mesh` and `mesh_write`.
 
 ghost use Rattle.std.specs.Prelude.{◌≡◌};
 ghost use Rattle.iso_defs.specs.Grid.{Grid};
 
-use crate::extraction::corner_at_5;
+use crate::extraction::corner_volume;
 use crate::grids::two_a_side;
 use byte_streams::MemSink;
 use crossing_edges::EdgeVertices;
-use iso_base::{Sizes, Written};
-use mesh_text::TwoWayFormat;
-use mesh_write::{STAGE, put_mesh_as, put_points};
+use iso_base::{Level, MeshFormat, Sizes, Written};
+use list_mesh::ListMesh;
+use mesh_lines::{Origin, Style};
+use mesh_write::{STAGE, put_points};
 use std::alloc::Global;
 use std::process::Abort;
 use std::test::Fail;
@@ -19,20 +20,24 @@ const PLY: &str =
 
 const OBJ: &str = "v 0.500 0.000 0.000\nv 0.000 0.500 0.000\nv 0.000 0.000 0.500\nf 1 2 3\n";
 
-fn put_corner(alloc: Global, sink: &mut MemSink, format: TwoWayFormat) -> Result<Written, Fail> {
-    let mesh = corner_at_5(alloc)?;
-    let mut waiting = Vec::with_capacity(alloc, STAGE)?;
-    Ok(put_mesh_as(sink, &mut waiting, &mesh, format, false)?)
+/// Writes the mesh at level 5 of a volume whose first sample is 10.
+fn put_corner(alloc: Global, sink: &mut MemSink, style: Style) -> Result<Written, Fail> {
+    let volume = corner_volume(alloc)?;
+    let level = Level::new(5_000).ok_or("5 is a level")?;
+    // Reading the samples brings in that they are in the range of samples.
+    let _ = volume.samples();
+    let mut mesh = ListMesh::of(alloc, volume.sizes(), &volume, level)?;
+    Ok(mesh.write(style, sink)?)
 }
 
 fn check_corner(
     rt: &impl Abort,
     alloc: Global,
-    sink: &mut MemSink,
-    format: TwoWayFormat,
+    style: Style,
     (text, bytes): (&str, u64),
 ) -> Result<(), Fail> {
-    let written = put_corner(alloc, sink, format)?;
+    let mut sink = MemSink::new(alloc, 300, Vec::new(alloc))?;
+    let written = put_corner(alloc, &mut sink, style)?;
     let want = Written {
         vertices: 3,
         faces: 1,
@@ -44,14 +49,20 @@ fn check_corner(
 
 #[test]
 fn a_mesh_of_polygons(rt: HostRuntime) -> Result<(), Fail> {
-    let mut sink = MemSink::new(rt.alloc(), 300, Vec::new(rt.alloc()))?;
-    check_corner(&rt, rt.alloc(), &mut sink, TwoWayFormat::Ply, (PLY, 216))
+    let style = Style {
+        format: MeshFormat::Ply,
+        origin: Origin::Volume,
+    };
+    check_corner(&rt, rt.alloc(), style, (PLY, 216))
 }
 
 #[test]
 fn a_wavefront_mesh(rt: HostRuntime) -> Result<(), Fail> {
-    let mut sink = MemSink::new(rt.alloc(), 300, Vec::new(rt.alloc()))?;
-    check_corner(&rt, rt.alloc(), &mut sink, TwoWayFormat::Obj, (OBJ, 68))
+    let style = Style {
+        format: MeshFormat::Obj,
+        origin: Origin::Volume,
+    };
+    check_corner(&rt, rt.alloc(), style, (OBJ, 68))
 }
 
 /// Appends the points of three edges of a grid of two points a side.

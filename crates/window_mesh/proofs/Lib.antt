@@ -2,3 +2,4 @@ pub mod Runs
 pub mod WindowSizes
 pub mod Cropping
 pub mod Meshes
+pub mod Viewing

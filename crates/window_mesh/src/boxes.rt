@@ -1,5 +1,5 @@
 //! Boxes of a volume as volumes of their own.
-ghost use Rattle.std.specs.Prelude.{◌≡◌, ◌+◌, ◌<◌, None, IfErr, IfOk, OnOk};
+ghost use Rattle.std.specs.Prelude.{◌≡◌, ◌≢◌, ◌+◌, ◌<◌, None, IfErr, IfOk, OnOk};
 ghost use Rattle.iso_defs.specs.Grid.{index};
 ghost use Rattle.iso_base.specs.Points.{IsPoint};
 ghost use Rattle.window_laws.specs.Windows.{thin_axis};
@@ -51,12 +51,13 @@ impl From<WindowFault> for BenchFault {
     }
 }
 
-/// The sizes of a box as a grid of its own.
-fn window_sizes(sizes: &Sizes, area: &FillBox) -> Result<Sizes, WindowFault>
+/// The sizes of a box as a grid of its own. No memory is taken.
+pub fn window_sizes(sizes: &Sizes, area: &FillBox) -> Result<Sizes, WindowFault>
     requires { IsPoint sizes.now area.now.high }
     ensures grid { IfOk result (λ g. g ≡ (window_of area.now).grid) }
     ensures thick { OnOk result (thin_axis (window_of area.now).grid ≡ None) }
     ensures fault { IfErr result (IsFaultOf (window_of area.now).grid) }
+    ensures memory { IfErr result (λ fault. fault ≢ WindowFault.Memory) }
 {
     let _ = sizes.count();
     let (low, high) = (area.low(), area.high());

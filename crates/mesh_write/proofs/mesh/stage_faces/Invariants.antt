@@ -1,8 +1,0 @@
-use Rattle.std.proofs.Common.{◌++◌}
-use Rattle.mesh_write.specs.Mesh.{face_line}
-use Rattle.mesh_write.proofs.Rows.{HasLines}
-use Rattle.mesh_write.proofs.mesh.stage_faces.Given as goal
-
-abbrev pub invariant-loop-i : goal.invariant-loop-i
-invariant-loop-i g l =
-    HasLines (face_line l.format) l.mesh.triangle_list (g.K.Sink.seen l.fn.sink) (g.K.Sink.seen l.sink) (l.fn.waiting.items ++ l.fn.lines) (l.waiting.items ++ l.lines) l.bytes l.i

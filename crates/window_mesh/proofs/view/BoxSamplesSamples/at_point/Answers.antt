@@ -1,0 +1,29 @@
+use Rattle.std.proofs.Common.{arith, rules, ◌≡◌, ◌∙◌, ◌<◌, sym, ap, to_z, of_z, w64}
+use Rattle.std.proofs.lemmas.Int.{to_z-of_z}
+use Rattle.iso_defs.specs.Grid.{Grid, point_count}
+use Rattle.iso_defs.proofs.Points.{index_in}
+use Rattle.iso_base.specs.Points.{index_of}
+use Rattle.window_mesh.specs.Views.{InBox, boxed_at}
+use Rattle.window_mesh.proofs.Viewing.{boxed_length, listed}
+use Rattle.window_mesh.proofs.view.BoxSamplesSamples.at_point.Goals as goal
+
+pub sample-requires : goal.sample-requires
+sample-requires c = omega (arith, c.index.ensures.bound, c.requires.count, boxed_length c.args.self.now)
+
+pub returns-then-are_same : goal.returns-then-are_same
+returns-then-are_same c =
+    let b : InBox = c.args.self.now in
+    let q = c.args.point in
+    let same : c.args.sizes.now ≡ b.window.grid = c.are_same.ensures c.if-are_same.true ∙ ap (λ (r : InBox). r.window.grid) c.self.view_is in
+    let back : to_z w64 (of_z w64 c.get.result) ≡ c.get.result = search (rules, to_z-of_z) in
+    let inside : index_of c.args.sizes.now q < point_count c.args.sizes.now = index_in c.args.sizes.now q.x q.y q.z c.requires.point.x c.requires.point.y c.requires.point.z in
+    back ∙ c.get.ensures ∙ ap (λ (h : Grid). boxed_at b (index_of h q)) (sym same)
+    ∙ sym (listed b (index_of c.args.sizes.now q) (omega (arith, inside, c.requires.count, boxed_length b)))
+
+pub returns-else-are_same : goal.returns-else-are_same
+returns-else-are_same c =
+    let b : InBox = c.args.self.now in
+    let back : to_z w64 (of_z w64 c.sample.result) ≡ c.sample.result = search (rules, to_z-of_z) in
+    let inside : c.index.result < point_count b.window.grid = omega (arith, c.index.ensures.bound, c.requires.count, boxed_length b) in
+    back ∙ c.sample.ensures ∙ ap (boxed_at b) c.index.ensures.value
+    ∙ sym (listed b (index_of c.args.sizes.now c.args.point) (omega (arith, inside, c.index.ensures.value)))
