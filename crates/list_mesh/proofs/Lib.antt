@@ -4,3 +4,4 @@ pub mod Corners
 pub mod RowCases
 pub mod Counted
 pub mod Ends
+pub mod PointEnds

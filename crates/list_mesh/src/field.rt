@@ -2,6 +2,7 @@
 ghost use Rattle.std.specs.Prelude.{◌≡◌, ℕ, ◌+◌, ◌*◌, ◌<◌, ◌≤◌, ◌^◌, All, length, map, true, unsigned_abs};
 ghost use Rattle.iso_defs.specs.Grid.{index};
 ghost use Rattle.iso_defs.specs.Signs.{is_crossing};
+ghost use Rattle.iso_base.specs.Points.{IsPoint, index_of};
 ghost use Rattle.iso_base.specs.Samples.{IsSample};
 ghost use Rattle.iso_base.specs.Shifted.{shifted};
 ghost use Rattle.iso_base.specs.Volume.{sample};
@@ -18,6 +19,9 @@ use flat_mesh::{Cell, Heights};
 use iso_base::{Level, Point, Sizes};
 use samples::{Samples, each_corner};
 use std::marker::Model;
+
+/// Samples are copied row by row where a row has more crossing edges than one for so many points.
+const FEW: usize = 8;
 
 /// A volume in a list at a level. Contracts see its grid, its samples and the level.
 #[derive(Drop)]
@@ -56,6 +60,17 @@ impl<'a, S: Samples> ListField<'a, S> {
         ensures leveled { IsLeveled self.now }
     {
         self.sizes
+    }
+
+    /// The shifted value of a point.
+    #[inline(always)]
+    fn height(&self, point: Point) -> i64
+        requires { IsPoint self.now.grid point }
+        ensures value { result ≡ heights self.now (index_of self.now.grid point) }
+        ensures bound { unsigned_abs result < 2 ^ 44 }
+    {
+        self.level
+            .shifted(self.samples.at_point(&self.sizes, point))
     }
 
     /// The shifted value of one of the samples at the corners of a cell.
@@ -154,6 +169,41 @@ impl<'a, S: Samples> ListField<'a, S> {
         place(low, high)
     }
 
+    /// The same, from samples that are asked for by their points.
+    #[inline(always)]
+    fn place_between(&self, y: u32, z: u32, edge: u16) -> u16
+        requires y { y < self.now.grid.ny }
+        requires z { z < self.now.grid.nz }
+        requires edge { edge < 3 * self.now.grid.nx }
+        requires crossing { is_crossing self.now.grid (heights self.now) (3 * row_start self.now.grid y z + edge) ≡ true }
+        ensures { result ≡ edge_place self.now.grid (heights self.now) (3 * row_start self.now.grid y z + edge) }
+    {
+        // Reading the sizes brings in that the coordinates of the next points fit.
+        let _ = self.sizes();
+        let x = u32::from(edge / 3);
+        let axis = edge % 3;
+        let low = Point { x, y, z };
+        let high = Point {
+            x: x + u32::from(axis == 0),
+            y: y + u32::from(axis == 1),
+            z: z + u32::from(axis == 2),
+        };
+        place(self.height(low), self.height(high))
+    }
+
+    /// Fills in where the crossing edges of a row of points are crossed, where these are few: no row of samples is copied.
+    fn put_few(&self, y: u32, z: u32, edges: &[u16], places: &mut [u16])
+        requires y { y < self.now.grid.ny }
+        requires z { z < self.now.grid.nz }
+        requires edges { AreEdges self.now y z edges.now }
+        requires count { length places.old ≡ length edges.now }
+        ensures { places.new ≡ row_places self.now y z }
+    {
+        for i in 0..edges.len() {
+            places[i] = self.place_between(y, z, edges[i]);
+        }
+    }
+
     /// Fills in where the crossing edges of a row of points are crossed. `ends` is a buffer.
     pub fn put_places(&self, y: u32, z: u32, edges: &[u16], ends: &mut [i64], places: &mut [u16])
         requires y { y < self.now.grid.ny }
@@ -163,6 +213,10 @@ impl<'a, S: Samples> ListField<'a, S> {
         requires count { length places.old ≡ length edges.now }
         ensures { places.new ≡ row_places self.now y z }
     {
+        if edges.len() < self.sizes.nx() as usize / FEW {
+            self.put_few(y, z, edges, places);
+            return;
+        }
         self.copy_ends(y, z, ends);
         for i in 0..edges.len() {
             places[i] = self.place_on(y, z, ends, edges[i]);

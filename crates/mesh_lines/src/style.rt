@@ -3,6 +3,7 @@ ghost use Rattle.std.specs.Prelude.{◌≡◌, ◌+◌, ◌<◌, ◌≤◌, ◌^
 ghost use Rattle.iso_base.specs.Triangles.{triangle_of};
 ghost use Rattle.mesh_text.specs.Lines.{letter_line};
 ghost use Rattle.mesh_lines.specs.Lines.{origin_coordinate, vertex_line};
+ghost use Rattle.mesh_lines.specs.declared.style.Origin.TheVariants.{Window};
 ghost use Rattle.mesh_lines.specs.Triangles.{corner_text, first_of, letter_of};
 
 use iso_base::{MeshFormat, Point, Thousandth};
@@ -65,6 +66,17 @@ impl Style {
         }
     }
 
+    /// The same in a window, apart, so that what is inlined for volumes stays short.
+    #[inline(never)]
+    fn gather_in_window(self, low: Point, at: &[u32; 3], lines: &mut Lines)
+        requires origin { self.origin ≡ Window low }
+        requires room { length lines.old + 64 ≤ 4096 }
+        ensures line { lines.new ≡ lines.old ++ vertex_line self (0, triangle_of at.now) }
+        ensures few { length lines.new ≤ length lines.old + 64 }
+    {
+        self.gather_printed(Origin::Window(low), at, lines);
+    }
+
     /// Puts the line of a vertex at a place behind others, under the name 0, since a line has no name in it.
     #[inline(always)]
     pub fn gather_vertex(self, at: &[u32; 3], lines: &mut Lines)
@@ -76,7 +88,7 @@ impl Style {
         match self.origin {
             Origin::Volume => self.gather_printed(Origin::Volume, at, lines),
             Origin::Pad => self.gather_printed(Origin::Pad, at, lines),
-            Origin::Window(low) => self.gather_printed(Origin::Window(low), at, lines),
+            Origin::Window(low) => self.gather_in_window(low, at, lines),
         }
     }
 
