@@ -1,18 +1,13 @@
 -- How many centres and triangles the cells before a point have.
-use Rattle.std.proofs.Common.{◌≡◌, ℕ, ◌+◌, ◌-◌, ◌*◌, ◌<◌, ◌≤◌, Bool, true, cond, List, [], ◌∷◌, ◌++◌, map, length, get_or, refl, sym, ◌∙◌, ap, ap₂, subst, arith, zero-add, append-nil, length-append, inl, inr}
-use Rattle.std.specs.List.{enumerate_from, filter, flat_map, range_with_len}
+use Rattle.std.proofs.Common.{◌≡◌, ℕ, ◌+◌, ◌-◌, ◌*◌, ◌<◌, ◌≤◌, true, List, [], map, length, get_or, refl, sym, ◌∙◌, ap, ap₂, subst, arith, zero-add}
+use Rattle.std.specs.List.{enumerate_from, filter, flat_map}
 use Rattle.std.proofs.lemmas.List.{length-map}
 use Rattle.std.proofs.Math.Nat.{mul-le-mul_left}
-use Rattle.std.proofs.lemmas.List.Concat.{flat_map-append}
-use Rattle.std.proofs.lemmas.List.Elements.{filter-append}
-use Rattle.iso_defs.proofs.Ranges.{range_append}
 use Rattle.iso_defs.specs.Cell.{Triangle, case_triangles, cell_joined, cell_signs, loop_triangles}
 use Rattle.iso_defs.specs.Grid.{coordinate, index, is_cell}
 use Rattle.iso_defs.proofs.Points.{x_index}
 use Rattle.iso_defs.specs.Scratch.{cell_centres, cell_loops, has_centre, number_of, on_corners, vertex_name}
 use Rattle.cell_loops.specs.Loops.{row_centres, row_loops, row_triangles}
-use Rattle.verdict_laws.proofs.Lists.{In, In-filter}
-use Rattle.mesh_laws.proofs.Cells.{range_at_least}
 use Rattle.mesh_laws.proofs.Mixed.{Low, low_is}
 use Rattle.flat_mesh.specs.Faces.{loops_at}
 use Rattle.flat_mesh.specs.Found.{numbered}
@@ -20,43 +15,14 @@ use Rattle.flat_mesh.specs.Lattice.{Leveled, heights}
 use Rattle.flat_mesh.specs.Rows.{row_start}
 use Rattle.flat_mesh.proofs.CellAdds.{IsQuiet, no_centres, no_triangles}
 use Rattle.flat_mesh.proofs.Quiet.{last_column, last_row, last_slice}
-use Rattle.mesh_rows.specs.Counts.{AreCounts, centres_among, span, triangles_among}
+use Rattle.mesh_rows.specs.Counts.{AreCounts, centres_among, triangles_among}
 use Rattle.mesh_rows.specs.Rows.{AreCases}
 use Rattle.mesh_rows.specs.declared.counts.Counts.{Counts}
+use Rattle.mesh_walk.proofs.SpanLaws.{length_more, span_none, span_one, span_quiet}
 use Rattle.list_mesh.specs.Cases.{HaveAllCases}
 use Rattle.list_mesh.specs.declared.cases.CellCases.{CellCases}
 use Rattle.list_mesh.proofs.QuietCases.{no_loops}
 use Rattle.list_mesh.proofs.RowSlices.{row_low}
-
-module _ {X : Type 0} (f : ℕ → List X) (p : ℕ → Bool) where
-  span_none : (a : ℕ) → span f p a 0 ≡ []
-  unfolding span
-  span_none a = refl
-
-  span_more : (a m n : ℕ) → span f p a (m + n) ≡ span f p a m ++ span f p (a + m) n
-  unfolding span
-  span_more a m n =
-      ap (λ l. flat_map f (filter p l)) (range_append a m n)
-      ∙ (ap (flat_map f) (filter-append p (range_with_len a m) (range_with_len (a + m) n))
-      ∙ flat_map-append f (filter p (range_with_len a m)) (filter p (range_with_len (a + m) n)))
-
-  span_one : (a : ℕ) → p a ≡ true → span f p a 1 ≡ f a
-  unfolding span
-  span_one a e = ap (λ b. flat_map f (cond {A = List ℕ} b (a ∷ []) [])) e ∙ append-nil (f a)
-
-  nothing : (xs : List ℕ) → ((x : ℕ) → In x xs → f x ≡ []) → flat_map f xs ≡ []
-  nothing [] h = refl
-  nothing (x ∷ xs) h = ap₂ ◌++◌ (h x (inl refl)) (nothing xs (λ y i. h y (inr i)))
-
-  span_quiet : (a n : ℕ) → ((q : ℕ) → a ≤ q → q < a + n → p q ≡ true → f q ≡ []) → span f p a n ≡ []
-  unfolding span
-  span_quiet a n quiet = nothing (filter p (range_with_len a n)) (λ q i.
-      let r : In q (range_with_len a n) × (p q ≡ true) = In-filter p q (range_with_len a n) i in
-      let b : (a ≤ q) × (q < a + n) = range_at_least a n q r.0 in
-      quiet q b.0 b.1 r.1)
-
-  length_more : (a m n : ℕ) → length (span f p a (m + n)) ≡ length (span f p a m) + length (span f p (a + m) n)
-  length_more a m n = ap length (span_more a m n) ∙ length-append (span f p a m) (span f p (a + m) n)
 
 -- cells without loops have no centres and no triangles
 module _ (v : Leveled) (a n : ℕ) (quiet : IsQuiet v a n) where

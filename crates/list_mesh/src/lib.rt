@@ -6,7 +6,8 @@
 mod cases;
 mod counts;
 mod field;
+mod mesh;
 mod rows;
 mod slices;
 
-pub use rows::ListRows;
+pub use mesh::ListMesh;
