@@ -3,7 +3,7 @@ use Rattle.std.proofs.lemmas.Result.{err_from_is_err_and}
 use Rattle.iso_base.specs.Volume.{Volume}
 use Rattle.voxel_list.specs.Areas.{Area}
 use Rattle.flat_mesh.specs.Lattice.{Leveled, heights}
-use Rattle.flat_mesh.specs.Mesh.{FlatMesh, mesh_of}
+use Rattle.flat_mesh.specs.Mesh.{mesh_of}
 use Rattle.window_mesh.proofs.Meshes.{window_is_part}
 use Rattle.bench_core.specs.Windows.{mesh_in}
 use Rattle.bench_core.proofs.WindowFiles.{inside_point, mesh_over, no_fault, window_cut, window_filed}
