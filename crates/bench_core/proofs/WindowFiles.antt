@@ -1,12 +1,11 @@
 -- Windows of a volume, and what a call that writes one does.
-use Rattle.std.proofs.Common.{◌≡◌, ◌⊎◌, ℕ, List, Result, Ok, Err, inl, inr, refl, sym, ap, ◌∙◌, subst, arith, ℤ}
+use Rattle.std.proofs.Common.{◌≡◌, ℕ, List, Result, Ok, Err, inr, refl, ap, ◌∙◌, subst, arith, ℤ}
 use Rattle.std.specs.Prelude.{Option, Some, None, IsSomeAnd, OnOk}
 use Rattle.iso_defs.specs.Grid.{Grid}
 use Rattle.iso_base.specs.Points.{IsPoint}
 use Rattle.iso_base.specs.Shifted.{field}
-use Rattle.iso_base.specs.Volume.{Volume, IsVolume}
+use Rattle.iso_base.specs.Volume.{Volume}
 use Rattle.iso_base.specs.declared.point.Point.{Point}
-use Rattle.iso_base.specs.declared.fault.BenchFault.{BenchFault}
 use Rattle.iso_base.specs.declared.fault.BenchFault.TheVariants as faults
 use Rattle.iso_base.specs.declared.fault.Written.{Written}
 use Rattle.iso_base.specs.declared.format.MeshFormat.{MeshFormat}
@@ -16,9 +15,7 @@ use Rattle.voxel_list.specs.Areas.{Area}
 use Rattle.flat_mesh.specs.Lattice.{Leveled, heights}
 use Rattle.flat_mesh.specs.Mesh.{FlatMesh, mesh_of}
 use Rattle.mesh_more.specs.Texts.{moved_text}
-use Rattle.window_mesh.specs.Crops.{IsBoxOfKind, IsFaultOf, IsWindowOfMesh, refusal_of, window_of}
-use Rattle.window_mesh.specs.declared.boxes.WindowFault.{WindowFault}
-use Rattle.window_mesh.specs.declared.boxes.WindowFault.TheVariants.{Memory, Thin}
+use Rattle.window_mesh.specs.Crops.{IsWindowOfMesh, window_of}
 use Rattle.window_mesh.specs.Views.{InBox, boxed_list}
 use Rattle.mesh_lines.specs.Lines.{text_of, written_of}
 use Rattle.mesh_lines.specs.declared.style.Origin.TheVariants.{Window}
@@ -26,7 +23,6 @@ use Rattle.mesh_lines.specs.declared.style.Style.{Style}
 use Rattle.mesh_lines.proofs.Texts as lines
 use Rattle.inner_volume.specs.Places.{IsInside}
 use Rattle.bench_core.specs.Windows.{WritesWindow, inner_corner, mesh_in, numbers_with, text_at, thin_fault, window_fault, window_text, window_written}
-use Rattle.bench_core.proofs.Changing.{inner_area}
 
 -- a point off the pad's layer is one of the grid
 pub inside_point : (v : Volume) (p : Point) → IsInside v p → IsPoint v.grid p
@@ -35,16 +31,6 @@ inside_point v p is =
     let hy = is.high_y in
     let hz = is.high_z in
     record { x = omega arith; y = omega arith; z = omega arith }
-
--- the samples of a box off the pad's layer are of the volume's kind
-pub box_of_kind : (v : Volume) (a : Area) → IsVolume v → IsInside v a.low → IsInside v a.high → IsBoxOfKind v a
-box_of_kind v a is low high p here within = is.each p here (inner_area v a low high p here within)
-
--- why a box is refused, in the bench's words
-pub refused_as : (a : Area) (fault : WindowFault) → IsFaultOf (window_of a).grid fault
-    → (window_fault (Some a) ≡ Some (refusal_of fault)) ⊎ ((refusal_of fault ≡ faults.Memory) × (window_fault (Some a) ≡ None))
-refused_as a Memory is = inr (refl, ap (thin_fault (window_of a).grid) is)
-refused_as a (Thin axis n) is = inl (ap (thin_fault (window_of a).grid) is.0 ∙ ap (λ n. Some (faults.WindowThin axis n)) (sym is.1))
 
 -- a box that is thick is a window
 pub no_fault : (a : Area) (axis : Option ℕ) → axis ≡ None → thin_fault (window_of a).grid axis ≡ None
@@ -101,16 +87,3 @@ pub part_in_box : {T E : Type 0} (r : Result T E) (v u : Volume) (level at : ℤ
 part_in_box r v u level at box a e f h is =
     subst (λ box. OnOk r (IsSomeAnd box (IsWindowOfMesh u at))) h
     (subst (λ (u : Volume). OnOk r (IsWindowOfMesh u at a)) e (subst (λ at. OnOk r (IsWindowOfMesh v at a)) f is))
-
--- before the shelf is touched
-pub window_refused : (v : Volume) (level : ℤ) (a : Area) (format : MeshFormat) (store : Store) (fault : BenchFault) (name : List ℕ)
-    → (window_fault (Some a) ≡ Some fault) ⊎ ((fault ≡ faults.Memory) × (window_fault (Some a) ≡ None)) → WritesWindow v level (Some a) format store store (Err fault) name
-window_refused v level a format store fault name (inl e) = record { window = tt; numbers = tt; file = tt; fault = inl (e, refl); later = omega arith }
-window_refused v level a format store fault name (inr e) =
-    record { window = tt; numbers = tt; file = tt; fault = inr (e.1, inl (e.0, refl)); later = omega arith }
-
--- where a corner is not inside
-pub window_outside : (v : Volume) (level : ℤ) (box : Option Area) (format : MeshFormat) (store : Store) (name : List ℕ) → box ≡ None
-    → WritesWindow v level box format store store (Err faults.Outside) name
-window_outside v level box format store name e =
-    record { window = tt; numbers = tt; file = tt; fault = inl (ap window_fault e, refl); later = omega arith }

@@ -3,6 +3,7 @@
 ghost use Rattle.std.specs.Prelude.{◌≡◌, IfOk, OnOk, Some};
 ghost use Rattle.byte_streams.specs.Seen.{Puts};
 ghost use Rattle.iso_io.specs.Shelves.{Stores, file_tape};
+ghost use Rattle.voxel_list.specs.Areas.{IsArea};
 ghost use Rattle.flat_mesh.specs.Lattice.{heights};
 ghost use Rattle.flat_mesh.specs.Mesh.{mesh_of};
 ghost use Rattle.mesh_lines.specs.Lines.{text_of, written_of};
@@ -32,7 +33,8 @@ pub struct Window<'a> {
 /// Where the least corner of a box off the pad's layer lies in the volume without its pad.
 fn corner_of(store: &BrickStore, area: &FillBox) -> Point
     requires { IsInside store.now area.now.low }
-    ensures { (result.x, result.y, result.z) ≡ inner_corner store.now area.now }
+    ensures corner { (result.x, result.y, result.z) ≡ inner_corner store.now area.now }
+    ensures area { IsArea area.now }
 {
     let layer = layer_of(store);
     let low = area.low();
@@ -66,7 +68,8 @@ fn write_file<H: Shelf, S: Samples>(
     mesh: &mut ListMesh<S>,
     style: Style,
 ) -> Result<Written, Failed>
-    ensures file { let m = mesh.old in Stores (H.seen shelf.old) (H.seen shelf.new) result name.now (text_of style (mesh_of m.grid (heights m))) }
+    ensures file { let text = text_of style (mesh_of mesh.old.grid (heights mesh.old)) in
+        Stores (H.seen shelf.old) (H.seen shelf.new) result name.now text }
     ensures written { IfOk result (λ w. w ≡ written_of style (mesh_of mesh.old.grid (heights mesh.old))) }
 {
     shelf.start(name)?;

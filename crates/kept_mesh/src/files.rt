@@ -21,26 +21,36 @@ use span_tree::SpanTree;
 use std::sync::ledger::Ledger;
 use stitch::{write_obj, write_ply};
 
+/// A volume in bricks at a level, with the tree of its spans and what is kept of its mesh.
+#[derive(Clone, Copy)]
+pub struct KeptVolume<'a> {
+    pub store: &'a BrickStore,
+    pub tree: &'a SpanTree,
+    pub cache: &'a MeshCache,
+    pub level: Level,
+}
+
 /// Appends the text of the mesh in a format, and says how many vertices, faces and bytes were written.
 fn put_mesh<K: Sink, L: Ledger>(
     sink: &mut K,
-    store: &BrickStore,
-    tree: &SpanTree,
-    cache: &MeshCache,
-    ranks: &mut RowRanks,
-    level: Level,
+    volume: &KeptVolume<'_>,
     format: TwoWayFormat,
+    ranks: &mut RowRanks,
     steps: &mut Steps<L>,
 ) -> Result<Written, Failed>
-    requires tree { IsRightFor tree.now store.now }
-    requires items { IsRight store.now.grid store.now.samples cache.now.items }
-    requires ranks { ranks.old.grid ≡ store.now.grid }
-    ensures text { Puts (K.seen sink.old) (K.seen sink.new) result (scratch_text format store.now level) }
-    ensures written { IfOk result (λ w. w ≡ written_of format (is_some store.now.pad) (mesh_of store.now.grid (field store.now.samples level))) }
+    requires tree { IsRightFor volume.now.tree.now volume.now.store.now }
+    requires items { IsRight volume.now.store.now.grid volume.now.store.now.samples volume.now.cache.now.items }
+    requires ranks { ranks.old.grid ≡ volume.now.store.now.grid }
+    ensures text { Puts (K.seen sink.old) (K.seen sink.new) result (scratch_text format volume.now.store.now volume.now.level) }
+    ensures written { let v = volume.now.store.now in
+        IfOk result (λ w. w ≡ written_of format (is_some v.pad) (mesh_of v.grid (field v.samples volume.now.level))) }
     ensures ranks { ranks.new.grid ≡ ranks.old.grid }
     ensures least { steps.old ≤ steps.new }
-    ensures most { steps.new ≤ steps.old + 1536 * length (waiting store.now.grid store.now.samples level cache.now.items) }
+    ensures most { let v = volume.now.store.now in
+        steps.new ≤ steps.old + 1536 * length (waiting v.grid v.samples volume.now.level volume.now.cache.now.items) }
 {
+    let (store, tree, cache) = (volume.store, volume.tree, volume.cache);
+    let level = volume.level;
     let mut rows = KeptRows::new(store, cache, level);
     match format {
         TwoWayFormat::Ply => write_ply(store, tree, level, &mut rows, ranks, sink, steps),
@@ -51,28 +61,27 @@ fn put_mesh<K: Sink, L: Ledger>(
 // Apart, so that its caller learns that it is the same shelf afterwards.
 fn fill_file<H: Shelf, L: Ledger>(
     file: &mut ShelfFile<H>,
-    store: &BrickStore,
-    tree: &SpanTree,
-    cache: &MeshCache,
-    ranks: &mut RowRanks,
-    level: Level,
+    volume: &KeptVolume<'_>,
     format: TwoWayFormat,
+    ranks: &mut RowRanks,
     steps: &mut Steps<L>,
 ) -> Result<Written, Failed>
-    requires tree { IsRightFor tree.now store.now }
-    requires items { IsRight store.now.grid store.now.samples cache.now.items }
-    requires ranks { ranks.old.grid ≡ store.now.grid }
+    requires tree { IsRightFor volume.now.tree.now volume.now.store.now }
+    requires items { IsRight volume.now.store.now.grid volume.now.store.now.samples volume.now.cache.now.items }
+    requires ranks { ranks.old.grid ≡ volume.now.store.now.grid }
     ensures text { Puts
         (file_tape file.old.shelf.ghost_name (H.seen file.old.shelf.now) file.old.name.now)
         (file_tape file.new.shelf.ghost_name (H.seen file.new.shelf.now) file.new.name.now)
-        result (scratch_text format store.now level) }
-    ensures written { IfOk result (λ w. w ≡ written_of format (is_some store.now.pad) (mesh_of store.now.grid (field store.now.samples level))) }
+        result (scratch_text format volume.now.store.now volume.now.level) }
+    ensures written { let v = volume.now.store.now in
+        IfOk result (λ w. w ≡ written_of format (is_some v.pad) (mesh_of v.grid (field v.samples volume.now.level))) }
     ensures same_reference { file.new.shelf.ghost_name ≡ file.old.shelf.ghost_name }
     ensures ranks { ranks.new.grid ≡ ranks.old.grid }
     ensures least { steps.old ≤ steps.new }
-    ensures most { steps.new ≤ steps.old + 1536 * length (waiting store.now.grid store.now.samples level cache.now.items) }
+    ensures most { let v = volume.now.store.now in
+        steps.new ≤ steps.old + 1536 * length (waiting v.grid v.samples volume.now.level volume.now.cache.now.items) }
 {
-    put_mesh(file, store, tree, cache, ranks, level, format, steps)
+    put_mesh(file, volume, format, ranks, steps)
 }
 
 /// Makes the name's file the text of the mesh of a volume at a level, as it is from scratch. The text is written as it is made,
@@ -82,24 +91,23 @@ fn fill_file<H: Shelf, L: Ledger>(
 pub fn write_mesh<H: Shelf, L: Ledger>(
     shelf: &mut H,
     name: &str,
-    store: &BrickStore,
-    tree: &SpanTree,
-    cache: &MeshCache,
-    ranks: &mut RowRanks,
-    level: Level,
+    volume: &KeptVolume<'_>,
     format: TwoWayFormat,
+    ranks: &mut RowRanks,
     steps: &mut Steps<L>,
 ) -> Result<Written, Failed>
-    requires tree { IsRightFor tree.now store.now }
-    requires items { IsRight store.now.grid store.now.samples cache.now.items }
-    requires ranks { ranks.old.grid ≡ store.now.grid }
-    ensures file { Stores (H.seen shelf.old) (H.seen shelf.new) result name.now (scratch_text format store.now level) }
-    ensures written { IfOk result (λ w. w ≡ written_of format (is_some store.now.pad) (mesh_of store.now.grid (field store.now.samples level))) }
+    requires tree { IsRightFor volume.now.tree.now volume.now.store.now }
+    requires items { IsRight volume.now.store.now.grid volume.now.store.now.samples volume.now.cache.now.items }
+    requires ranks { ranks.old.grid ≡ volume.now.store.now.grid }
+    ensures file { Stores (H.seen shelf.old) (H.seen shelf.new) result name.now (scratch_text format volume.now.store.now volume.now.level) }
+    ensures written { let v = volume.now.store.now in
+        IfOk result (λ w. w ≡ written_of format (is_some v.pad) (mesh_of v.grid (field v.samples volume.now.level))) }
     ensures ranks { ranks.new.grid ≡ ranks.old.grid }
     ensures least { steps.old ≤ steps.new }
-    ensures most { steps.new ≤ steps.old + 1536 * length (waiting store.now.grid store.now.samples level cache.now.items) }
+    ensures most { let v = volume.now.store.now in
+        steps.new ≤ steps.old + 1536 * length (waiting v.grid v.samples volume.now.level volume.now.cache.now.items) }
 {
     shelf.start(name)?;
     let mut file = ShelfFile::new(shelf, name);
-    fill_file(&mut file, store, tree, cache, ranks, level, format, steps)
+    fill_file(&mut file, volume, format, ranks, steps)
 }

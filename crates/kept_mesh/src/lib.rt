@@ -9,6 +9,6 @@ mod rows;
 mod spanned;
 
 pub use counts::count_entries;
-pub use files::write_mesh;
+pub use files::{KeptVolume, write_mesh};
 pub use rows::KeptRows;
 pub use spanned::refresh_bricks;

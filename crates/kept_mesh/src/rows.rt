@@ -19,8 +19,7 @@ use mesh_cache::MeshCache;
 use std::marker::Model;
 use std::simd::prelude::*;
 use std::sync::ledger::Ledger;
-use stitch::CellRows;
-use stitch_rows::Counts;
+use stitch_rows::{CellRows, Counts};
 
 /// Whether a plane is that plane of that brick.
 #[inline(always)]
