@@ -17,7 +17,8 @@ use Rattle.point_command.specs.declared.words.Asked.{Asked}
 -- A call on these words ends by this status; the last two are its notes before it and after it.
 pub record RunsPoints (words : List (List ℕ)) (call : Streams) (status : Status) (before after : Tape) : Type 0 where
   -- What was read and written, and what the note says.
-  pub outcome : (answer : Answer) × (status ≡ status_of answer) × GivesPoints words call answer × Tries before after (note_of answer)
+  pub outcome : (answer : Answer) × (status ≡ status_of answer) × GivesPoints words call answer
+      × Tries before after (note_of answer)
   -- The input was read no further than the limit and one piece, and each read but the last took at least one byte.
   pub reading : ReadsWithin volume_limit call.input call.input_after
   -- The cause of each status but done and want of memory.
