@@ -5,3 +5,4 @@ pub mod Outcome
 pub mod Help
 pub mod Words
 pub mod Running
+pub mod Promise

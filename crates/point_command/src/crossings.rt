@@ -21,7 +21,8 @@ use std::alloc::Global;
 
 /// The crossing edges of the volume of the bytes of a file, which are let go.
 fn edges_in(alloc: Global, bytes: Vec<u8>, level: Level) -> Result<FileEdges, NoVolume>
-    ensures edges { IfOk result (λ e. AreEdgesOfFile bytes.items level e.sizes e.edges.names.items e.edges.places.items) }
+    ensures edges { IfOk result
+        (λ e. AreEdgesOfFile bytes.items level e.sizes e.edges.names.items e.edges.places.items) }
     ensures fault { IfErr result (IsNoVolume None level bytes.items) }
 {
     Ok(edges_of_file(alloc, &bytes, level)?)
@@ -33,8 +34,10 @@ fn edges_of_input<S: Source>(
     input: &mut S,
     level: Level,
 ) -> Result<FileEdges, Answer>
-    ensures known { IfOk result (λ e. (v : Voxels) × AreEdgesOf v level e.sizes e.edges.names.items e.edges.places.items) }
-    ensures edges { IfOk result (λ e. HoldsEdges level (S.seen input.old) (S.seen input.new) e.sizes e.edges.names.items e.edges.places.items) }
+    ensures known { IfOk result
+        (λ e. (v : Voxels) × AreEdgesOf v level e.sizes e.edges.names.items e.edges.places.items) }
+    ensures edges { IfOk result
+        (λ e. HoldsEdges level (S.seen input.old) (S.seen input.new) e.sizes e.edges.names.items e.edges.places.items) }
     ensures reading { ReadsWithin volume_limit (S.seen input.old) (S.seen input.new) }
     ensures fault { IfErr result (λ answer. HoldsNone None level (S.seen input.old) (S.seen input.new) answer) }
 {
@@ -45,9 +48,10 @@ fn edges_of_input<S: Source>(
 /// Appends the text of the points of a volume.
 fn put_text<K: Sink>(sink: &mut K, waiting: &mut Vec<u8>, points: &FileEdges) -> Result<(), Failed>
     requires none { waiting.old.items ≡ [] }
-    requires known { (level : ℤ) × (v : Voxels) × AreEdgesOf v level points.now.sizes points.now.edges.names.items points.now.edges.places.items }
-    ensures { Puts (K.seen sink.old) (K.seen sink.new) result
-        (points_head (length points.now.edges.names.items) ++ placed_lines points.now.sizes points.now.edges.names.items points.now.edges.places.items) }
+    requires known { (level : ℤ) × (v : Voxels)
+        × AreEdgesOf v level points.now.sizes points.now.edges.names.items points.now.edges.places.items }
+    ensures { Puts (K.seen sink.old) (K.seen sink.new) result (points_head (length points.now.edges.names.items)
+        ++ placed_lines points.now.sizes points.now.edges.names.items points.now.edges.places.items) }
 {
     put_points(sink, waiting, &points.sizes, &points.edges)
 }
@@ -60,7 +64,8 @@ pub fn points<S: Source, K: Sink>(
     input: &mut S,
     output: &mut K,
 ) -> Answer
-    ensures converts { Converts (points_given level) (streams_between S.seen K.seen input.old input.new output.old output.new) result }
+    ensures converts { Converts (points_given level)
+        (streams_between S.seen K.seen input.old input.new output.old output.new) result }
     ensures reading { ReadsWithin volume_limit (S.seen input.old) (S.seen input.new) }
 {
     let edges = match edges_of_input(alloc, input, level) {

@@ -16,7 +16,8 @@ pub fn bytes_of_input<S: Source>(alloc: Global, input: &mut S) -> Result<Vec<u8>
     ensures all { IfOk result (λ v. ReadsAll (S.seen input.old) (S.seen input.new) v.items) }
     ensures within { IfOk result (λ v. length v.items ≤ volume_limit) }
     ensures reading { ReadsWithin volume_limit (S.seen input.old) (S.seen input.new) }
-    ensures fault { (pad : Option ℤ) (level : ℤ) → IfErr result (λ answer. HoldsNone pad level (S.seen input.old) (S.seen input.new) answer) }
+    ensures fault { (pad : Option ℤ) (level : ℤ)
+        → IfErr result (λ answer. HoldsNone pad level (S.seen input.old) (S.seen input.new) answer) }
 {
     Ok(read_all_of(alloc, input, VOLUME_LIMIT)?)
 }

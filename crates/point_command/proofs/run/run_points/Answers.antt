@@ -1,13 +1,20 @@
-use Rattle.std.proofs.Common.{sym, ◌∙◌}
+use Rattle.std.proofs.Common.{sym, ◌∙◌, rules}
 use Rattle.point_command.proofs.Converted.{completes, why_no_volume, why_too_long}
 use Rattle.point_command.proofs.run.run_points.Goals as goal
 
-pub returns-clause-too_long : goal.returns-clause-too_long
-returns-clause-too_long g c = λ e. why_too_long _ _ c.give_points-answer.result c.give_points-answer.ensures.gives (sym c.status.ensures ∙ e)
-
-pub returns-clause-bad_volume : goal.returns-clause-bad_volume
-returns-clause-bad_volume g c = λ e. why_no_volume _ _ c.give_points-answer.result c.give_points-answer.ensures.gives (sym c.status.ensures ∙ e)
-
-pub returns-clause-complete : goal.returns-clause-complete
-returns-clause-complete g c = λ asked e can reads writes.
-    rw c.status.ensures (completes _ asked _ c.give_points-answer.result c.give_points-answer.ensures.gives e can reads writes)
+pub returns : goal.returns
+returns g c =
+    let answer = c.give_points-answer.result in
+    let gives = c.give_points-answer.ensures.gives in
+    record {
+      run = record {
+        outcome = search rules;
+        reading = search rules;
+        bad_words = search rules;
+        input_fault = search rules;
+        output_fault = search rules;
+        too_long = λ e. why_too_long _ _ answer gives (sym c.status.ensures ∙ e);
+        bad_volume = λ e. why_no_volume _ _ answer gives (sym c.status.ensures ∙ e);
+        complete = λ asked e can reads writes. rw c.status.ensures (completes _ asked _ answer gives e can reads writes);
+      };
+    }
