@@ -7,7 +7,7 @@ ghost use Rattle.point_command.specs.Outcome.{unread_between};
 use endings::Answer;
 use iso_base::Sizes;
 use iso_io::{Failed, Sink};
-use mesh_write::STAGE;
+use point_write::STAGE;
 use std::alloc::Global;
 use volume_gen::put_generated;
 

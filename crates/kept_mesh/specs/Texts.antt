@@ -3,7 +3,7 @@ use Rattle.std.specs.Prelude.{ℕ, List, is_some, ℤ}
 use Rattle.iso_defs.specs.Texts.{scratch_ply}
 use Rattle.iso_base.specs.Shifted.{field}
 use Rattle.iso_base.specs.Volume.{Volume}
-use Rattle.mesh_write.specs.Mesh.{scratch_obj}
+use Rattle.mesh_lines.specs.Padded.{scratch_obj}
 use Rattle.mesh_text.specs.declared.format.TwoWayFormat.{TwoWayFormat}
 use Rattle.mesh_text.specs.declared.format.TwoWayFormat.TheVariants.{Ply, Obj}
 

@@ -5,7 +5,7 @@ ghost use Rattle.iso_base.specs.Shifted.{field};
 ghost use Rattle.byte_streams.specs.Seen.{Puts};
 ghost use Rattle.iso_io.specs.Shelves.{Stores, file_tape};
 ghost use Rattle.flat_mesh.specs.Mesh.{mesh_of};
-ghost use Rattle.mesh_write.specs.Mesh.{written_of};
+ghost use Rattle.mesh_lines.specs.Padded.{two_way_written};
 ghost use Rattle.mesh_cache.specs.Economy.{IsRight, waiting};
 ghost use Rattle.span_tree.specs.Spans.{IsRightFor};
 ghost use Rattle.kept_mesh.specs.Texts.{scratch_text};
@@ -43,7 +43,7 @@ fn put_mesh<K: Sink, L: Ledger>(
     requires ranks { ranks.old.grid ≡ volume.now.store.now.grid }
     ensures text { Puts (K.seen sink.old) (K.seen sink.new) result (scratch_text format volume.now.store.now volume.now.level) }
     ensures written { let v = volume.now.store.now in
-        IfOk result (λ w. w ≡ written_of format (is_some v.pad) (mesh_of v.grid (field v.samples volume.now.level))) }
+        IfOk result (λ w. w ≡ two_way_written format (is_some v.pad) (mesh_of v.grid (field v.samples volume.now.level))) }
     ensures ranks { ranks.new.grid ≡ ranks.old.grid }
     ensures least { steps.old ≤ steps.new }
     ensures most { let v = volume.now.store.now in
@@ -74,7 +74,7 @@ fn fill_file<H: Shelf, L: Ledger>(
         (file_tape file.new.shelf.ghost_name (H.seen file.new.shelf.now) file.new.name.now)
         result (scratch_text format volume.now.store.now volume.now.level) }
     ensures written { let v = volume.now.store.now in
-        IfOk result (λ w. w ≡ written_of format (is_some v.pad) (mesh_of v.grid (field v.samples volume.now.level))) }
+        IfOk result (λ w. w ≡ two_way_written format (is_some v.pad) (mesh_of v.grid (field v.samples volume.now.level))) }
     ensures same_reference { file.new.shelf.ghost_name ≡ file.old.shelf.ghost_name }
     ensures ranks { ranks.new.grid ≡ ranks.old.grid }
     ensures least { steps.old ≤ steps.new }
@@ -101,7 +101,7 @@ pub fn write_mesh<H: Shelf, L: Ledger>(
     requires ranks { ranks.old.grid ≡ volume.now.store.now.grid }
     ensures file { Stores (H.seen shelf.old) (H.seen shelf.new) result name.now (scratch_text format volume.now.store.now volume.now.level) }
     ensures written { let v = volume.now.store.now in
-        IfOk result (λ w. w ≡ written_of format (is_some v.pad) (mesh_of v.grid (field v.samples volume.now.level))) }
+        IfOk result (λ w. w ≡ two_way_written format (is_some v.pad) (mesh_of v.grid (field v.samples volume.now.level))) }
     ensures ranks { ranks.new.grid ≡ ranks.old.grid }
     ensures least { steps.old ≤ steps.new }
     ensures most { let v = volume.now.store.now in

@@ -1,3 +1,4 @@
 pub mod Blocks
 pub mod Lines
 pub mod Triangles
+pub mod Padded

@@ -5,8 +5,8 @@ use Rattle.iso_base.specs.Shifted.{field}
 use Rattle.iso_base.specs.Sizing.{IsGrid}
 use Rattle.iso_base.specs.Volume.{Voxels, unpadded}
 use Rattle.mesh_text.specs.Lines.{points_head}
-use Rattle.mesh_write.specs.Edges.{ArePlaced, placed_lines}
-use Rattle.mesh_write.proofs.Crossings.{are_placed}
+use Rattle.point_write.specs.Edges.{ArePlaced, placed_lines}
+use Rattle.point_write.proofs.Crossings.{are_placed}
 use Rattle.file_points.specs.Edges.{AreEdgesOf, AreEdgesOfFile}
 use Rattle.point_command.specs.Meaning.{points_of, points_given, text_by}
 use Rattle.point_command.proofs.ReadVolumes.{read_volume}

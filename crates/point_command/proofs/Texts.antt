@@ -12,8 +12,8 @@ use Rattle.iso_base.specs.Volume.{Volume}
 use Rattle.iso_base.specs.Shifted.{field}
 use Rattle.mesh_text.specs.Lines.{points_head}
 use Rattle.crossing_edges.specs.Flags.{edge_place}
-use Rattle.mesh_write.specs.Edges.{placed_lines}
-use Rattle.mesh_write.proofs.Crossings.{points_are}
+use Rattle.point_write.specs.Edges.{placed_lines}
+use Rattle.point_write.proofs.Crossings.{points_are}
 use Rattle.point_command.specs.Meaning.{points_of}
 
 -- a grid within the limits has fewer than 2^32 crossing edges

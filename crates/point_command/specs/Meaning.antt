@@ -3,7 +3,7 @@ use Rattle.std.specs.Prelude.{ℕ, List, None, Result, Ok, Err, ℤ}
 use Rattle.iso_defs.specs.Texts.{points_text}
 use Rattle.iso_base.specs.Shifted.{field}
 use Rattle.iso_base.specs.Volume.{Volume}
-use Rattle.mesh_write.specs.Edges.{edge_points}
+use Rattle.point_write.specs.Edges.{edge_points}
 use Rattle.endings.specs.declared.answer.VolumeFault.{VolumeFault}
 use Rattle.point_command.specs.Volumes.{volume_of}
 

@@ -4,7 +4,7 @@ ghost use Rattle.std.specs.Prelude.{◌≡◌, ◌++◌, [], ℤ, None, IfOk, If
 ghost use Rattle.iso_base.specs.Volume.{Voxels};
 ghost use Rattle.byte_streams.specs.Seen.{Puts, ReadsWithin};
 ghost use Rattle.mesh_text.specs.Lines.{points_head};
-ghost use Rattle.mesh_write.specs.Edges.{placed_lines};
+ghost use Rattle.point_write.specs.Edges.{placed_lines};
 ghost use Rattle.file_points.specs.Edges.{AreEdgesOf, AreEdgesOfFile};
 ghost use Rattle.point_command.specs.Meaning.{points_given};
 ghost use Rattle.point_command.specs.Outcome.{Converts, streams_between};
@@ -16,7 +16,7 @@ use byte_streams::{Failed, Sink, Source};
 use endings::Answer;
 use file_points::{FileEdges, edges_of_file};
 use iso_base::Level;
-use mesh_write::{STAGE, put_points};
+use point_write::{STAGE, put_points};
 use std::alloc::Global;
 
 /// The crossing edges of the volume of the bytes of a file, which are let go.

@@ -7,7 +7,7 @@ ghost use Rattle.byte_streams.specs.Seen.{Puts};
 ghost use Rattle.flat_mesh.specs.Lattice.{heights};
 ghost use Rattle.flat_mesh.specs.Mesh.{mesh_of};
 ghost use Rattle.mesh_lines.specs.Lines.{text_of, written_of};
-ghost use Rattle.mesh_write.specs.Mesh.{obj_written, ply_written, scratch_obj};
+ghost use Rattle.mesh_lines.specs.Padded.{obj_written, ply_written, scratch_obj};
 ghost use Rattle.span_tree.specs.Spans.{IsRightFor};
 ghost use Rattle.stitch_rows.specs.Named.{NamesCases, asked_among};
 ghost use Rattle.stitch.specs.Origins.{origin_for};

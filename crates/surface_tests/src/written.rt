@@ -1,4 +1,4 @@
-//! Tests of `list_mesh` and `mesh_write`.
+//! Tests of `list_mesh` and `point_write`.
 
 ghost use Rattle.std.specs.Prelude.{◌≡◌};
 ghost use Rattle.iso_defs.specs.Grid.{Grid};
@@ -10,7 +10,7 @@ use crossing_edges::EdgeVertices;
 use iso_base::{Level, MeshFormat, Sizes, Written};
 use list_mesh::ListMesh;
 use mesh_lines::{Origin, Style};
-use mesh_write::{STAGE, put_points};
+use point_write::{STAGE, put_points};
 use std::alloc::Global;
 use std::process::Abort;
 use std::test::Fail;

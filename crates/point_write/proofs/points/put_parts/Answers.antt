@@ -1,6 +1,6 @@
 use Rattle.std.proofs.lemmas.Result.{err_from_is_err_and}
 use Rattle.byte_streams.proofs.Putting.{puts_both, puts_first}
-use Rattle.mesh_write.proofs.points.put_parts.Goals as goal
+use Rattle.point_write.proofs.points.put_parts.Goals as goal
 
 pub returns-in_err-put_head : goal.returns-in_err-put_head
 returns-in_err-put_head g c =

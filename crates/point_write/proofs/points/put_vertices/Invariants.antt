@@ -1,8 +1,8 @@
 use Rattle.std.proofs.Common.{◌++◌, drop}
 use Rattle.byte_streams.proofs.Staging.{HasStaged}
-use Rattle.mesh_write.specs.Walk.{IsRow}
-use Rattle.mesh_write.specs.Edges.{placed_lines}
-use Rattle.mesh_write.proofs.points.put_vertices.Given as goal
+use Rattle.point_write.specs.Walk.{IsRow}
+use Rattle.point_write.specs.Edges.{placed_lines}
+use Rattle.point_write.proofs.points.put_vertices.Given as goal
 
 abbrev pub invariant-loop-i : goal.invariant-loop-i
 invariant-loop-i g l =

@@ -1,7 +1,7 @@
 -- Rows of points.
 use Rattle.std.specs.Prelude.{◌≡◌, ◌<◌}
 use Rattle.iso_defs.specs.Grid.{Grid, index}
-use Rattle.mesh_write.specs.declared.walk.Row.{Row}
+use Rattle.point_write.specs.declared.walk.Row.{Row}
 
 -- a row along x, from its first point on
 pub record IsRow (g : Grid) (row : Row) : Type 0 where

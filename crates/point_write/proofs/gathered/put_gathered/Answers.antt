@@ -1,6 +1,6 @@
 use Rattle.std.proofs.lemmas.Result.{err_from_is_err_and}
 use Rattle.byte_streams.proofs.Putting.{puts_both, puts_first}
-use Rattle.mesh_write.proofs.gathered.put_gathered.Goals as goal
+use Rattle.point_write.proofs.gathered.put_gathered.Goals as goal
 
 pub returns-in_err-write_all_of : goal.returns-in_err-write_all_of
 returns-in_err-write_all_of g c =

@@ -4,8 +4,8 @@ use Rattle.iso_defs.specs.Grid.{Grid}
 use Rattle.iso_base.specs.Points.{IsPoint, point_at, index_of}
 use Rattle.iso_base.specs.declared.point.Point.{Point}
 use Rattle.iso_base.proofs.Indices.{point_at-index_of}
-use Rattle.mesh_write.specs.declared.walk.Row.{Row}
-use Rattle.mesh_write.specs.Walk.{IsRow}
+use Rattle.point_write.specs.declared.walk.Row.{Row}
+use Rattle.point_write.specs.Walk.{IsRow}
 
 pub point_in_row : (g : Grid) (row : Row) (i : ℕ) → IsRow g row → row.start ≤ i → i < row.start + g.nx → record { x = i - row.start; y = row.y; z = row.z } ≡ point_at g i
 point_in_row g row i h le lt =

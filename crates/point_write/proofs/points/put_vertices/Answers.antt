@@ -1,7 +1,7 @@
 use Rattle.std.proofs.Common.{ℕ, List, ◌++◌, ap}
 use Rattle.std.proofs.lemmas.Result.{err_from_is_err_and}
-use Rattle.mesh_write.proofs.Placing.{vertex_staged, vertex_failed, vertices_put}
-use Rattle.mesh_write.proofs.points.put_vertices.Goals as goal
+use Rattle.point_write.proofs.Placing.{vertex_staged, vertex_failed, vertices_put}
+use Rattle.point_write.proofs.points.put_vertices.Goals as goal
 
 pub returns-in_err-stage_vertex : goal.returns-in_err-stage_vertex
 returns-in_err-stage_vertex g c =

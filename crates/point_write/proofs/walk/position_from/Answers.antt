@@ -1,7 +1,7 @@
 use Rattle.std.proofs.Common.{◌%◌, ◌/◌, ◌<◌, ◌≤◌, [], ◌∷◌, get_or, arith}
 use Rattle.std.proofs.lemmas.List.Elements.{All-set}
-use Rattle.mesh_write.proofs.Splitting.{three_below}
-use Rattle.mesh_write.proofs.walk.position_from.Goals as goal
+use Rattle.point_write.proofs.Splitting.{three_below}
+use Rattle.point_write.proofs.walk.position_from.Goals as goal
 
 pub returns-clause-whole : goal.returns-clause-whole
 returns-clause-whole c =

@@ -4,8 +4,8 @@ ghost use Rattle.std.specs.Prelude.{◌≡◌, ◌+◌, ◌*◌, ◌<◌, ◌≤
 ghost use Rattle.iso_defs.specs.Grid.{name_bound};
 ghost use Rattle.byte_streams.specs.Seen.{Puts, Stages};
 ghost use Rattle.mesh_text.specs.Lines.{points_head};
-ghost use Rattle.mesh_write.specs.Walk.{IsRow};
-ghost use Rattle.mesh_write.specs.Edges.{ArePlaced, placed_line, placed_lines};
+ghost use Rattle.point_write.specs.Walk.{IsRow};
+ghost use Rattle.point_write.specs.Edges.{ArePlaced, placed_line, placed_lines};
 
 use crate::gathered::{make_room, put_gathered};
 use crate::walk::{Row, position_from};

@@ -5,7 +5,7 @@ ghost use Rattle.iso_defs.specs.Grid.{name_bound, point_count};
 ghost use Rattle.iso_base.specs.Points.{IsPoint, point_at};
 ghost use Rattle.crossing_edges.specs.Flags.{placed};
 ghost use Rattle.mesh_text.specs.Lines.{joined};
-ghost use Rattle.mesh_write.specs.Walk.{IsRow};
+ghost use Rattle.point_write.specs.Walk.{IsRow};
 
 use iso_base::{Point, Sizes, point_of};
 use mesh_text::Split;

@@ -1,6 +1,6 @@
 use Rattle.std.proofs.lemmas.Result.{err_from_is_err_and}
-use Rattle.mesh_write.proofs.Waiting.{lines_staged, lines_not_staged}
-use Rattle.mesh_write.proofs.gathered.stage_gathered.Goals as goal
+use Rattle.point_write.proofs.Waiting.{lines_staged, lines_not_staged}
+use Rattle.point_write.proofs.gathered.stage_gathered.Goals as goal
 
 pub returns-in_err-stage-clause-staged : goal.returns-in_err-stage-clause-staged
 returns-in_err-stage-clause-staged g c =

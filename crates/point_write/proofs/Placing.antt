@@ -8,7 +8,7 @@ use Rattle.iso_defs.specs.Grid.{Grid}
 use Rattle.iso_defs.specs.Place.{Position, edge_position}
 use Rattle.iso_defs.specs.Texts.{line, position_text}
 use Rattle.crossing_edges.specs.Flags.{edge_place}
-use Rattle.mesh_write.specs.Edges.{placed_line, placed_lines}
+use Rattle.point_write.specs.Edges.{placed_line, placed_lines}
 
 next_lines : (g : Grid) (names places : List ℕ) (i : ℕ) → i < length names → length places ≡ length names
     → placed_lines g (drop i names) (drop i places) ≡ placed_line g (get_or names i 0) (get_or places i 0) ++ placed_lines g (drop (i + 1) names) (drop (i + 1) places)

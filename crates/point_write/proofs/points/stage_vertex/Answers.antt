@@ -1,7 +1,7 @@
 use Rattle.std.proofs.lemmas.Result.{err_from_is_err_and}
 use Rattle.byte_streams.proofs.Staging.{stages_first}
-use Rattle.mesh_write.proofs.Waiting.{line_gathered}
-use Rattle.mesh_write.proofs.points.stage_vertex.Goals as goal
+use Rattle.point_write.proofs.Waiting.{line_gathered}
+use Rattle.point_write.proofs.points.stage_vertex.Goals as goal
 
 pub returns-in_err-make_room-clause-staged : goal.returns-in_err-make_room-clause-staged
 returns-in_err-make_room-clause-staged g c =

@@ -1,4 +1,4 @@
--- The texts of a mesh.
+-- The texts of the mesh of a volume with padding or without, in the formats that are also read.
 use Rattle.std.specs.Prelude.{ℕ, ℤ, Bool, List, length}
 use Rattle.iso_defs.specs.Grid.{Grid}
 use Rattle.iso_defs.specs.Scratch.{vertices, triangles}
@@ -17,9 +17,9 @@ unfoldable pub obj_of : Bool → FlatMesh → List ℕ
 obj_of padded m = obj_text padded m.vertex_list m.triangle_list
 
 -- a mesh in either format
-abbrev pub text_of : TwoWayFormat → Bool → FlatMesh → List ℕ
-text_of Ply padded m = ply_of padded m
-text_of Obj padded m = obj_of padded m
+abbrev pub two_way_text : TwoWayFormat → Bool → FlatMesh → List ℕ
+two_way_text Ply padded m = ply_of padded m
+two_way_text Obj padded m = obj_of padded m
 
 -- its numbers of vertices, faces and bytes, where these are its bytes
 abbrev pub written_with : FlatMesh → List ℕ → Written
@@ -31,8 +31,8 @@ ply_written padded m = written_with m (ply_of padded m)
 abbrev pub obj_written : Bool → FlatMesh → Written
 obj_written padded m = written_with m (obj_of padded m)
 
-abbrev pub written_of : TwoWayFormat → Bool → FlatMesh → Written
-written_of format padded m = written_with m (text_of format padded m)
+abbrev pub two_way_written : TwoWayFormat → Bool → FlatMesh → Written
+two_way_written format padded m = written_with m (two_way_text format padded m)
 
 -- the mesh of a field as OBJ
 abbrev pub scratch_obj : Bool → Grid → (ℕ → ℤ) → List ℕ

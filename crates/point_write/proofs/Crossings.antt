@@ -15,8 +15,8 @@ use Rattle.iso_defs.specs.Scratch.{crossing_edges}
 use Rattle.iso_defs.specs.Texts.{line, position_text, vertex_head, points_text}
 use Rattle.mesh_text.specs.Lines.{points_head}
 use Rattle.crossing_edges.specs.Flags.{edge_place}
-use Rattle.mesh_write.specs.Edges.{ArePlaced, edge_points, placed_lines}
-use Rattle.mesh_write.proofs.Placing.{lines_at_places}
+use Rattle.point_write.specs.Edges.{ArePlaced, edge_points, placed_lines}
+use Rattle.point_write.proofs.Placing.{lines_at_places}
 
 -- a place is at most 1,000
 rounded : (a d : ℕ) → a ≤ d → (2000 * a + d) / (2 * d) ≤ 1000
