@@ -11,18 +11,19 @@ use brick_mesh::{extract_brick, extract_row};
 use brick_store::{BrickId, BrickStore};
 use byte_streams::{Failed, MemSink};
 use edge_points::RowRanks;
-use flat_mesh::{Mesh, extract_flat};
-use iso_base::{Level, Memory, Point, SampleKind, Sizes, Steps, VoxelData, Written};
+use flat_mesh::extract_flat;
+use iso_base::{Level, Memory, MeshFormat, Point, SampleKind, Sizes, Steps, VoxelData, Written};
 use kept_mesh::count_entries;
-use list_stitch::ListMesh;
+use list_mesh::ListMesh;
+use mesh_lines::{Origin, Style};
 use mesh_text::TwoWayFormat;
 use mesh_write::{STAGE, put_mesh_as};
 use span_tree::SpanTree;
 use std::alloc::Global;
 use std::marker::Brand;
 use std::sync::ledger::{Blank, Ledger};
-use stitch::{CellRows, Style, write_obj, write_ply};
-use stitch_rows::Counts;
+use stitch::{write_obj, write_ply};
+use stitch_rows::{CellRows, Counts};
 use volume_gen::generated;
 use voxel_list::VoxelList;
 
@@ -74,14 +75,6 @@ fn empty_sink(alloc: Global) -> Result<MemSink, Memory> {
     MemSink::new(alloc, ROOM, Vec::new(alloc))
 }
 
-/// The text of a mesh.
-fn text_of(alloc: Global, mesh: &Mesh, style: Style) -> Result<Told, Memory> {
-    let mut waiting = Vec::with_capacity(alloc, STAGE)?;
-    let mut sink = empty_sink(alloc)?;
-    let written = put_mesh_as(&mut sink, &mut waiting, mesh, style.format, style.padded);
-    Ok(Told { sink, written })
-}
-
 /// The text of extraction from scratch.
 fn scratch_text(
     alloc: Global,
@@ -91,7 +84,20 @@ fn scratch_text(
 ) -> Result<Told, Memory> {
     let padded = volume.pad().is_some();
     let mesh = extract_flat(alloc, volume, level)?;
-    text_of(alloc, &mesh, Style { format, padded })
+    let mut waiting = Vec::with_capacity(alloc, STAGE)?;
+    let mut sink = empty_sink(alloc)?;
+    let written = put_mesh_as(&mut sink, &mut waiting, &mesh, format, padded);
+    Ok(Told { sink, written })
+}
+
+/// How a text is written.
+fn style_of(format: TwoWayFormat, padded: bool) -> Style {
+    let format = match format {
+        TwoWayFormat::Ply => MeshFormat::Ply,
+        TwoWayFormat::Obj => MeshFormat::Obj,
+    };
+    let origin = if padded { Origin::Pad } else { Origin::Volume };
+    Style { format, origin }
 }
 
 /// The text that is written while the list of samples is walked.
@@ -105,8 +111,8 @@ fn listed_text(
     let mut sink = empty_sink(alloc)?;
     // Reading the samples brings in that they are in the range of samples.
     let _ = volume.samples();
-    let mesh = ListMesh::of(alloc, volume.sizes(), volume, level)?;
-    let written = mesh.write(Style { format, padded }, &mut sink);
+    let mut mesh = ListMesh::of(alloc, volume.sizes(), volume, level)?;
+    let written = mesh.write(style_of(format, padded), &mut sink);
     Ok(Told { sink, written })
 }
 

@@ -5,7 +5,7 @@ ghost use Rattle.iso_defs.specs.Grid.{point_count};
 ghost use Rattle.iso_base.specs.Volume.{IsVoxels, Volume, unpadded};
 ghost use Rattle.iso_base.specs.Samples.{IsSample};
 ghost use Rattle.byte_streams.specs.Seen.{Puts, ReadsWithin};
-ghost use Rattle.commands.specs.Meaning.{mesh_given, mesh_in, text_of_volume};
+ghost use Rattle.commands.specs.Meaning.{mesh_given, mesh_in, style_of, text_of_volume};
 ghost use Rattle.commands.specs.Headline.{IsMeshWatertight, ShowsMesh};
 ghost use Rattle.endings.specs.declared.answer.Answer.TheVariants as answers;
 ghost use Rattle.point_command.specs.Outcome.{Converts, WritesGiven, streams_between};
@@ -13,9 +13,10 @@ ghost use Rattle.point_command.specs.Volumes.{volume_limit};
 
 use crate::volumes::in_pad;
 use endings::Answer;
-use iso_base::{Level, Sizes, Written};
+use iso_base::{Level, MeshFormat, Sizes, Written};
 use iso_io::{Failed, Sink, Source};
-use list_stitch::{ListMesh, Style};
+use list_mesh::ListMesh;
+use mesh_lines::{Origin, Style};
 use mesh_text::TwoWayFormat;
 use nrrd_read::{FileVolume, RawVolume, read_file_volume, with_samples};
 use point_command::{NoVolume, bytes_of_input};
@@ -30,36 +31,52 @@ struct Asked {
     format: TwoWayFormat,
 }
 
+impl Asked {
+    /// How the mesh is written: with a pad, the pad's layer is taken off each coordinate.
+    fn style(self) -> Style
+        ensures { result ≡ style_of self.format (is_some self.pad) }
+    {
+        let origin = match self.pad {
+            Some(_) => Origin::Pad,
+            None => Origin::Volume,
+        };
+        let format = match self.format {
+            TwoWayFormat::Ply => MeshFormat::Ply,
+            TwoWayFormat::Obj => MeshFormat::Obj,
+        };
+        Style { format, origin }
+    }
+}
+
 /// Appends the text of a volume's mesh.
 fn put_text<S: Samples, K: Sink>(
     sink: &mut K,
-    mesh: &ListMesh<'_, S>,
-    style: Style,
+    mesh: &mut ListMesh<'_, S>,
+    asked: Asked,
 ) -> Result<Written, Failed>
-    ensures { (v : Volume) (level : ℤ) → style.padded ≡ is_some v.pad → mesh.now ≡ record { grid = v.grid; samples = v.samples; level = level }
-        → Puts (K.seen sink.old) (K.seen sink.new) result (text_of_volume style.format level v) }
+    ensures { (v : Volume) (level : ℤ) → is_some asked.pad ≡ is_some v.pad → mesh.old ≡ record { grid = v.grid; samples = v.samples; level = level }
+        → Puts (K.seen sink.old) (K.seen sink.new) result (text_of_volume asked.format level v) }
 {
-    mesh.write(style, sink)
+    mesh.write(asked.style(), sink)
 }
 
-/// Writes the mesh of a volume, from its sizes and its samples.
+/// Writes the mesh of a volume, from its sizes and its samples, those of the pad that is asked for among them.
 fn write_mesh<S: Samples, K: Sink>(
     alloc: Global,
-    level: Level,
-    style: Style,
+    asked: Asked,
     sizes: Sizes,
     samples: &S,
     output: &mut K,
 ) -> Answer
     requires count { length (S.list samples.now) ≡ point_count sizes }
     requires samples { All IsSample (S.list samples.now) }
-    ensures { (v : Volume) → v.grid ≡ sizes → v.samples ≡ S.list samples.now → style.padded ≡ is_some v.pad
-        → WritesGiven (Ok (text_of_volume style.format level v)) (K.seen output.old) (K.seen output.new) result }
+    ensures { (v : Volume) → v.grid ≡ sizes → v.samples ≡ S.list samples.now → is_some asked.pad ≡ is_some v.pad
+        → WritesGiven (Ok (text_of_volume asked.format asked.level v)) (K.seen output.old) (K.seen output.new) result }
 {
-    let Ok(mesh) = ListMesh::of(alloc, sizes, samples, level) else {
+    let Ok(mut mesh) = ListMesh::of(alloc, sizes, samples, asked.level) else {
         return Answer::Memory;
     };
-    match put_text(output, &mesh, style) {
+    match put_text(output, &mut mesh, asked) {
         Ok(_) => Answer::Done,
         Err(Failed) => Answer::OutputFault,
     }
@@ -85,11 +102,7 @@ fn extract_padded<S: Samples, K: Sink>(
         Ok(padded) => padded,
         Err(reason) => return Answer::from(reason),
     };
-    let style = Style {
-        format: asked.format,
-        padded: true,
-    };
-    write_mesh(alloc, asked.level, style, padded.sizes(), &padded, output)
+    write_mesh(alloc, asked, padded.sizes(), &padded, output)
 }
 
 /// Writes the mesh of a volume, in its pad where it is to have one, from the samples without it.
@@ -108,13 +121,7 @@ fn extract_samples<S: Samples, K: Sink>(
 {
     match asked.pad {
         Some(pad) => extract_padded(alloc, asked, pad, sizes, samples, output),
-        None => {
-            let style = Style {
-                format: asked.format,
-                padded: false,
-            };
-            write_mesh(alloc, asked.level, style, sizes, samples, output)
-        }
+        None => write_mesh(alloc, asked, sizes, samples, output),
     }
 }
 

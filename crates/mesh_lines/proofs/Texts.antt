@@ -3,6 +3,7 @@ use Rattle.std.proofs.Common.{◌≡◌, ℕ, false, true, List, [], ◌∷◌, 
 use Rattle.std.specs.Prelude.{codes}
 use Rattle.std.specs.List.{flat_map}
 use Rattle.std.proofs.lemmas.List.{length-map}
+use Rattle.std.proofs.lemmas.List.Folds.{flat_map-map}
 use Rattle.iso_defs.specs.Place.{Position}
 use Rattle.iso_defs.specs.Texts.{face_head, line, obj_text, ply_text, position_text, vertex_head}
 use Rattle.iso_base.specs.declared.format.MeshFormat.{MeshFormat}
@@ -41,11 +42,6 @@ pub pad_obj : (m : FlatMesh) → text_of (record { format = Obj; origin = Pad })
 unfolding text_of vertex_line face_line
 pad_obj m = refl
 
--- lines of images
-flat_images : {A B : Type 0} (f : B → List ℕ) (h : A → B) (xs : List A) → flat_map f (map h xs) ≡ flat_map (λ x. f (h x)) xs
-flat_images f h [] = refl
-flat_images f h (x ∷ xs) = ap (λ l. f (h x) ++ l) (flat_images f h xs)
-
 -- a window, which is moved by the point at which it begins
 module _ (at : Point) (m : FlatMesh) where
   abbrev by : ℕ × ℕ × ℕ
@@ -63,7 +59,7 @@ module _ (at : Point) (m : FlatMesh) where
   -- the lines of its vertices
   lines : (before : List ℕ) → flat_map (λ (v : ℕ × Position). line (before ++ position_text false (moved by v.1))) m.vertex_list
       ≡ flat_map (λ (v : ℕ × Position). line (before ++ position_text false v.1)) moved_list
-  lines before = sym (flat_images (λ (v : ℕ × Position). line (before ++ position_text false v.1)) (moved_vertex by) m.vertex_list)
+  lines before = sym (flat_map-map (λ (v : ℕ × Position). line (before ++ position_text false v.1)) (moved_vertex by) m.vertex_list)
 
   pub window_text : (format : MeshFormat) → text_of (of format) m ≡ moved_text format by m.vertex_list m.triangle_list
   unfolding text_of vertex_line face_line

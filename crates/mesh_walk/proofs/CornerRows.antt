@@ -1,7 +1,6 @@
 -- The rows of points round a row of cells, kept from one row of cells for the next.
-use Rattle.std.proofs.Common.{◌≡◌, ℕ, ◌+◌, ◌*◌, ◌%◌, ◌/◌, ◌<◌, ◌≤◌, List, get_or, refl, sym, ◌∙◌, ap, subst, arith}
+use Rattle.std.proofs.Common.{◌≡◌, ℕ, ◌+◌, ◌*◌, ◌<◌, List, get_or, refl, sym, ◌∙◌, ap, subst, arith}
 use Rattle.iso_defs.specs.Grid.{Grid}
-use Rattle.iso_defs.specs.Rows.{row_count}
 use Rattle.iso_base.specs.Sizing.{IsGrid}
 use Rattle.flat_mesh.specs.Lattice.{Leveled}
 use Rattle.mesh_rows.specs.Rows.{AreFirst, AreFlags}

@@ -1,5 +1,5 @@
-use Rattle.std.proofs.Common.{◌≡◌, ◌∙◌, All, Ok, Some, ap, length, refl, rules, sym, subst, to_z, of_z, w64, List, ℤ}
-use Rattle.std.specs.Prelude.{Option}
+use Rattle.std.proofs.Common.{◌≡◌, ◌∙◌, All, Ok, Some, ap, length, rules, sym, subst, to_z, of_z, w64, List, ℤ}
+use Rattle.std.specs.Prelude.{Option, is_some}
 use Rattle.std.proofs.lemmas.Int.{to_z-of_z}
 use Rattle.iso_defs.specs.Grid.{Grid, point_count}
 use Rattle.iso_base.specs.Samples.{IsSample}
@@ -50,4 +50,4 @@ returns g c = λ v grid samples.
     let given : mesh_in level c.args.asked.pad format v ≡ Ok (text_of_volume format level w)
     = ap (λ (o : Option ℤ). text_by (text_of_volume format level) (with_pad o level v)) is ∙ ap (text_by (text_of_volume format level)) (c.in-Ok.ensures.volume v grid) in
     subst (λ given. WritesGiven given (g.K.Sink.seen c.args.output.now) (g.K.Sink.seen c.write_mesh.new.output) c.write_mesh.result) (sym given)
-    (c.write_mesh.ensures w size list refl)
+    (c.write_mesh.ensures w size list (ap is_some is))

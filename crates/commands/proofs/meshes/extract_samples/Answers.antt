@@ -1,4 +1,4 @@
-use Rattle.std.proofs.Common.{◌≡◌, Ok, ap, sym, subst, ℤ}
+use Rattle.std.proofs.Common.{◌≡◌, ◌∙◌, Ok, ap, sym, subst, ℤ}
 use Rattle.std.specs.Prelude.{Option, is_some}
 use Rattle.point_command.specs.Meaning.{text_by}
 use Rattle.point_command.specs.Outcome.{WritesGiven}
@@ -13,4 +13,4 @@ returns-in-None g c = λ v grid none samples.
     let given : mesh_in level c.args.asked.pad format v ≡ Ok (text_of_volume format level v)
     = ap (λ (o : Option ℤ). text_by (text_of_volume format level) (with_pad o level v)) c.in-None.is in
     subst (λ given. WritesGiven given (g.K.Sink.seen c.args.output.now) (g.K.Sink.seen c.write_mesh.new.output) c.write_mesh.result) (sym given)
-    (c.write_mesh.ensures v grid samples (sym (ap is_some none)))
+    (c.write_mesh.ensures v grid samples (ap is_some c.in-None.is ∙ sym (ap is_some none)))

@@ -1,6 +1,6 @@
-use Rattle.std.proofs.Common.{◌≡◌, ◌+◌, ◌-◌, ◌*◌, ◌<◌, ◌≤◌, ◌∙◌, min, get_or, ap, subst, sym, refl, arith}
+use Rattle.std.proofs.Common.{◌≡◌, ◌+◌, ◌-◌, ◌*◌, get_or, ap, subst, sym, arith}
 use Rattle.std.proofs.lemmas.Result.{err_from_is_err_and}
-use Rattle.iso_defs.specs.Grid.{Grid, is_cell}
+use Rattle.iso_defs.specs.Grid.{is_cell}
 use Rattle.flat_mesh.specs.Rows.{row_start}
 use Rattle.mesh_rows.specs.Rows.{IsCaseOf}
 use Rattle.mesh_walk.specs.Cells.{eight_at}

@@ -1,4 +1,4 @@
-use Rattle.std.proofs.Common.{◌≡◌, ◌*◌, sym, ap, subst}
+use Rattle.std.proofs.Common.{◌*◌, sym, ap, subst}
 use Rattle.mesh_walk.specs.Numbers.{AreQuiet}
 use Rattle.mesh_walk.proofs.Adding.{adds_as, adds_none}
 use Rattle.mesh_walk.proofs.CentreLines.{quiet_centres}

@@ -1,4 +1,4 @@
-use Rattle.std.proofs.Common.{◌≡◌, ◌+◌, arith}
+use Rattle.std.proofs.Common.{◌+◌, arith}
 use Rattle.mesh_walk.proofs.CellRuns.{width_is}
 use Rattle.mesh_walk.proofs.CornerRows.{first_copied, flags_copied}
 use Rattle.mesh_walk.proofs.corners.copy_row.Goals as goal

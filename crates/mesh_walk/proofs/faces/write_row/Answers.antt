@@ -1,4 +1,4 @@
-use Rattle.std.proofs.Common.{◌≡◌, ◌+◌, ◌*◌, sym, ap, subst, arith}
+use Rattle.std.proofs.Common.{◌+◌, ◌*◌, sym, ap, subst, arith}
 use Rattle.mesh_walk.specs.Numbers.{AreQuiet}
 use Rattle.mesh_walk.proofs.Adding.{adds_as, adds_none}
 use Rattle.mesh_walk.proofs.FaceLines.{quiet_faces, quiet_number}

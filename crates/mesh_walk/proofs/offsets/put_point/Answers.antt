@@ -1,4 +1,4 @@
-use Rattle.std.proofs.Common.{◌≡◌, ◌+◌, ◌*◌, ◌/◌, ◌%◌, ◌++◌, ◌∷◌, [], ◌∙◌, cond, take, ap, eqb, List, ℕ, append_assoc}
+use Rattle.std.proofs.Common.{take}
 use Rattle.mesh_walk.proofs.RowNames.{put_three}
 use Rattle.mesh_walk.proofs.offsets.put_point.Goals as goal
 

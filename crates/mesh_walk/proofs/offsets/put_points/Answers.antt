@@ -1,5 +1,4 @@
-use Rattle.std.proofs.Common.{◌≡◌, ◌+◌, ◌-◌, ◌++◌, ◌∙◌, take, ap, sym, arith}
-use Rattle.mesh_walk.specs.Edges.{edges_among}
+use Rattle.std.proofs.Common.{◌-◌, take, arith}
 use Rattle.mesh_walk.proofs.RowNames.{put_none, put_one}
 use Rattle.mesh_walk.proofs.offsets.put_points.Goals as goal
 

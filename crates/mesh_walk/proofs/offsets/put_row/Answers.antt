@@ -1,4 +1,4 @@
-use Rattle.std.proofs.Common.{◌≡◌, ◌+◌, ◌-◌, ◌*◌, ◌/◌, sym, length, arith}
+use Rattle.std.proofs.Common.{◌+◌, ◌-◌, ◌*◌, ◌/◌, sym, length, arith}
 use Rattle.mesh_walk.proofs.RowNames.{among_none, put_behind}
 use Rattle.mesh_walk.proofs.offsets.put_row.Goals as goal
 

@@ -1,4 +1,4 @@
-use Rattle.std.proofs.Common.{◌≡◌, ℕ, ◌+◌, ◌*◌, ◌≤◌, get_or, sym, refl, ◌∙◌, ap, subst, inl, inr, arith}
+use Rattle.std.proofs.Common.{◌≡◌, ◌+◌, ◌*◌, ◌≤◌, get_or, sym, refl, ◌∙◌, ap, subst, inl, inr, arith}
 use Rattle.std.proofs.lemmas.Bool.{cases_lt}
 use Rattle.iso_defs.specs.Grid.{Grid}
 use Rattle.iso_defs.specs.Rows.{row_count}
@@ -6,7 +6,7 @@ use Rattle.edge_points.specs.Rows.{sums_before}
 use Rattle.flat_mesh.specs.Lattice.{Leveled}
 use Rattle.flat_mesh.specs.Rows.{row_start}
 use Rattle.mesh_walk.specs.Numbers.{edges_to}
-use Rattle.mesh_walk.proofs.RankedRows.{RowAt, count_more, each_few, found_row, none_before, ranked, row_of_same, rows_are, total_low}
+use Rattle.mesh_walk.proofs.RankedRows.{count_more, each_few, found_row, none_before, ranked, row_of_same, rows_are, total_low}
 use Rattle.mesh_walk.proofs.ranks.rank_rows.Goals as goal
 
 pub loop-row-init : goal.loop-row-init

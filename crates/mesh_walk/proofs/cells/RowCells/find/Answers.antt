@@ -1,4 +1,4 @@
-use Rattle.std.proofs.Common.{◌≡◌, ◌+◌, ◌*◌, ◌≤◌, ◌∙◌, sym, ap, subst, arith}
+use Rattle.std.proofs.Common.{◌≡◌, ◌+◌, ◌≤◌, ◌∙◌, sym, ap, subst, arith}
 use Rattle.iso_defs.specs.Grid.{Grid}
 use Rattle.mesh_walk.proofs.CellRuns.{cost_is, in_last_slice, last_of_slice}
 use Rattle.mesh_walk.proofs.cells.RowCells.find.Goals as goal

@@ -1,8 +1,8 @@
-use Rattle.std.proofs.Common.{◌≡◌, ◌+◌, ◌*◌, ◌≤◌, ◌∙◌, ℕ, List, [], ◌++◌, ap, sym, arith, drop, get_or, take}
+use Rattle.std.proofs.Common.{◌+◌, ◌∙◌, ◌++◌, ap, sym, arith, drop, get_or, take}
 use Rattle.std.specs.List.{flat_map}
 use Rattle.std.proofs.lemmas.Result.{err_from_is_err_and}
 use Rattle.mesh_rows.specs.Rows.{row_names}
-use Rattle.mesh_walk.specs.Spans.{edge_line, edges_text}
+use Rattle.mesh_walk.specs.Spans.{edge_line}
 use Rattle.mesh_walk.proofs.Adding.{adds_as, adds_both, adds_front, adds_none}
 use Rattle.mesh_walk.proofs.RowNames.{count_is, edge_at, lines_all, lines_cut, lines_next, row_text}
 use Rattle.mesh_walk.proofs.edges.RowEdges.write.Goals as goal

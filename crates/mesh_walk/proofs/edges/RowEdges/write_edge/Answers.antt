@@ -1,4 +1,4 @@
-use Rattle.std.proofs.Common.{◌≡◌, ◌+◌, ◌*◌, ◌≤◌, [], refl, arith, get_or, length}
+use Rattle.std.proofs.Common.{[], refl, get_or}
 use Rattle.std.proofs.lemmas.Result.{err_from_is_err_and}
 use Rattle.mesh_walk.proofs.Adding.{adds_behind, adds_both, adds_front, behind_as}
 use Rattle.mesh_walk.proofs.EdgeLines.{row_line}

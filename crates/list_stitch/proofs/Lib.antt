@@ -1,3 +1,0 @@
-pub mod RowSlices
-pub mod Corners
-pub mod RowCases
