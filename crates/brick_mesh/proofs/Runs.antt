@@ -7,11 +7,13 @@ use Rattle.std.proofs.lemmas.List.Elements.{filter-append}
 use Rattle.std.proofs.lemmas.List.FromFn.{length-map-range_with_len, map-range_with_len_more}
 use Rattle.iso_defs.proofs.Ranges.{range_append}
 use Rattle.iso_defs.specs.Lists.{below}
-use Rattle.iso_defs.specs.Bricks.{brick_cell, cell_case, cells_along, entries, has_cell, is_active_cell, is_mixed, row_cases}
-use Rattle.iso_defs.specs.Cell.{cell_signs}
+use Rattle.iso_defs.specs.Bricks.{bits_of, brick_cell, case_number, cell_case, cells_along, entries, has_cell, is_active_cell, is_mixed, row_cases}
+use Rattle.iso_defs.specs.Cell.{cell_signs, cell_values}
+use Rattle.case_table.specs.Cases.{ambiguous_flags}
+use Rattle.case_table.proofs.Values.{none_joined}
 use Rattle.brick_mesh.specs.Block.{BrickAt, IsCell, heights, point_in}
 use Rattle.brick_store.specs.Holding.{points_along}
-use Rattle.brick_mesh.specs.Entries.{case_of, entries_from, entry_of, first_cases}
+use Rattle.brick_mesh.specs.Entries.{IsPlain, case_of, entries_from, entry_of, first_cases}
 
 -- whether a cell of the brick has an entry
 abbrev pub is_active_in : BrickAt → ℕ → Bool
@@ -92,8 +94,23 @@ first_more b y z x cell hx hy e =
     = ap (λ i. point_in b i y z) along_x ∙ ap₂ (λ j k. point_in b (cell % 8) j k) along_y along_z in
     map-range_with_len_more case_at 0 x x (zero-add x) ∙ ap (λ q. first_cases b y z x ++ case_of b.grid (heights b) q ∷ []) here
 
-pub first_all : (b : BrickAt) (y z count : ℕ) → count ≡ points_along b.grid b.brick 0 - 1 → first_cases b y z count ≡ row_cases b.grid (heights b) b.brick y z
+first_all : (b : BrickAt) (y z count : ℕ) → count ≡ points_along b.grid b.brick 0 - 1 → first_cases b y z count ≡ row_cases b.grid (heights b) b.brick y z
 unfolding first_cases case_of
 first_all b y z count e =
     let all : count ≡ cells_along b.grid b.brick = omega arith in
     ap (λ n. map (λ x. cell_case b.grid (heights b) (point_in b x y z)) (below n)) all
+
+pub first_of_row : (b : BrickAt) (y z row count : ℕ) → row ≡ y + 8 * z → y < 8 → count ≡ points_along b.grid b.brick 0 - 1
+    → first_cases b (row % 8) (row / 8) count ≡ row_cases b.grid (heights b) b.brick y z
+first_of_row b y z row count at y_low e =
+    let along_y : row % 8 ≡ y = omega arith in
+    let along_z : row / 8 ≡ z = omega arith in
+    ap₂ (λ j k. first_cases b j k count) along_y along_z ∙ first_all b y z count e
+
+-- the case of a cell without an ambiguous face
+pub plain_case : (b : BrickAt) (cell signs : ℕ) → IsPlain signs → bits_of 8 signs ≡ cell_signs b.grid (heights b) (brick_cell b.grid b.brick cell)
+    → case_number (bits_of 8 signs) (bits_of 6 0) ≡ case_of b.grid (heights b) (brick_cell b.grid b.brick cell)
+unfolding case_of
+plain_case b cell signs plain is =
+    let values = cell_values b.grid (heights b) (brick_cell b.grid b.brick cell) in
+    ap₂ case_number is (sym (none_joined values (sym (ap ambiguous_flags is) ∙ plain)))

@@ -1,10 +1,15 @@
 -- Entries of the cells of a brick, and the cases of a row of them.
-use Rattle.std.specs.Prelude.{ℕ, ◌+◌, ◌*◌, ℤ, List, map}
+use Rattle.std.specs.Prelude.{◌≡◌, ℕ, ◌+◌, ◌*◌, ℤ, List, map}
 use Rattle.std.specs.List.{filter, range_with_len}
 use Rattle.iso_defs.specs.Lists.{below}
 use Rattle.iso_defs.specs.Grid.{Grid}
-use Rattle.iso_defs.specs.Bricks.{brick_cell, cell_case, is_active_cell}
+use Rattle.iso_defs.specs.Bricks.{bits_of, brick_cell, cell_case, is_active_cell}
+use Rattle.case_table.specs.Cases.{ambiguous_flags}
 use Rattle.brick_mesh.specs.Block.{BrickAt, heights, point_in}
+
+-- a sign byte of which no face is ambiguous
+abbrev pub IsPlain : ℕ → Type 0
+IsPlain signs = ambiguous_flags (bits_of 8 signs) ≡ bits_of 6 0
 
 -- the case number of a cell, as a word that stays closed
 unfoldable pub case_of : Grid → (ℕ → ℤ) → ℕ → ℕ

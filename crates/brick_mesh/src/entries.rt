@@ -1,41 +1,26 @@
 //! Entries of the cells of a brick that have a crossing edge, and the cases of its rows of cells.
-ghost use Rattle.std.specs.Prelude.{◌≡◌, ◌+◌, ◌*◌, ◌<◌, ◌≤◌, ◌++◌, [], IsTrue, length, map, true};
+ghost use Rattle.std.specs.Prelude.{◌≡◌, ℕ, ◌+◌, ◌-◌, ◌*◌, ◌/◌, ◌%◌, ◌<◌, ◌≤◌, ◌++◌, [], IsTrue, length, map, slice_index, true};
 ghost use Rattle.arrayvec.specs.ArrayVec.{array_vec_len};
 ghost use Rattle.iso_defs.specs.Bricks.{bits_of, brick_cell, brick_count, entries as entries_of, in_brick, row_cases};
 ghost use Rattle.iso_defs.specs.Cell.{cell_joined, cell_signs};
 ghost use Rattle.case_table.specs.Cases.{are_ambiguous};
 ghost use Rattle.iso_base.specs.Shifted.{field};
-ghost use Rattle.brick_mesh.specs.Block.{IsCell, IsCellRow, heights};
-ghost use Rattle.brick_mesh.specs.Entries.{case_of, entries_from};
+ghost use Rattle.brick_mesh.specs.Block.{HasPoint, IsCell, IsCellRow, heights};
+ghost use Rattle.brick_mesh.specs.Entries.{IsPlain, case_of, entries_from, first_cases};
 ghost use Rattle.brick_mesh.specs.Signs.{AreBytes, AreRows};
 ghost use Rattle.brick_store.specs.Copies.{AreCopiesOf};
+ghost use Rattle.brick_store.specs.Holding.{points_along};
 
 use crate::block::Block;
 use crate::lanes::sign_bytes;
-use crate::signs::{PairRows, has_only, is_mixed, pair_rows};
+use crate::signs::{PairRows, bytes_among, has_only, is_mixed, pair_rows};
 use arrayvec::ArrayVec;
 use brick_store::{BrickId, BrickStore};
-use case_table::{ambiguous_set, classify, classify_with, joined_faces_of};
+use case_table::{ambiguous_set, classify_with, joined_faces_of};
 use iso_base::{Level, Steps};
 use packed_samples::PackedRun;
 use samples::Packed;
 use std::sync::ledger::Ledger;
-
-/// The number of the case of a cell, which is classified.
-fn case_number<T: Packed, L: Ledger>(
-    block: &Block<'_>,
-    copies: &[T],
-    cell: u32,
-    steps: &mut Steps<L>,
-) -> u16
-    requires copies { AreCopiesOf block.now.grid block.now.samples block.now.brick (map T.value copies.now) }
-    requires cell { IsCell block.now cell }
-    ensures value { result ≡ case_of block.now.grid (heights block.now) (brick_cell block.now.grid block.now.brick cell) }
-    ensures bound { result < 656 }
-    ensures counted { steps.new ≡ steps.old + 1 }
-{
-    classify(&block.values(copies, cell), steps).number()
-}
 
 /// The joined faces of a cell with this sign byte. Only where a face is ambiguous the values at the corners are looked at.
 #[inline(always)]
@@ -223,6 +208,53 @@ pub fn extract_brick<L: Ledger>(
     add_entries(&block, &rows, entries, steps);
 }
 
+/// Puts the numbers of the cases of a row of eight cells without an ambiguous face into an empty list.
+#[inline(always)]
+fn push_plain<L: Ledger>(
+    block: &Block<'_>,
+    signs: &[u8; 8],
+    row: u8,
+    rows: &mut ArrayVec<u16, 8>,
+    steps: &mut Steps<L>,
+)
+    requires row { row < 64 }
+    requires there { HasPoint block.now 0 (row % 8 + 1) (row / 8 + 1) }
+    requires whole { points_along block.now.grid block.now.brick 0 ≡ 9 }
+    requires signs { AreBytes block.now row signs.now }
+    requires plain { (x : ℕ) → x < 8 → IsPlain (slice_index signs.now x) }
+    requires none { rows.old.items ≡ [] }
+    ensures cases { rows.new.items ≡ first_cases block.now (row % 8) (row / 8) 8 }
+    ensures counted { steps.new ≡ steps.old + length rows.new.items }
+{
+    for x in 0..8 {
+        rows.push(classify_with(signs[x], 0, steps).number());
+    }
+}
+
+/// Puts the numbers of the cases of a row of cells into an empty list.
+#[inline(always)]
+fn push_cases<T: Packed, L: Ledger>(
+    block: &Block<'_>,
+    copies: &[T],
+    signs: &[u8; 8],
+    row: u8,
+    rows: &mut ArrayVec<u16, 8>,
+    steps: &mut Steps<L>,
+)
+    requires copies { AreCopiesOf block.now.grid block.now.samples block.now.brick (map T.value copies.now) }
+    requires row { row < 64 }
+    requires there { HasPoint block.now 0 (row % 8 + 1) (row / 8 + 1) }
+    requires signs { AreBytes block.now row signs.now }
+    requires none { rows.old.items ≡ [] }
+    ensures cases { rows.new.items ≡ first_cases block.now (row % 8) (row / 8) (points_along block.now.grid block.now.brick 0 - 1) }
+    ensures counted { steps.new ≡ steps.old + length rows.new.items }
+{
+    for x in 0..block.cells_along_x() {
+        let cell = 8 * u32::from(row) + u32::from(x);
+        rows.push(case_with(block, copies, cell, signs[x as usize], steps));
+    }
+}
+
 /// Replaces the rows by the numbers of the cases of a row of cells.
 fn put_row<T: Packed, L: Ledger>(
     block: &Block<'_>,
@@ -238,10 +270,17 @@ fn put_row<T: Packed, L: Ledger>(
     ensures counted { steps.new ≡ steps.old + length rows.new.items }
     ensures bound { steps.new ≤ steps.old + 8 }
 {
+    let signs = bytes_among(block, copies, y, z);
+    let row = y + 8 * z;
     rows.clear();
-    for x in 0..block.cells_along_x() {
-        let cell = u32::from(x) + 8 * (u32::from(y) + 8 * u32::from(z));
-        rows.push(case_number(block, copies, cell, steps));
+    // Most rows are whole and have no crossing edge. Their sign bytes are handed on as constants, so that their cases are known too.
+    let whole = block.cells_along_x() == 8;
+    if whole && has_only(&signs, 0) {
+        push_plain(block, &[0; 8], row, rows, steps);
+    } else if whole && has_only(&signs, 255) {
+        push_plain(block, &[255; 8], row, rows, steps);
+    } else {
+        push_cases(block, copies, &signs, row, rows, steps);
     }
 }
 
