@@ -13,6 +13,10 @@ pub record AreCells (v : Leveled) (cells : RowCells) : Type 0 where
   pub start : cells.start ≡ row_start v.grid cells.y cells.z
   pub each : AreCases v cells.y cells.z cells.cases
 
+-- the index of its first point
+abbrev pub cells_start : Leveled → RowCells → ℕ
+cells_start v cells = row_start v.grid cells.y cells.z
+
 -- where the eight cells of a number begin in a row, or where its cells end
 abbrev pub eight_at : Grid → ℕ → ℕ
 eight_at g eight = min (8 * eight) (g.nx - 1)

@@ -16,8 +16,8 @@ use iso_base::Point;
 use mesh_rows::MeshRows;
 use std::simd::prelude::*;
 
-/// Whether the eight cases from a place on are one case. This saves work and no text rests on it: the contract leaves `false`
-/// free.
+/// Whether the eight cases from a place on are one case. This saves work and no text rests on it: the contract leaves
+/// `false` free.
 #[inline(always)]
 fn are_same(cases: &[u16], from: usize) -> bool
     requires { from + 8 ≤ length cases.now }
@@ -103,8 +103,8 @@ impl RowCells {
         rows.fill_cases(y, z, &mut self.cases[..nx as usize]);
     }
 
-    /// Turns to the row of cells that a row of points begins, and says whether it may have loops: not where the row begins none,
-    /// or no crossing edge begins in the rows of points around them. Rows are asked for cases at most once.
+    /// Turns to the row of cells that a row of points begins, and says whether it may have loops: not where the row begins
+    /// none, or no crossing edge begins in the rows of points around them. Rows are asked for cases at most once.
     pub fn find<R: MeshRows>(&mut self, rows: &mut R, walk: Walk<'_>, y: u32, z: u32) -> bool
         requires ranks { AreRowRanks (R.leveled rows.old) walk.ranks.now walk.total }
         requires y { y < (R.leveled rows.old).grid.ny }

@@ -7,10 +7,9 @@ ghost use Rattle.flat_mesh.specs.Cases.{values_at};
 ghost use Rattle.flat_mesh.specs.Centres.{IsCellAt, cell_place, local_mean, loop_centre, loop_centres};
 ghost use Rattle.flat_mesh.specs.Faces.{AllCross, loops_at};
 ghost use Rattle.flat_mesh.specs.Lattice.{heights};
-ghost use Rattle.flat_mesh.specs.Rows.{row_start};
 ghost use Rattle.mesh_rows.specs.Rows.{IsCaseOf};
 ghost use Rattle.mesh_lines.specs.Blocks.{Adds, IsBehind};
-ghost use Rattle.mesh_walk.specs.Cells.{AreCells, eight_at};
+ghost use Rattle.mesh_walk.specs.Cells.{AreCells, cells_start, eight_at};
 ghost use Rattle.mesh_walk.specs.Numbers.{AreRowRanks, cells_cost, cost_of_row};
 ghost use Rattle.mesh_walk.specs.Spans.{all_centres_text, centre_line, centres_text, loop_lines, row_centres_text};
 
@@ -94,7 +93,8 @@ fn put_centre<H: Heights>(
     requires edges { IsLoop edges.now }
     requires crossing { AllCross (H.leveled field.now) cell.index edges.now }
     requires room { block.old.page + 64 ≤ 4096 }
-    ensures put { (n : ℕ) → IsBehind block.old block.new (centre_line style (H.leveled field.now) cell.index edges.now n) }
+    ensures put { let v = H.leveled field.now in
+        (n : ℕ) → IsBehind block.old block.new (centre_line style v cell.index edges.now n) }
     ensures few { block.new.page ≤ block.old.page + 64 }
     ensures bytes { block.new.total ≤ block.old.total + 64 }
 {
@@ -123,7 +123,8 @@ fn put_if_centre<H: Heights>(
     requires edges { IsLoop edges.now }
     requires crossing { AllCross (H.leveled field.now) cell.index edges.now }
     requires room { block.old.page + 64 ≤ 4096 }
-    ensures put { (turn : ℕ) → IsBehind block.old block.new (loop_lines style (loop_centre (H.leveled field.now) cell.index turn edges.now)) }
+    ensures put { let v = H.leveled field.now in
+        (turn : ℕ) → IsBehind block.old block.new (loop_lines style (loop_centre v cell.index turn edges.now)) }
     ensures few { block.new.page ≤ block.old.page + 64 }
     ensures bytes { block.new.total ≤ block.old.total + 64 }
 {
@@ -146,7 +147,8 @@ fn put_centres<H: Heights>(
     requires small { All (λ v. unsigned_abs v < 2 ^ 44) corners.now }
     requires loops { row_loops case ≡ loops_at (H.leveled field.now) cell.index }
     requires room { block.old.page + 256 ≤ 4096 }
-    ensures put { IsBehind block.old block.new (loop_lines style (loop_centres (H.leveled field.now) cell.index 0 (row_loops case))) }
+    ensures put { let v = H.leveled field.now in
+        IsBehind block.old block.new (loop_lines style (loop_centres v cell.index 0 (row_loops case))) }
     ensures bytes { block.new.total ≤ block.old.total + 256 }
 {
     for turn in 0..loop_count(case) {
@@ -165,7 +167,8 @@ fn write_cell<H: Heights, K: Sink>(
 ) -> Result<(), Failed>
     requires cell { IsCellAt (H.leveled field.now).grid cell }
     requires case { IsCaseOf (H.leveled field.now) cell.index case }
-    ensures adds { Adds (K.seen sink.old) (K.seen sink.new) block.old block.new result (centres_text style (H.leveled field.now) cell.index 1) }
+    ensures adds { let v = H.leveled field.now in
+        Adds (K.seen sink.old) (K.seen sink.new) block.old block.new result (centres_text style v cell.index 1) }
     ensures bytes { IfOk result (λ _. block.new.total ≤ block.old.total + 256) }
 {
     let case = CaseRow::of(case);
@@ -192,8 +195,9 @@ fn write_eight<H: Heights, K: Sink>(
     requires eight { 8 * eight + 1 < (H.leveled field.now).grid.nx }
     ensures adds { let v = H.leveled field.now in
         Adds (K.seen sink.old) (K.seen sink.new) block.old block.new result
-        (centres_text style v (row_start v.grid cells.now.y cells.now.z + 8 * eight) (eight_at v.grid (eight + 1) - 8 * eight)) }
-    ensures bytes { IfOk result (λ _. block.new.total ≤ block.old.total + 256 * (eight_at (H.leveled field.now).grid (eight + 1) - 8 * eight)) }
+        (centres_text style v (cells_start v cells.now + 8 * eight) (eight_at v.grid (eight + 1) - 8 * eight)) }
+    ensures bytes { let end = eight_at (H.leveled field.now).grid (eight + 1) in
+        IfOk result (λ _. block.new.total ≤ block.old.total + 256 * (end - 8 * eight)) }
 {
     let last = field.sizes().nx() - 1;
     let from = 8 * eight;
@@ -219,7 +223,7 @@ fn write_cells<H: Heights, K: Sink>(
     requires cells { AreCells (H.leveled field.now) cells.now }
     ensures adds { let v = H.leveled field.now in
         Adds (K.seen sink.old) (K.seen sink.new) block.old block.new result
-        (centres_text style v (row_start v.grid cells.now.y cells.now.z) v.grid.nx) }
+        (centres_text style v (cells_start v cells.now) v.grid.nx) }
     ensures bytes { IfOk result (λ _. block.new.total ≤ block.old.total + 256 * (H.leveled field.now).grid.nx) }
 {
     // The last point of a row begins no cell.
@@ -241,12 +245,14 @@ fn write_row<R: MeshRows, K: Sink>(
 ) -> Result<(), Failed>
     requires ranks { AreRowRanks (R.leveled rows.old) walk.ranks.now walk.total }
     requires row { row < row_count (R.leveled rows.old).grid }
-    ensures adds { Adds (K.seen sink.old) (K.seen sink.new) block.old block.new result (row_centres_text walk.entry.style (R.leveled rows.old) row) }
+    ensures adds { let v = R.leveled rows.old in
+        Adds (K.seen sink.old) (K.seen sink.new) block.old block.new result (row_centres_text walk.entry.style v row) }
     ensures bytes { IfOk result (λ _. block.new.total ≤ block.old.total + 256 * (R.leveled rows.old).grid.nx) }
     ensures volume { R.leveled rows.new ≡ R.leveled rows.old }
     ensures kept { R.kept rows.new ≡ R.kept rows.old }
     ensures least { R.spent rows.old ≤ R.spent rows.new }
-    ensures most { R.spent rows.new ≤ R.spent rows.old + cost_of_row (R.leveled rows.old).grid (R.row_cost (R.kept rows.old)) row }
+    ensures most { let cost = R.row_cost (R.kept rows.old) in
+        R.spent rows.new ≤ R.spent rows.old + cost_of_row (R.leveled rows.old).grid cost row }
 {
     let sizes = rows.sizes();
     let (y, z) = row_at(&sizes, row);
@@ -264,13 +270,15 @@ pub fn write_centres<R: MeshRows, K: Sink>(
     sink: &mut K,
 ) -> Result<(), Failed>
     requires ranks { AreRowRanks (R.leveled rows.old) walk.ranks.now walk.total }
-    ensures adds { Adds (K.seen sink.old) (K.seen sink.new) block.old block.new result (all_centres_text walk.entry.style (R.leveled rows.old)) }
+    ensures adds { let v = R.leveled rows.old in
+        Adds (K.seen sink.old) (K.seen sink.new) block.old block.new result (all_centres_text walk.entry.style v) }
     ensures bytes { let g = (R.leveled rows.old).grid in
         IfOk result (λ _. block.new.total ≤ block.old.total + 256 * (g.nx * row_count g)) }
     ensures volume { R.leveled rows.new ≡ R.leveled rows.old }
     ensures kept { R.kept rows.new ≡ R.kept rows.old }
     ensures least { R.spent rows.old ≤ R.spent rows.new }
-    ensures most { R.spent rows.new ≤ R.spent rows.old + cells_cost (R.leveled rows.old) (R.row_cost (R.kept rows.old)) }
+    ensures most { let cost = R.row_cost (R.kept rows.old) in
+        R.spent rows.new ≤ R.spent rows.old + cells_cost (R.leveled rows.old) cost }
 {
     let sizes = rows.sizes();
     let mut cells = RowCells::new();

@@ -111,8 +111,8 @@ fn copy_row<H: Heights>(field: &H, y: u32, z: u32, from: &RankedRow, to: &mut Ra
     copy_numbers(nx + 1, &from.first, &mut to.first);
 }
 
-/// The rows of points round a row of cells: its own, the next one along y, and the same two of the next slice. `up` and `both`
-/// are the first two of the row of cells behind, which begins with the row of points numbered `next`.
+/// The rows of points round a row of cells: its own, the next one along y, and the same two of the next slice. `up` and
+/// `both` are the first two of the row of cells behind, which begins with the row of points numbered `next`.
 #[derive(Drop)]
 pub struct Corners {
     pub near: RankedRow,
@@ -136,8 +136,8 @@ impl Corners {
         }
     }
 
-    /// Ranks the rows of points that a row of cells begins with in its two slices: where the row of cells before it was the last
-    /// one that was ranked, they are its other two.
+    /// Ranks the rows of points that a row of cells begins with in its two slices: where the row of cells before it was the
+    /// last one that was ranked, they are its other two.
     fn rank_near<R: MeshRows>(&mut self, rows: &mut R, walk: Walk<'_>, y: u32, z: u32)
         requires ready { IsReady (R.leveled rows.old) self.old }
         requires ranks { AreRowRanks (R.leveled rows.old) walk.ranks.now walk.total }

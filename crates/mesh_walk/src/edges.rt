@@ -17,13 +17,7 @@ use mesh_lines::{Block, Style};
 use mesh_rows::MeshRows;
 
 /// Fills in where the crossing edges of a row are crossed, at the front of a buffer.
-fn set_places<R: MeshRows>(
-    rows: &mut R,
-    y: u32,
-    z: u32,
-    edges: &[u16],
-    places: &mut [u16; ROOM],
-)
+fn set_places<R: MeshRows>(rows: &mut R, y: u32, z: u32, edges: &[u16], places: &mut [u16; ROOM])
     requires y { y < (R.leveled rows.old).grid.ny }
     requires z { z < (R.leveled rows.old).grid.nz }
     requires edges { AreEdges (R.leveled rows.old) y z edges.now }
@@ -36,8 +30,8 @@ fn set_places<R: MeshRows>(
     rows.fill_places(y, z, edges, &mut places[..edges.len()]);
 }
 
-/// The crossing edges that begin in a row of points: so many offsets, three times how far an edge's point is along x and its
-/// axis, and where they are crossed, in thousandths from their lower ends. The flags of the points are a buffer.
+/// The crossing edges that begin in a row of points: so many offsets, three times how far an edge's point is along x and
+/// its axis, and where they are crossed, in thousandths from their lower ends. The flags of the points are a buffer.
 #[derive(Drop)]
 pub struct RowEdges {
     pub y: u32,
@@ -173,7 +167,8 @@ fn write_row<R: MeshRows, K: Sink>(
 ) -> Result<(), Failed>
     requires ranks { AreRowRanks (R.leveled rows.old) walk.ranks.now walk.total }
     requires row { row < row_count (R.leveled rows.old).grid }
-    ensures adds { Adds (K.seen sink.old) (K.seen sink.new) block.old block.new result (row_edges_text walk.entry.style (R.leveled rows.old) row) }
+    ensures adds { let v = R.leveled rows.old in
+        Adds (K.seen sink.old) (K.seen sink.new) block.old block.new result (row_edges_text walk.entry.style v row) }
     ensures bytes { IfOk result (λ _. block.new.total ≤ block.old.total + 192 * (R.leveled rows.old).grid.nx) }
     ensures volume { R.leveled rows.new ≡ R.leveled rows.old }
     ensures kept { R.kept rows.new ≡ R.kept rows.old }
@@ -196,7 +191,8 @@ pub fn write_edges<R: MeshRows, K: Sink>(
     sink: &mut K,
 ) -> Result<(), Failed>
     requires ranks { AreRowRanks (R.leveled rows.old) walk.ranks.now walk.total }
-    ensures adds { Adds (K.seen sink.old) (K.seen sink.new) block.old block.new result (all_edges_text walk.entry.style (R.leveled rows.old)) }
+    ensures adds { let v = R.leveled rows.old in
+        Adds (K.seen sink.old) (K.seen sink.new) block.old block.new result (all_edges_text walk.entry.style v) }
     ensures bytes { let g = (R.leveled rows.old).grid in
         IfOk result (λ _. block.new.total ≤ block.old.total + 192 * (g.nx * row_count g)) }
     ensures volume { R.leveled rows.new ≡ R.leveled rows.old }

@@ -4,9 +4,8 @@ ghost use Rattle.std.specs.List.{sum_by};
 ghost use Rattle.iso_defs.specs.Rows.{row_count};
 ghost use Rattle.cell_loops.specs.Loops.{IsLoop, row_loops};
 ghost use Rattle.flat_mesh.specs.Faces.{cell_faces, centres_of, loop_faces};
-ghost use Rattle.flat_mesh.specs.Rows.{row_start};
 ghost use Rattle.mesh_lines.specs.Blocks.{Adds, IsBehind};
-ghost use Rattle.mesh_walk.specs.Cells.{AreCells, eight_at};
+ghost use Rattle.mesh_walk.specs.Cells.{AreCells, cells_start, eight_at};
 ghost use Rattle.mesh_walk.specs.FourRows.{AreCorners, HasNumber, IsReady};
 ghost use Rattle.mesh_walk.specs.Numbers.{AreRowRanks, cells_cost, cost_of_row};
 ghost use Rattle.mesh_walk.specs.Spans.{all_faces_text, face_lines, faces_text, row_faces_text};
@@ -38,7 +37,8 @@ fn put_fan(style: Style, numbers: &[u32; 12], edges: &[u8], centre: u32, block: 
     requires long { 3 < length edges.now }
     requires few { length edges.now ≤ 12 }
     requires room { block.old.page + 768 ≤ 4096 }
-    ensures put { IsBehind block.old block.new (face_lines style.format (loop_faces (map (slice_index numbers.now) edges.now) centre)) }
+    ensures put { let corners = map (slice_index numbers.now) edges.now in
+        IsBehind block.old block.new (face_lines style.format (loop_faces corners centre)) }
     ensures few { block.new.page ≤ block.old.page + 768 }
     ensures bytes { block.new.total ≤ block.old.total + 768 }
 {
@@ -53,12 +53,13 @@ fn put_fan(style: Style, numbers: &[u32; 12], edges: &[u8], centre: u32, block: 
     block.push_texts(style, &last, &first, &centre_text);
 }
 
-/// Puts the lines of the triangles of a loop behind the others, from the numbers of the edges of its cell and that of its
-/// centre.
+/// Puts the lines of the triangles of a loop behind the others, from the numbers of the edges of its cell and that of
+/// its centre.
 fn put_loop(style: Style, numbers: &[u32; 12], edges: &[u8], centre: u32, block: &mut Block)
     requires edges { IsLoop edges.now }
     requires room { block.old.page + 768 ≤ 4096 }
-    ensures put { IsBehind block.old block.new (face_lines style.format (loop_faces (map (slice_index numbers.now) edges.now) centre)) }
+    ensures put { let corners = map (slice_index numbers.now) edges.now in
+        IsBehind block.old block.new (face_lines style.format (loop_faces corners centre)) }
     ensures few { block.new.page ≤ block.old.page + 768 }
     ensures bytes { block.new.total ≤ block.old.total + 768 }
 {
@@ -82,12 +83,13 @@ fn behind_loop(edges: &[u8], next: u32) -> u32
     if edges.len() > 3 { next + 1 } else { next }
 }
 
-/// Puts the lines of the triangles of the loops of a case behind the others, where `first` is the number of the first centre,
-/// and gives that of the next one.
+/// Puts the lines of the triangles of the loops of a case behind the others, where `first` is the number of the first
+/// centre, and gives that of the next one.
 fn put_loops(style: Style, numbers: &[u32; 12], case: CaseRow, first: u32, block: &mut Block) -> u32
     requires room { block.old.page + 3072 ≤ 4096 }
     requires first { first < 2 ^ 31 }
-    ensures put { IsBehind block.old block.new (face_lines style.format (cell_faces numbers.now (row_loops case) first)) }
+    ensures put { let faces = cell_faces numbers.now (row_loops case) first in
+        IsBehind block.old block.new (face_lines style.format faces) }
     ensures next { result ≡ first + sum_by centres_of (row_loops case) }
     ensures bytes { block.new.total ≤ block.old.total + 3072 }
 {
@@ -109,8 +111,8 @@ struct FaceRow<'a> {
 }
 
 impl<'a> FaceRow<'a> {
-    /// Puts the lines of the triangles of the cell at a place behind the others, where `next` is the number of its first centre,
-    /// and gives that of the next cell's.
+    /// Puts the lines of the triangles of the cell at a place behind the others, where `next` is the number of its first
+    /// centre, and gives that of the next cell's.
     fn write_cell<H: Heights, K: Sink>(
         self,
         field: &H,
@@ -123,12 +125,12 @@ impl<'a> FaceRow<'a> {
         requires corners { AreCorners (H.leveled field.now) self.cells.now.y self.cells.now.z self.corners.now }
         requires x { x + 1 < (H.leveled field.now).grid.nx }
         requires next { let v = H.leveled field.now in
-            HasNumber v (row_start v.grid self.cells.now.y self.cells.now.z + x) next }
+            HasNumber v (cells_start v self.cells.now + x) next }
         ensures adds { let v = H.leveled field.now in
             Adds (K.seen sink.old) (K.seen sink.new) block.old block.new result
-            (faces_text self.entry.style.format v (row_start v.grid self.entry.cells.now.y self.entry.cells.now.z + x) 1) }
+            (faces_text self.entry.style.format v (cells_start v self.entry.cells.now + x) 1) }
         ensures next { let v = H.leveled field.now in
-            IfOk result (λ n. HasNumber v (row_start v.grid self.entry.cells.now.y self.entry.cells.now.z + x + 1) n) }
+            IfOk result (λ n. HasNumber v (cells_start v self.entry.cells.now + x + 1) n) }
         ensures bytes { IfOk result (λ _. block.new.total ≤ block.old.total + 3072) }
     {
         let _ = field.sizes();
@@ -143,8 +145,8 @@ impl<'a> FaceRow<'a> {
         Ok(next)
     }
 
-    /// Puts the lines of the triangles of eight cells of the row behind the others, or of those that are left at its end, where
-    /// `next` is the number of the first centre there, and gives that of the first one behind.
+    /// Puts the lines of the triangles of eight cells of the row behind the others, or of those that are left at its end,
+    /// where `next` is the number of the first centre there, and gives that of the first one behind.
     #[inline(always)]
     fn write_eight<H: Heights, K: Sink>(
         self,
@@ -158,13 +160,13 @@ impl<'a> FaceRow<'a> {
         requires corners { AreCorners (H.leveled field.now) self.cells.now.y self.cells.now.z self.corners.now }
         requires eight { 8 * eight + 1 < (H.leveled field.now).grid.nx }
         requires next { let v = H.leveled field.now in
-            HasNumber v (row_start v.grid self.cells.now.y self.cells.now.z + 8 * eight) next }
+            HasNumber v (cells_start v self.cells.now + 8 * eight) next }
         ensures adds { let v = H.leveled field.now in
-            let start = row_start v.grid self.entry.cells.now.y self.entry.cells.now.z in
+            let start = cells_start v self.entry.cells.now in
             Adds (K.seen sink.old) (K.seen sink.new) block.old block.new result
             (faces_text self.entry.style.format v (start + 8 * eight) (eight_at v.grid (eight + 1) - 8 * eight)) }
         ensures next { let v = H.leveled field.now in
-            let start = row_start v.grid self.entry.cells.now.y self.entry.cells.now.z in
+            let start = cells_start v self.entry.cells.now in
             IfOk result (λ n. HasNumber v (start + eight_at v.grid (eight + 1)) n) }
         ensures bytes { let end = eight_at (H.leveled field.now).grid (eight + 1) in
             IfOk result (λ _. block.new.total ≤ block.old.total + 3072 * (end - 8 * eight)) }
@@ -193,12 +195,13 @@ impl<'a> FaceRow<'a> {
         requires cells { AreCells (H.leveled field.now) self.cells.now }
         requires corners { AreCorners (H.leveled field.now) self.cells.now.y self.cells.now.z self.corners.now }
         requires next { let v = H.leveled field.now in
-            HasNumber v (row_start v.grid self.cells.now.y self.cells.now.z) next }
+            HasNumber v (cells_start v self.cells.now) next }
         ensures adds { let v = H.leveled field.now in
-            let start = row_start v.grid self.entry.cells.now.y self.entry.cells.now.z in
-            Adds (K.seen sink.old) (K.seen sink.new) block.old block.new result (faces_text self.entry.style.format v start v.grid.nx) }
+            let start = cells_start v self.entry.cells.now in
+            Adds (K.seen sink.old) (K.seen sink.new) block.old block.new result
+            (faces_text self.entry.style.format v start v.grid.nx) }
         ensures next { let v = H.leveled field.now in
-            IfOk result (λ n. HasNumber v (row_start v.grid self.entry.cells.now.y self.entry.cells.now.z + v.grid.nx) n) }
+            IfOk result (λ n. HasNumber v (cells_start v self.entry.cells.now + v.grid.nx) n) }
         ensures bytes { IfOk result (λ _. block.new.total ≤ block.old.total + 3072 * (H.leveled field.now).grid.nx) }
     {
         // The last point of a row begins no cell.
@@ -211,8 +214,8 @@ impl<'a> FaceRow<'a> {
     }
 }
 
-/// How far the lines of the triangles are: the number of the next centre, and buffers for a row of cells and the rows of points
-/// round it.
+/// How far the lines of the triangles are: the number of the next centre, and buffers for a row of cells and the rows of
+/// points round it.
 #[derive(Drop)]
 struct Faces {
     cells: RowCells,
@@ -235,13 +238,15 @@ fn write_row<R: MeshRows, K: Sink>(
     requires next { HasNumber (R.leveled rows.old) ((R.leveled rows.old).grid.nx * row) faces.old.next }
     ensures adds { Adds (K.seen sink.old) (K.seen sink.new) block.old block.new result
         (row_faces_text walk.entry.style.format (R.leveled rows.old) row) }
-    ensures next { IfOk result (λ _. HasNumber (R.leveled rows.old) ((R.leveled rows.old).grid.nx * (row + 1)) faces.new.next) }
+    ensures next { let v = R.leveled rows.old in
+        IfOk result (λ _. HasNumber v (v.grid.nx * (row + 1)) faces.new.next) }
     ensures ready { IsReady (R.leveled rows.old) faces.new.corners }
     ensures bytes { IfOk result (λ _. block.new.total ≤ block.old.total + 3072 * (R.leveled rows.old).grid.nx) }
     ensures volume { R.leveled rows.new ≡ R.leveled rows.old }
     ensures kept { R.kept rows.new ≡ R.kept rows.old }
     ensures least { R.spent rows.old ≤ R.spent rows.new }
-    ensures most { R.spent rows.new ≤ R.spent rows.old + cost_of_row (R.leveled rows.old).grid (R.row_cost (R.kept rows.old)) row }
+    ensures most { let cost = R.row_cost (R.kept rows.old) in
+        R.spent rows.new ≤ R.spent rows.old + cost_of_row (R.leveled rows.old).grid cost row }
 {
     let sizes = rows.sizes();
     let (y, z) = row_at(&sizes, row);
@@ -273,7 +278,8 @@ pub fn write_faces<R: MeshRows, K: Sink>(
     ensures volume { R.leveled rows.new ≡ R.leveled rows.old }
     ensures kept { R.kept rows.new ≡ R.kept rows.old }
     ensures least { R.spent rows.old ≤ R.spent rows.new }
-    ensures most { R.spent rows.new ≤ R.spent rows.old + cells_cost (R.leveled rows.old) (R.row_cost (R.kept rows.old)) }
+    ensures most { let cost = R.row_cost (R.kept rows.old) in
+        R.spent rows.new ≤ R.spent rows.old + cells_cost (R.leveled rows.old) cost }
 {
     let sizes = rows.sizes();
     let mut faces = Faces {

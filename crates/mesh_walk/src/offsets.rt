@@ -7,8 +7,8 @@ use crossing_edges::begin_none;
 /// So many lattice edges begin in the longest row of points.
 pub const ROOM: usize = 3078;
 
-/// Writes the offset of an edge, and says where the next one's goes: behind it, or over it where the edge is not crossing. So
-/// there is no branch whose way a processor would have to guess.
+/// Writes the offset of an edge, and says where the next one's goes: behind it, or over it where the edge is not crossing.
+/// So there is no branch whose way a processor would have to guess.
 #[inline(always)]
 fn put_edge(edge: u16, crossing: bool, edges: &mut [u16; ROOM], at: usize) -> usize
     requires { at < 3078 }

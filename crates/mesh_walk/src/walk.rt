@@ -17,8 +17,8 @@ pub struct Walk<'a> {
 }
 
 impl<'a> Walk<'a> {
-    /// How many crossing edges begin in the rows before the one at these coordinates. Behind the last row of a slice stands the
-    /// first one of the next slice.
+    /// How many crossing edges begin in the rows before the one at these coordinates. Behind the last row of a slice stands
+    /// the first one of the next slice.
     pub fn edges_to_row<H: Heights>(self, field: &H, y: u32, z: u32) -> u32
         requires ranks { AreRowRanks (H.leveled field.now) self.ranks.now self.total }
         requires y { y ≤ (H.leveled field.now).grid.ny }
@@ -48,8 +48,8 @@ impl<'a> Walk<'a> {
         self.edges_to_row(field, y, z) != self.edges_to_row(field, y + 1, z)
     }
 
-    /// Whether no crossing edge begins in the four rows of points of a row of cells: its cells have no loops then. This saves
-    /// work and no text rests on it: the contract leaves `false` free.
+    /// Whether no crossing edge begins in the four rows of points of a row of cells: its cells have no loops then. This
+    /// saves work and no text rests on it: the contract leaves `false` free.
     pub fn is_quiet<H: Heights>(self, field: &H, y: u32, z: u32) -> bool
         requires ranks { AreRowRanks (H.leveled field.now) self.ranks.now self.total }
         requires y { y + 1 < (H.leveled field.now).grid.ny }

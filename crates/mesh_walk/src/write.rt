@@ -29,13 +29,15 @@ fn write_lines<R: MeshRows, K: Sink>(
     sink: &mut K,
 ) -> Result<(), Failed>
     requires ranks { AreRowRanks (R.leveled rows.old) walk.ranks.now walk.total }
-    ensures adds { Adds (K.seen sink.old) (K.seen sink.new) block.old block.new result (lines_text walk.entry.style (R.leveled rows.old) faces) }
+    ensures adds { let v = R.leveled rows.old in
+        Adds (K.seen sink.old) (K.seen sink.new) block.old block.new result (lines_text walk.entry.style v faces) }
     ensures bytes { let g = (R.leveled rows.old).grid in
         IfOk result (λ _. block.new.total ≤ block.old.total + 256 + 3520 * (g.nx * row_count g)) }
     ensures volume { R.leveled rows.new ≡ R.leveled rows.old }
     ensures kept { R.kept rows.new ≡ R.kept rows.old }
     ensures least { R.spent rows.old ≤ R.spent rows.new }
-    ensures most { R.spent rows.new ≤ R.spent rows.old + 2 * cells_cost (R.leveled rows.old) (R.row_cost (R.kept rows.old)) }
+    ensures most { let cost = R.row_cost (R.kept rows.old) in
+        R.spent rows.new ≤ R.spent rows.old + 2 * cells_cost (R.leveled rows.old) cost }
 {
     write_edges(rows, walk, block, sink)?;
     write_centres(rows, walk, block, sink)?;
@@ -44,9 +46,9 @@ fn write_lines<R: MeshRows, K: Sink>(
     Ok(())
 }
 
-/// Appends the text of the mesh of a volume at a level in a style, and says how many vertices, faces and bytes were written. The
-/// mesh is never held, and no memory is taken. `Failed` comes only where the sink's count rose; a front of the text was then
-/// taken. Each row of cells is asked for at most twice. `ranks` is a buffer.
+/// Appends the text of the mesh of a volume at a level in a style, and says how many vertices, faces and bytes were
+/// written. The mesh is never held, and no memory is taken. `Failed` comes only where the sink's count rose; a front of the
+/// text was then taken. Each row of cells is asked for at most twice. `ranks` is a buffer.
 pub fn write_mesh<R: MeshRows, K: Sink>(
     rows: &mut R,
     style: Style,
