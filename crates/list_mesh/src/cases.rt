@@ -47,7 +47,8 @@ fn eight_at(bytes: &[u8], from: usize) -> u64
 fn have_no_loops<H: Heights>(field: &H, low: Point, bytes: &[u8]) -> bool
     requires eight { low.x + 8 < (H.leveled field.now).grid.nx }
     requires bytes { AreSignBytes (H.leveled field.now) low.y low.z bytes.now }
-    ensures { IsTrue result → (k : ℕ) → k < 8 → loops_at (H.leveled field.now) (index (H.leveled field.now).grid (low.x + k) low.y low.z) ≡ [] }
+    ensures { let v = H.leveled field.now in
+        IsTrue result → (k : ℕ) → k < 8 → loops_at v (index v.grid (low.x + k) low.y low.z) ≡ [] }
 {
     let _ = field.sizes();
     let eight = eight_at(bytes, low.x as usize);
@@ -231,7 +232,8 @@ pub struct CellCases {
 fn keep_row(row_cases: &[u16], cases: &mut CellCases) -> Result<(), AllocError>
     requires { length cases.old.list.items < 2 ^ 32 }
     ensures list { IfOk result (λ _. cases.new.list.items ≡ cases.old.list.items ++ row_cases.now) }
-    ensures starts { IfOk result (λ _. cases.new.starts.items ≡ cases.old.starts.items ++ (length cases.old.list.items ∷ [])) }
+    ensures starts { let start = length cases.old.list.items in
+        IfOk result (λ _. cases.new.starts.items ≡ cases.old.starts.items ++ (start ∷ [])) }
 {
     let start = cases.list.len() as u32;
     cases.list.extend_from_slice(row_cases)?;
@@ -260,7 +262,8 @@ fn add_row<H: Heights>(
     requires signs { signs.now ≡ map (sign_of (H.leveled field.now).level) (H.leveled field.now).samples }
     requires room { HaveRoom (H.leveled field.now).grid row.old }
     requires cases { HaveFirstCases (H.leveled field.now) (y + (H.leveled field.now).grid.ny * z) cases.old }
-    ensures cases { IfOk result (λ _. HaveFirstCases (H.leveled field.now) (y + (H.leveled field.now).grid.ny * z + 1) cases.new) }
+    ensures cases { let v = H.leveled field.now in
+        IfOk result (λ _. HaveFirstCases v (y + v.grid.ny * z + 1) cases.new) }
     ensures room { HaveRoom (H.leveled field.now).grid row.new }
 {
     let _ = field.sizes();

@@ -50,8 +50,10 @@ fn count_run<H: Heights>(field: &H, low: Point, end: u32, cases: &[u16], counts:
     requires end { end < (H.leveled field.now).grid.nx }
     requires count { length cases.now ≡ (H.leveled field.now).grid.nx }
     requires cases { AreCases (H.leveled field.now) low.y low.z cases.now }
-    requires counts { AreCounts (H.leveled field.now) (row_start (H.leveled field.now).grid low.y low.z + low.x) counts }
-    ensures { AreCounts (H.leveled field.now) (row_start (H.leveled field.now).grid low.y low.z + end) result }
+    requires counts { let v = H.leveled field.now in
+        AreCounts v (row_start v.grid low.y low.z + low.x) counts }
+    ensures { let v = H.leveled field.now in
+        AreCounts v (row_start v.grid low.y low.z + end) result }
 {
     let sizes = field.sizes();
     let start = sizes.nx() * (low.y + sizes.ny() * low.z);
@@ -74,8 +76,10 @@ fn count_eight<H: Heights>(field: &H, low: Point, cases: &[u16], counts: Counts)
     requires eight { low.x + 8 < (H.leveled field.now).grid.nx }
     requires count { length cases.now ≡ (H.leveled field.now).grid.nx }
     requires cases { AreCases (H.leveled field.now) low.y low.z cases.now }
-    requires counts { AreCounts (H.leveled field.now) (row_start (H.leveled field.now).grid low.y low.z + low.x) counts }
-    ensures { AreCounts (H.leveled field.now) (row_start (H.leveled field.now).grid low.y low.z + (low.x + 8)) result }
+    requires counts { let v = H.leveled field.now in
+        AreCounts v (row_start v.grid low.y low.z + low.x) counts }
+    ensures { let v = H.leveled field.now in
+        AreCounts v (row_start v.grid low.y low.z + (low.x + 8)) result }
 {
     let _ = field.sizes();
     if are_zeros(cases, low.x as usize) {

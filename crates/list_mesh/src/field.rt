@@ -121,7 +121,8 @@ impl<'a, S: Samples> ListField<'a, S> {
         requires y { y < self.now.grid.ny }
         requires z { z < self.now.grid.nz }
         requires room { from + self.now.grid.nx ≤ length into.old }
-        ensures inside { (x : ℕ) → x < self.now.grid.nx → sample into.new (from + x) ≡ sample self.now.samples (index self.now.grid x y z) }
+        ensures inside { let v = self.now in
+            (x : ℕ) → x < v.grid.nx → sample into.new (from + x) ≡ sample v.samples (index v.grid x y z) }
         ensures before { (k : ℕ) → k < from → sample into.new k ≡ sample into.old k }
     {
         let first = Point { x: 0, y, z };
@@ -156,8 +157,10 @@ impl<'a, S: Samples> ListField<'a, S> {
         requires z { z < self.now.grid.nz }
         requires ends { HaveEnds self.now y z ends.now }
         requires edge { edge < 3 * self.now.grid.nx }
-        requires crossing { is_crossing self.now.grid (heights self.now) (3 * row_start self.now.grid y z + edge) ≡ true }
-        ensures { result ≡ edge_place self.now.grid (heights self.now) (3 * row_start self.now.grid y z + edge) }
+        requires crossing { let v = self.now in
+            is_crossing v.grid (heights v) (3 * row_start v.grid y z + edge) ≡ true }
+        ensures { let v = self.now in
+            result ≡ edge_place v.grid (heights v) (3 * row_start v.grid y z + edge) }
     {
         let _ = (y, z);
         let nx = self.sizes.nx() as usize;

@@ -56,8 +56,10 @@ impl<'a, S: Samples> ListMesh<'a, S> {
     /// Appends the text of the mesh in a style, and says how many vertices, faces and bytes were written. No memory is taken. `Failed`
     /// comes only where the sink's count rose; a front of the text was then taken.
     pub fn write<K: Sink>(&mut self, style: Style, sink: &mut K) -> Result<Written, Failed>
-        ensures text { Puts (K.seen sink.old) (K.seen sink.new) result (text_of style (mesh_of self.old.grid (heights self.old))) }
-        ensures written { IfOk result (λ w. w ≡ written_of style (mesh_of self.old.grid (heights self.old))) }
+        ensures text { let mesh = mesh_of self.old.grid (heights self.old) in
+            Puts (K.seen sink.old) (K.seen sink.new) result (text_of style mesh) }
+        ensures written { let mesh = mesh_of self.old.grid (heights self.old) in
+            IfOk result (λ w. w ≡ written_of style mesh) }
         ensures volume { self.new ≡ self.old }
     {
         write_mesh(&mut self.rows, style, &mut self.ranks, sink)
