@@ -5,7 +5,7 @@ ghost use Rattle.flat_mesh.specs.Lattice.{heights};
 ghost use Rattle.flat_mesh.specs.Rows.{row_start};
 ghost use Rattle.span_tree.specs.Spans.{IsRightFor};
 ghost use Rattle.iso_base.specs.Shifted.{field as field_of};
-ghost use Rattle.stitch_rows.specs.Bricks.{AreMarked, first_brick};
+ghost use Rattle.stitch_rows.specs.Bricks.{AreMarked};
 ghost use Rattle.stitch_rows.specs.Named.{NamesCases};
 ghost use Rattle.stitch_rows.specs.Rows.{at_level};
 ghost use Rattle.mesh_rows.specs.Rows.{AreCases};
@@ -24,26 +24,28 @@ use std::alloc::Global;
 use std::sync::ledger::Ledger;
 use stitch_rows::{ActiveRow, CellRows, Field, case_row, count_along};
 
-/// Labels the loops of the cells of a row, from their cases.
+/// Labels the loops of the cells that begin in a row of points, from their cases.
 fn add_row<T: Tally>(
     field: &Field,
     active: &ActiveRow,
     walked: &mut Walked<T>,
-    y: u32,
-    z: u32,
     cases: &[u16],
 ) -> Result<(), Memory>
     requires active { AreMarked field.now active.now }
-    requires first { active.now.first ≡ first_brick field.now.grid y z }
-    requires y { y + 1 < field.now.grid.ny }
-    requires z { z + 1 < field.now.grid.nz }
+    requires y { active.now.y + 1 < field.now.grid.ny }
+    requires z { active.now.z + 1 < field.now.grid.nz }
     requires count { length cases.now ≡ field.now.grid.nx }
-    requires cases { AreCases field.now y z cases.now }
-    requires state { IsWalked T.value T.fits T.of_loop field.now (y + field.now.grid.ny * z) (loops_before field.now (row_start field.now.grid y z)) walked.old.labels walked.old.tallies.items walked.old.edges }
-    ensures { OnOk result (IsWalked T.value T.fits T.of_loop field.now (y + field.now.grid.ny * z) (loops_before field.now (row_start field.now.grid y z + field.now.grid.nx))
+    requires cases { AreCases field.now active.now.y active.now.z cases.now }
+    requires state { let row = active.now.y + field.now.grid.ny * active.now.z in
+        IsWalked T.value T.fits T.of_loop field.now row (loops_before field.now (row_start field.now.grid active.now.y active.now.z))
+        walked.old.labels walked.old.tallies.items walked.old.edges }
+    ensures { let row = active.now.y + field.now.grid.ny * active.now.z in
+        let end = row_start field.now.grid active.now.y active.now.z + field.now.grid.nx in
+        OnOk result (IsWalked T.value T.fits T.of_loop field.now row (loops_before field.now end)
         walked.new.labels walked.new.tallies.items walked.new.edges) }
 {
     let sizes = field.sizes();
+    let (y, z) = (active.y, active.z);
     let places = walked.labels.places(y + sizes.ny() * z);
     let row = RowCells {
         y,
@@ -53,11 +55,11 @@ fn add_row<T: Tally>(
     };
     let last = sizes.nx() - 1;
     let count = count_along(sizes.nx());
-    let mut x = active.next_from(field, 0, y, z);
+    let mut x = active.next_from(field, 0);
     while x < count {
         let end = (8 * x + 8).min(last);
         add_cells(field, walked, &row, 8 * x, end)?;
-        x = active.next_from(field, x + 1, y, z);
+        x = active.next_from(field, x + 1);
     }
     Ok(())
 }
@@ -87,43 +89,29 @@ struct RowWalk<'a, T: Tally> {
 }
 
 impl<'a, T: Tally> RowWalk<'a, T> {
-    /// Labels the loops of the row of cells that a row of points begins, if it begins one.
-    fn add_row_from<R: CellRows, L: Ledger>(
+    /// Labels the loops of the row of cells that the row of points at hand begins, if it begins one.
+    fn add_row_here<R: CellRows, L: Ledger>(
         &mut self,
         rows: &mut R,
-        y: u32,
-        z: u32,
         steps: &mut Steps<L>,
     ) -> Result<(), Memory>
-        requires first { self.old.active.first ≡ first_brick self.old.field.grid y z }
-        requires y { y < self.old.field.grid.ny }
-        requires z { z < self.old.field.grid.nz }
+        requires y { self.old.active.y < self.old.field.grid.ny }
+        requires z { self.old.active.z < self.old.field.grid.nz }
         requires named { NamesCases (R.named rows.old) self.old.field.grid (heights self.old.field) }
-        requires state { IsAt T.value T.fits T.of_loop self.old.field (y + self.old.field.grid.ny * z) (row_start self.old.field.grid y z) self.old }
+        requires state { let v = self.old.field in let at = self.old.active in
+            IsAt T.value T.fits T.of_loop v (at.y + v.grid.ny * at.z) (row_start v.grid at.y at.z) self.old }
         ensures same { R.named rows.new ≡ R.named rows.old }
-        ensures state { OnOk result (IsAt T.value T.fits T.of_loop self.old.field (y + self.old.field.grid.ny * z) (row_start self.old.field.grid y z + self.old.field.grid.nx) self.new) }
+        ensures state { let v = self.old.field in let at = self.old.active in
+            OnOk result (IsAt T.value T.fits T.of_loop v (at.y + v.grid.ny * at.z) (row_start v.grid at.y at.z + v.grid.nx) self.new) }
     {
         let sizes = self.field.sizes();
+        let (y, z) = (self.active.y, self.active.z);
         if y + 1 >= sizes.ny() || z + 1 >= sizes.nz() {
             return Ok(());
         }
-        case_row(
-            &self.field,
-            &self.active,
-            rows,
-            y,
-            z,
-            self.cases.as_mut_slice(),
-            steps,
-        );
-        add_row(
-            &self.field,
-            &self.active,
-            &mut self.walked,
-            y,
-            z,
-            &self.cases,
-        )?;
+        let (field, active) = (&self.field, &self.active);
+        case_row(field, active, rows, self.cases.as_mut_slice(), steps);
+        add_row(field, active, &mut self.walked, &self.cases)?;
         Ok(())
     }
 
@@ -145,10 +133,10 @@ impl<'a, T: Tally> RowWalk<'a, T> {
     {
         let sizes = self.field.sizes();
         self.active.mark(&self.field, y, z);
-        if self.active.next_from(&self.field, 0, y, z) >= count_along(sizes.nx()) {
+        if self.active.next_from(&self.field, 0) >= count_along(sizes.nx()) {
             return Ok(());
         }
-        self.add_row_from(rows, y, z, steps)?;
+        self.add_row_here(rows, steps)?;
         leave_row(&self.field, &mut self.walked, y, z)?;
         Ok(())
     }

@@ -2,6 +2,8 @@ use Rattle.std.proofs.Common.{◌≡◌, ◌∙◌, ◌+◌, ◌*◌, ◌≤◌,
 use Rattle.iso_defs.specs.Grid.{Grid}
 use Rattle.flat_mesh.specs.Lattice.{Leveled}
 use Rattle.flat_mesh.specs.Rows.{row_start}
+use Rattle.stitch_rows.specs.Rows.{AreStill}
+use Rattle.stitch_rows.proofs.NextBricks.{at_row}
 use Rattle.part_walk.specs.Walks.{IsWalked, loops_before}
 use Rattle.part_walk.proofs.RowLaws.{no_crossing, quiet_row, quiet_to, row_low, start_next}
 use Rattle.part_walk.proofs.rows.RowWalk.walk_row.Goals as goal
@@ -11,13 +13,14 @@ returns-then-next_from-count_along-clause-state g c =
     let v = c.args.self.now.field in
     let row : ℕ = c.args.y + v.grid.ny * c.args.z in
     let is = c.sizes-sizes.ensures.leveled.grid in
+    let still = at_row (λ y z. AreStill v y z 0 c.next_from.result) _ _ _ _ c.mark.ensures.y c.mark.ensures.z c.next_from.ensures in
     let low = row_low v.grid c.args.y c.args.z c.requires.y c.requires.z in
     let l = c.args.self.now.walked in
     let nx : c.nx.result ≡ v.grid.nx = c.nx.ensures.value ∙ ap (λ (s : Grid). s.nx) c.sizes-sizes.ensures.value in
     let far : v.grid.nx ≤ 8 * c.next_from.result + 1 = omega (arith, c.if-next_from-count_along.true, c.count_along.ensures.value, nx) in
     let start : row_start v.grid c.args.y c.args.z + 0 ≡ row_start v.grid c.args.y c.args.z = omega arith in
     let quiet : loops_before v (row_start v.grid c.args.y c.args.z + v.grid.nx) ≡ loops_before v (row_start v.grid c.args.y c.args.z)
-    = quiet_to v c.args.y c.args.z c.requires.y c.requires.z 0 v.grid.nx (omega arith) (omega arith) (λ x wide from low hy hz. c.next_from.ensures.cells x wide (omega arith) (omega (arith, wide, far)) hy hz) ∙ ap (loops_before v) start in
+    = quiet_to v c.args.y c.args.z c.requires.y c.requires.z 0 v.grid.nx (omega arith) (omega arith) (λ x wide from low hy hz. still.cells x wide (omega arith) (omega (arith, wide, far)) hy hz) ∙ ap (loops_before v) start in
     let next = start_next v c.args.y c.args.z c.requires.y c.requires.z in
     let h : IsWalked g.T.Tally.value g.T.Tally.fits g.T.Tally.of_loop v row (loops_before v (v.grid.nx * (row + 1))) l.labels l.tallies.items l.edges
     = subst (λ ls. IsWalked g.T.Tally.value g.T.Tally.fits g.T.Tally.of_loop v row ls l.labels l.tallies.items l.edges) (sym quiet ∙ ap (loops_before v) next) c.requires.state.walked in
@@ -28,12 +31,25 @@ returns-then-next_from-count_along-clause-state g c =
       walked = subst (λ q. IsWalked g.T.Tally.value g.T.Tally.fits g.T.Tally.of_loop v (row + 1) (loops_before v q) l.labels l.tallies.items l.edges) (sym next)
           (quiet_row v g.T.Tally.value g.T.Tally.fits g.T.Tally.of_loop row l.labels l.tallies.items l.edges is low h
           (λ m first last. no_crossing v c.args.y c.args.z c.requires.y c.requires.z
-          (λ x wide. c.next_from.ensures.points x wide (omega arith) (omega (arith, far, wide, is.x.least))) m first (omega (arith, last, next))));
+          (λ x wide. still.points x wide (omega arith) (omega (arith, far, wide, is.x.least))) m first (omega (arith, last, next))));
+    }
+
+pub add_row_here-requires-clause-state : goal.add_row_here-requires-clause-state
+add_row_here-requires-clause-state g c =
+    let v = c.args.self.now.field in
+    let l = c.args.self.now.walked in
+    record {
+      field = refl;
+      active = c.mark.ensures.marked;
+      count = c.requires.state.count;
+      walked = at_row
+          (λ y z. IsWalked g.T.Tally.value g.T.Tally.fits g.T.Tally.of_loop v (y + v.grid.ny * z) (loops_before v (row_start v.grid y z)) l.labels l.tallies.items l.edges)
+          _ _ _ _ (sym c.mark.ensures.y) (sym c.mark.ensures.z) c.requires.state.walked;
     }
 
 pub returns-clause-state : goal.returns-clause-state
 returns-clause-state g c =
-    let h = c.in_ok-add_row_from.ensures.state in
+    let h = c.in_ok-add_row_here.ensures.state in
     let l = c.leave_row.new.walked in
     record {
       field = h.field;

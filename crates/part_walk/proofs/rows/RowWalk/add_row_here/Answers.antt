@@ -4,35 +4,35 @@ use Rattle.flat_mesh.specs.Rows.{row_start}
 use Rattle.mesh_rows.specs.Rows.{AreCases}
 use Rattle.part_walk.specs.Walks.{IsWalked, loops_before}
 use Rattle.part_walk.proofs.RowLaws.{all_written, quiet_to}
-use Rattle.part_walk.proofs.rows.RowWalk.add_row_from.Goals as goal
-use Rattle.part_walk.proofs.rows.RowWalk.add_row_from.Goals.{then-y-ny-via-then-y-ny, then-y-ny-via-else-y-ny+then-z-nz}
+use Rattle.part_walk.proofs.rows.RowWalk.add_row_here.Goals as goal
+use Rattle.part_walk.proofs.rows.RowWalk.add_row_here.Goals.{then-y-ny-via-then-y-ny, then-y-ny-via-else-y-ny+then-z-nz}
 
 pub returns-then-y-ny-clause-state : goal.returns-then-y-ny-clause-state
 returns-then-y-ny-clause-state g c =
     let v = c.args.self.now.field in
     let l = c.args.self.now.walked in
     let ny : c.ny.result ≡ v.grid.ny = c.ny.ensures.value ∙ ap (λ (s : Grid). s.ny) c.sizes-sizes.ensures.value in
-    let none : c.args.y + 1 < v.grid.ny → c.args.z + 1 < v.grid.nz → ⊥
+    let none : c.args.self.now.active.y + 1 < v.grid.ny → c.args.self.now.active.z + 1 < v.grid.nz → ⊥
     = λ hy hz. elim c.then-y-ny.branch [
       | then-y-ny-via-then-y-ny w ↦ omega (arith, hy, ny, w.if-y-ny.true)
       | then-y-ny-via-else-y-ny+then-z-nz w ↦ (
           let nz : w.nz.result ≡ v.grid.nz = w.nz.ensures.value ∙ ap (λ (s : Grid). s.nz) c.sizes-sizes.ensures.value in
           omega (arith, hz, nz, w.if-z-nz.true))
     ] in
-    let start : row_start v.grid c.args.y c.args.z + 0 ≡ row_start v.grid c.args.y c.args.z = omega arith in
+    let start : row_start v.grid c.args.self.now.active.y c.args.self.now.active.z + 0 ≡ row_start v.grid c.args.self.now.active.y c.args.self.now.active.z = omega arith in
     record {
       field = refl;
       active = c.requires.state.active;
       count = c.requires.state.count;
-      walked = subst (λ ls. IsWalked g.T.Tally.value g.T.Tally.fits g.T.Tally.of_loop v (c.args.y + v.grid.ny * c.args.z) ls l.labels l.tallies.items l.edges)
-          (sym (quiet_to v c.args.y c.args.z c.requires.y c.requires.z 0 v.grid.nx (omega arith) (omega arith) (λ x wide from low hy hz. absurd (none hy hz)) ∙ ap (loops_before v) start)) c.requires.state.walked;
+      walked = subst (λ ls. IsWalked g.T.Tally.value g.T.Tally.fits g.T.Tally.of_loop v (c.args.self.now.active.y + v.grid.ny * c.args.self.now.active.z) ls l.labels l.tallies.items l.edges)
+          (sym (quiet_to v c.args.self.now.active.y c.args.self.now.active.z c.requires.y c.requires.z 0 v.grid.nx (omega arith) (omega arith) (λ x wide from low hy hz. absurd (none hy hz)) ∙ ap (loops_before v) start)) c.requires.state.walked;
     }
 
 pub add_row-requires-clause-cases : goal.add_row-requires-clause-cases
 add_row-requires-clause-cases g c =
     let cases = c.args.self.now.cases in
     let size : length c.case_row.new.cases ≡ length cases.items = c.case_row.auto.cases ∙ ap length c.as_mut_slice.ensures.value in
-    subst (AreCases c.args.self.now.field c.args.y c.args.z) (sym (c.deref.ensures.value ∙ all_written cases.len cases.items c.case_row.new.cases cases.ok.0 size)) c.case_row.ensures.cases
+    subst (AreCases c.args.self.now.field c.args.self.now.active.y c.args.self.now.active.z) (sym (c.deref.ensures.value ∙ all_written cases.len cases.items c.case_row.new.cases cases.ok.0 size)) c.case_row.ensures.cases
 
 pub returns-clause-state : goal.returns-clause-state
 returns-clause-state g c =
