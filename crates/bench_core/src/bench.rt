@@ -27,7 +27,7 @@ use edit_log::{Change, EditLog};
 use inner_volume::{place_in, plane_in, write_hex, write_text, write_volume};
 use iso_base::{BenchFault, Level, MeshFormat, Point, SampleKind, Steps, Written};
 use iso_io::Shelf;
-use kept_mesh::{refresh_bricks, write_mesh};
+use kept_mesh::{KeptVolume, refresh_bricks, write_mesh};
 use measure::Measures;
 use mesh_cache::{Capacity, MeshCache};
 use mesh_report::Report;
@@ -350,11 +350,13 @@ impl Bench {
         ensures least { steps.old ≤ steps.new }
         ensures most { steps.new ≤ steps.old + 1536 * length (waiting_bricks self.old) }
     {
-        let (store, tree, cache) = (&self.store, &self.tree, &self.cache);
-        let ranks = &mut self.ranks;
-        let written = write_mesh(
-            shelf, name, store, tree, cache, ranks, self.level, format, steps,
-        )?;
+        let volume = KeptVolume {
+            store: &self.store,
+            tree: &self.tree,
+            cache: &self.cache,
+            level: self.level,
+        };
+        let written = write_mesh(shelf, name, &volume, format, &mut self.ranks, steps)?;
         Ok(written)
     }
 

@@ -1,7 +1,8 @@
 //! The rows of a volume in bricks.
-ghost use Rattle.std.specs.Prelude.{◌≡◌, ◌*◌};
+ghost use Rattle.std.specs.Prelude.{◌≡◌, ◌*◌, ◌<◌, false, IsTrue, length};
 ghost use Rattle.flat_mesh.specs.Lattice.{heights};
 ghost use Rattle.iso_defs.specs.Bricks.{brick_count};
+ghost use Rattle.mesh_rows.specs.Rows.{AreFlags, IsStill};
 ghost use Rattle.stitch_rows.specs.Bricks.{AreMarked};
 ghost use Rattle.stitch_rows.specs.Named.{NamesCases, asked_among};
 ghost use Rattle.stitch.specs.Asked.{asked_in_row};
@@ -14,15 +15,43 @@ use mesh_rows::{Counts, MeshRows};
 use std::sync::ledger::Ledger;
 use stitch_rows::{ActiveRow, CellRows, Field, case_row, flag_row, place_row};
 
-/// The rows of a volume in bricks at a level: with who names the cases of its cells, the counter of what that takes, and the bricks
-/// that hold the row that was asked for last.
+/// Whether the layer of bricks that holds a slice of points has an even number. This saves work, and nothing that is filled in rests on it.
+#[inline(always)]
+fn is_even(z: u32) -> bool {
+    z / 8 % 2 == 0
+}
+
+/// Fills in the flags of the points of a row, and says whether a brick that holds it is active: where none is, it fills in nothing.
+#[inline(always)]
+fn fill_active(field: &Field, active: &mut ActiveRow, y: u32, z: u32, flags: &mut [u8]) -> bool
+    requires marked { AreMarked field.now active.old }
+    requires y { y < field.now.grid.ny }
+    requires z { z < field.now.grid.nz }
+    requires count { length flags.old ≡ field.now.grid.nx }
+    ensures marked { AreMarked field.now active.new }
+    ensures flags { IsTrue result → AreFlags field.now y z flags.new }
+    ensures still { result ≡ false → IsStill field.now y z }
+{
+    active.mark(field, y, z);
+    if active.is_still(field) {
+        return false;
+    }
+    flag_row(field, active, flags);
+    true
+}
+
+/// The rows of a volume in bricks at a level: with who names the cases of its cells, the counter of what that takes, and the rows
+/// that were asked for last in the slices of points that layers of bricks with an even and with an odd number hold. A walk over cells
+/// goes back and forth between two slices, and each layer is marked once.
 #[derive(Drop)]
 pub struct StoreRows<'a, R: CellRows, L: Ledger> {
     field: &'a Field<'a>,
-    active: ActiveRow,
+    even: ActiveRow,
+    odd: ActiveRow,
     rows: &'a mut R,
     steps: &'a mut Steps<L>,
-    ghost marked: { AreMarked field.now active },
+    ghost even_marked: { AreMarked field.now even },
+    ghost odd_marked: { AreMarked field.now odd },
     ghost named: { NamesCases (R.named rows.now) field.now.grid (heights field.now) },
 }
 
@@ -43,7 +72,8 @@ impl<'a, R: CellRows, L: Ledger> StoreRows<'a, R, L> {
         let _ = field.sizes();
         StoreRows {
             field,
-            active: ActiveRow::new(),
+            even: ActiveRow::new(),
+            odd: ActiveRow::new(),
             rows,
             steps,
         }
@@ -75,12 +105,11 @@ impl<'a, R: CellRows, L: Ledger> MeshRows for StoreRows<'a, R, L> {
 
     /// It looks at active bricks alone.
     fn fill_flags(&mut self, y: u32, z: u32, flags: &mut [u8]) -> bool {
-        self.active.mark(self.field, y, z);
-        if self.active.is_still(self.field) {
-            return false;
+        if is_even(z) {
+            fill_active(self.field, &mut self.even, y, z, flags)
+        } else {
+            fill_active(self.field, &mut self.odd, y, z, flags)
         }
-        flag_row(self.field, &self.active, flags);
-        true
     }
 
     fn fill_places(&mut self, y: u32, z: u32, edges: &[u16], places: &mut [u16]) {
@@ -89,8 +118,13 @@ impl<'a, R: CellRows, L: Ledger> MeshRows for StoreRows<'a, R, L> {
 
     /// It asks for each row of an active brick once, and for no row of another one.
     fn fill_cases(&mut self, y: u32, z: u32, cases: &mut [u16]) {
-        self.active.mark(self.field, y, z);
-        case_row(self.field, &self.active, self.rows, cases, self.steps);
+        if is_even(z) {
+            self.even.mark(self.field, y, z);
+            case_row(self.field, &self.even, self.rows, cases, self.steps);
+        } else {
+            self.odd.mark(self.field, y, z);
+            case_row(self.field, &self.odd, self.rows, cases, self.steps);
+        }
     }
 
     /// It asks each active brick once, and no other one.
