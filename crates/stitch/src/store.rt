@@ -22,7 +22,7 @@ fn is_even(z: u32) -> bool {
 }
 
 /// Fills in the flags of the points of a row, and says whether a crossing edge may begin there.
-fn flags_at(field: &Field, active: &mut ActiveRow, y: u32, z: u32, flags: &mut [u8]) -> bool
+fn fill_active(field: &Field, active: &mut ActiveRow, y: u32, z: u32, flags: &mut [u8]) -> bool
     requires y { y < field.now.grid.ny }
     requires z { z < field.now.grid.nz }
     requires count { length flags.old ≡ field.now.grid.nx }
@@ -105,9 +105,9 @@ impl<'a, R: CellRows, L: Ledger> MeshRows for StoreRows<'a, R, L> {
     /// It looks at active bricks alone.
     fn fill_flags(&mut self, y: u32, z: u32, flags: &mut [u8]) -> bool {
         if is_even(z) {
-            flags_at(self.field, &mut self.even, y, z, flags)
+            fill_active(self.field, &mut self.even, y, z, flags)
         } else {
-            flags_at(self.field, &mut self.odd, y, z, flags)
+            fill_active(self.field, &mut self.odd, y, z, flags)
         }
     }
 
