@@ -26,7 +26,11 @@ impl Text {
 
 /// Puts a coordinate behind a text, less the pad's layer where there is one.
 fn push_coordinate(lines: &mut String, at: Thousandth, padded: bool) -> Result<(), AllocError> {
-    let at = if padded { at.0.wrapping_sub(1000) } else { at.0 };
+    let at = if padded {
+        at.0.wrapping_sub(1000)
+    } else {
+        at.0
+    };
     let sign = if at < 0 { "-" } else { "" };
     let size = at.unsigned_abs();
     write!(lines, "{sign}{}.{:03}", size / 1000, size % 1000)

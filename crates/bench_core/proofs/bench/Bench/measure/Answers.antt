@@ -1,9 +1,9 @@
-use Rattle.std.proofs.Common.{◌≡◌, ◌∙◌, All, ap, subst, refl, ℤ, List}
+use Rattle.std.proofs.Common.{◌≡◌, All, refl, ℤ, List}
 use Rattle.std.specs.Prelude.{Option, Some, None, IfSome}
 use Rattle.iso_base.specs.Volume.{Volume}
 use Rattle.fan_laws.specs.Padded.{HasPadBelow}
 use Rattle.measure.specs.declared.share.Share.{Share}
-use Rattle.mesh_measures.specs.Printed.{HasNoBorder, HasOneVolumeIn, measures_at}
+use Rattle.mesh_measures.specs.Printed.{HasNoBorder}
 use Rattle.bench_core.specs.Machine.{IsAbovePad}
 use Rattle.bench_core.specs.Texts.{measure_of}
 use Rattle.bench_core.proofs.bench.Bench.measure.Goals as goal
