@@ -188,12 +188,8 @@ packs faces joined =
 all_packed : all_below 64 (λ faces. all_below 64 (packs faces)) ≡ true
 all_packed = refl
 
-none_packed : all_below 64 (λ faces. packed_set (below 6) faces 0 == 0) ≡ true
-none_packed = refl
-
-pub packed_none : (faces joined : ℕ) → faces < 64 → joined ≡ 0 → packed_set (below 6) faces joined ≡ 0
-packed_none faces joined small none =
-    ap (packed_set (below 6) faces) none ∙ eqb-true _ _ (all_below_at 64 (λ faces. packed_set (below 6) faces 0 == 0) faces none_packed small)
+pub packed_none : (faces joined : ℕ) → faces ≡ 0 → packed_set (below 6) faces joined ≡ 0
+packed_none faces joined none = ap (λ fs. packed_set (below 6) fs joined) none
 
 packed_is : (signs : List Bool) (faces joined : ℕ) → faces < 64 → joined < 64 → bits_of 6 faces ≡ ambiguous_flags signs
     → packed_set (below 6) faces joined ≡ number_of_bits (map (holds_at (bits_of 6 joined)) (ambiguous_faces signs))

@@ -7,7 +7,7 @@ ghost use Rattle.face_decider.specs.Cycle.{cycle_joined};
 ghost use Rattle.case_table.specs.Cases.{ambiguous_flags, are_ambiguous};
 
 use corner_signs::sign_byte;
-use face_decider::face_joined;
+use face_decider::cycle_joined;
 
 /// The ambiguous faces by sign byte: bit f is face f.
 const AMBIGUOUS: [u8; 256] = [
@@ -45,13 +45,8 @@ fn joined_digit(ambiguous: bool, cycle: [i64; 4]) -> u8
     ensures value { result ≡ (if is_ambiguous (signs_of cycle) && cycle_joined cycle then 1 else 0) }
     ensures bound { result ≤ 1 }
 {
-    if !ambiguous {
-        0
-    } else if face_joined(cycle) {
-        1
-    } else {
-        0
-    }
+    // Each face is decided, ambiguous or not: in noise a branch here cannot be predicted, and costs more than two products.
+    u8::from(ambiguous & cycle_joined(cycle))
 }
 
 /// One digit of the joined set: that of a face, by its corner cycle.
@@ -64,7 +59,7 @@ macro_rules! digit {
     };
 }
 
-/// The joined faces, where the ambiguous ones are known. Only these are decided.
+/// The joined faces, where the ambiguous ones are known. Of a cell without any, none is decided.
 pub(crate) fn joined_among(values: &[i64; 8], faces: u8) -> u8
     requires known { bits_of 6 faces ≡ ambiguous_flags (signs_of values.now) }
     requires small { All (λ v. unsigned_abs v < 2 ^ 44) values.now }

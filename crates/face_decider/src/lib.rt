@@ -63,11 +63,11 @@ fn product(a: i64, b: i64) -> i128
     i128::from(a) * i128::from(b)
 }
 
-/// Whether an ambiguous face with these shifted values in cycle order is joined: the product of the two values above
-/// is at least that of the two below. The products are exact, in 128 bits.
-pub fn face_joined(cycle: [i64; 4]) -> bool
-    requires ambiguous { IsTrue (is_ambiguous (signs_of cycle)) }
-    requires small { All (λ v. unsigned_abs v < 2 ^ 44) cycle }
+/// The answer of `face_joined`, for any face: who decides several faces need not test first which of them are ambiguous. Of a
+/// face that is not, it means nothing.
+#[inline(always)]
+pub fn cycle_joined(cycle: [i64; 4]) -> bool
+    requires { All (λ v. unsigned_abs v < 2 ^ 44) cycle }
     ensures { result ≡ cycle_joined cycle }
 {
     let even = product(cycle[0], cycle[2]);
@@ -77,6 +77,16 @@ pub fn face_joined(cycle: [i64; 4]) -> bool
     } else {
         even <= odd
     }
+}
+
+/// Whether an ambiguous face with these shifted values in cycle order is joined: the product of the two values above
+/// is at least that of the two below. The products are exact, in 128 bits.
+pub fn face_joined(cycle: [i64; 4]) -> bool
+    requires ambiguous { IsTrue (is_ambiguous (signs_of cycle)) }
+    requires small { All (λ v. unsigned_abs v < 2 ^ 44) cycle }
+    ensures { result ≡ cycle_joined cycle }
+{
+    cycle_joined(cycle)
 }
 
 /// The segments of a face. Bit i of `signs` is set where corner i of the cycle is above. Where the face is not ambiguous,

@@ -2,7 +2,7 @@
 
 ghost use Rattle.std.specs.Prelude.{◌<◌};
 
-use face_decider::{face_joined, face_segments};
+use face_decider::{cycle_joined, face_joined, face_segments};
 
 /// Where the segment of each edge of a face ends.
 fn ends(signs: u8, joined: bool) -> [u8; 4]
@@ -30,8 +30,9 @@ fn ties_are_joined(rt: HostRuntime) {
         face_joined([-1, 2, -4, 2]),
         face_joined([-1, 2, -5, 2]),
         face_joined([0, -1, 0, -1]),
+        cycle_joined([2, -1, 2, -4]),
     ];
-    assert!(rt; found == [true, false, true, false, false]);
+    assert!(rt; found == [true, false, true, false, false, true]);
 }
 
 #[test]
