@@ -6,6 +6,8 @@ mod counts;
 mod edges;
 mod flags;
 mod lanes;
+mod leveled;
+mod row_vertices;
 
 pub use counts::{begin_none, count_all_edges, count_edges};
 pub use edges::{EdgeVertices, crossing_points, edge_vertices, position_on};
