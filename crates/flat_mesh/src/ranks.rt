@@ -6,6 +6,13 @@ ghost use Rattle.flat_mesh.specs.Numbers.{edge_numbers};
 
 use crossing_edges::{begin_none, count_edges};
 
+/// The numbers of the first edges of the points of a slice, `low`, and of the next one, `high`.
+#[derive(Clone, Copy)]
+pub struct SliceRanks<'a> {
+    pub low: &'a [u32],
+    pub high: &'a [u32],
+}
+
 /// Writes the number of the first crossing edge of each point from a place to before an end, where `start` is that of the first,
 /// and gives that of the next point.
 #[inline(always)]
