@@ -15,7 +15,7 @@ as a comment of the page:
 Then each link of a page, or of the README.md of a crate, to a file of this repository, with its place in it, is looked up; and
 so is what guarantees.md names:
 each call `crate::call` and `crate::Type::call`, each clause of `commands::run`, the clauses of the calls of a row, and the
-number of lines of each file.
+number of lines of each file. Where a clause is a record of specs/Promise.antt, the fields of that record are clauses too.
 """
 import os
 import pathlib
@@ -33,6 +33,9 @@ LINK = re.compile(r"\]\(([^)\s]+)\)")
 CALL = re.compile(r"`([a-z_]+)((?:::\w+)+)`")
 LINES = re.compile(r"^\| `(crates/\S+)` \| (\d+) \|", re.MULTILINE)
 ROWS = re.compile(r"^\| ((?:`[a-z_]+(?:::\w+)+`(?:, )?)+) \| [^|]* \| ([^|]*) \|$", re.MULTILINE)
+PROMISE = re.compile(r"\bensures \w+ \{ (\w+)")
+RECORD = re.compile(r"^pub record (\w+)(.*?)\n(?=\S|\Z)", re.MULTILINE | re.DOTALL)
+FIELD = re.compile(r"^  pub (\w+) :", re.MULTILINE)
 CLAUSES = re.compile(r"^\| [^|]* \| ((?:`[a-z_]+`(?:, )?)+) \|$", re.MULTILINE)
 
 
@@ -125,9 +128,19 @@ def sources_of(crate):
     return "\n".join(file.read_text(encoding="utf-8") for file in sorted((TOP / "crates" / crate / "src").glob("*.rt")))
 
 
+def promises_of(crate):
+    """Each record of specs/Promise.antt in a crate, with its fields as the heads of clauses."""
+    file = TOP / "crates" / crate / "specs" / "Promise.antt"
+    text = file.read_text(encoding="utf-8") if file.exists() else ""
+    return {record: [f"ensures {field} {{" for field in FIELD.findall(body)] for record, body in RECORD.findall(text)}
+
+
 def contracts_of(crate, name):
-    """The contracts of all functions of a crate with this name, from the head to the body."""
-    return "\n".join(re.findall(rf"\bfn {name}\b.*?^\s*\{{", sources_of(crate), re.MULTILINE | re.DOTALL))
+    """The contracts of all functions of a crate with this name, from the head to the body, with the fields of their promises."""
+    contracts = re.findall(rf"\bfn {name}\b.*?^\s*\{{", sources_of(crate), re.MULTILINE | re.DOTALL)
+    promises = promises_of(crate)
+    fields = [field for contract in contracts for record in PROMISE.findall(contract) for field in promises.get(record, [])]
+    return "\n".join(contracts + fields)
 
 
 def head_of(clause):
@@ -155,7 +168,7 @@ def lost_names(page):
         names = path.split("::")[1:]
         if not all(re.search(rf"\b(fn|struct|enum|trait) {name}\b|pub use [^;]*\b{name}\b", source) for name in names):
             yield f"no call {crate}{path}"
-    run = sources_of("commands")
+    run = contracts_of("commands", "run")
     for row in CLAUSES.findall(text):
         for clause in re.findall(r"`([a-z_]+)`", row):
             if f"ensures {clause} {{" not in run:

@@ -9,7 +9,8 @@ docs/architecture.md links it. What is in its backticks is one of these:
     `name`, `Type::name`           is declared in src/ or specs/ of the crate, or is the name of a crate
     `crate::name`                  is declared there in that crate
     `crate/Module`: `name`, ..     a file in specs/ of that crate, and what is declared in it
-    call .. (`name`, ..)           in a line on what is proved: clauses of calls named before the bracket
+    call .. (`name`, ..)           in a line on what is proved: clauses of calls named before the bracket, and where a clause
+                                   is a record of `specs/Promise.antt`, the fields of that record
     `folder/`                      a folder of the repository
 
 Of README.md and docs/ the second and third form are looked up, and this one, where the file may lack its ending:
@@ -38,7 +39,9 @@ USED = re.compile(r"\bpub use ([^;]*);")
 DEFINED = re.compile(r"^\s*(?:\w+ )*?pub (?:record |data )?(\w+)", re.MULTILINE)
 BLOCK = re.compile(r"^(?:pub )?(?:impl(?:<.*?>)?(?: [\w<>', :]+ for)?|trait|struct|enum) (\w+)")
 CALL = re.compile(r"^\s*(?:pub )?(?:const )?fn (\w+)")
-CLAUSE = re.compile(r"\bensures\*? (\w+) \{")
+CLAUSE = re.compile(r"\bensures\*? (\w+) \{ ?(\w*)")
+RECORD = re.compile(r"^pub record (\w+)(.*?)\n(?=\S|\Z)", re.MULTILINE | re.DOTALL)
+FIELD = re.compile(r"^  pub (\w+) :", re.MULTILINE)
 
 
 def names():
@@ -71,6 +74,20 @@ def defined(crate, module):
 
 
 @functools.cache
+def promises(crate):
+    """The fields of each record of specs/Promise.antt in a crate."""
+    file = CRATES / crate / "specs" / "Promise.antt"
+    text = file.read_text(encoding="utf-8") if file.exists() else ""
+    return {record: FIELD.findall(body) for record, body in RECORD.findall(text)}
+
+
+def clauses_in(crate, line):
+    """The clauses that begin in a line of a contract, and the fields of the promises that they are."""
+    for clause, record in CLAUSE.findall(line):
+        yield from [clause, *promises(crate).get(record, [])]
+
+
+@functools.cache
 def calls(crate):
     """The clauses of each call, by the call's name and, in a type or a trait, by both names too."""
     found = {}
@@ -86,7 +103,7 @@ def calls(crate):
                 call = None
             owner = None if line.startswith("}") else owner
             for name in call or []:
-                found.setdefault(name, set()).update(CLAUSE.findall(line))
+                found.setdefault(name, set()).update(clauses_in(crate, line))
     return found
 
 

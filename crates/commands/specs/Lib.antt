@@ -13,3 +13,4 @@ pub mod SoakLoop
 pub mod Sure
 pub mod Serving
 pub mod Reading
+pub mod Promise

@@ -1,23 +1,10 @@
 //! All that the program does.
-ghost use Rattle.std.specs.Prelude.{◌≡◌, ◌↔◌, ℕ, ℤ, List, Option, map, string_bytes, None, Some};
-ghost use Rattle.byte_streams.specs.Causes.{Rose};
-ghost use Rattle.command_words.specs.Words.{HasCapacity, HasSamplePad, IsCapacity, request_of};
-ghost use Rattle.endings.specs.Notes.{note_of};
-ghost use Rattle.endings.specs.Status.{status_of};
-ghost use Rattle.endings.specs.Tries.{Tries};
-ghost use Rattle.mesh_text.specs.declared.format.TwoWayFormat.{TwoWayFormat};
-ghost use Rattle.commands.specs.Causes.{Asks, HasBadMesh, HasBadVolume, HasBrokenMesh, HasNoFile, HasTooMany};
-ghost use Rattle.commands.specs.Economy.{LeavesBench};
-ghost use Rattle.commands.specs.Headline.{WritesWatertight};
-ghost use Rattle.commands.specs.SessionMeshes.{HoldsWatertightMeshes};
+ghost use Rattle.std.specs.Prelude.{◌≡◌, map, string_bytes, None};
+ghost use Rattle.command_words.specs.Words.{HasCapacity, HasSamplePad, IsCapacity};
 ghost use Rattle.commands.specs.Outcome.{call_between};
+ghost use Rattle.commands.specs.Promise.{RunsAs};
 ghost use Rattle.commands.specs.Reading.{ReadsFor, ReadsInput};
-ghost use Rattle.point_command.specs.Outcome.{streams_between};
-ghost use Rattle.commands.specs.Soaking.{HoldsSoakMeshes, SoakLeaves};
-ghost use Rattle.commands.specs.Serving.{CanServe, Ends, IsCarriedOut, Serves, asked_for};
-ghost use Rattle.endings.specs.declared.answer.Answer.{Answer};
-ghost use Rattle.command_words.specs.declared.request.Request.{Request};
-ghost use Rattle.command_words.specs.declared.request.Request.TheVariants.{Extract, Session, Soak};
+ghost use Rattle.commands.specs.Serving.{Ends, Serves};
 
 use crate::checks::check;
 use crate::generate::generate;
@@ -54,7 +41,8 @@ fn carry_out<S: Source, K: Sink, H: Shelf, L: Ledger>(
     requires pad { HasSamplePad request }
     requires capacity { HasCapacity request }
     ensures serves { Serves request
-        (call_between S.seen K.seen H.seen input.old input.new output.old output.new shelf.old shelf.new left.new steps.old steps.new) result }
+        (call_between S.seen K.seen H.seen input.old input.new output.old output.new
+        shelf.old shelf.new left.new steps.old steps.new) result }
     ensures reading { ReadsFor request (S.seen input.old) (S.seen input.new) }
 {
     match request {
@@ -100,7 +88,8 @@ fn serve<S: Source, K: Sink, H: Shelf, L: Ledger>(
 ) -> Answer
     requires { left.old ≡ None }
     ensures ends { Ends (map string_bytes words.now)
-        (call_between S.seen K.seen H.seen input.old input.new output.old output.new shelf.old shelf.new left.new steps.old steps.new) result }
+        (call_between S.seen K.seen H.seen input.old input.new output.old output.new
+        shelf.old shelf.new left.new steps.old steps.new) result }
     ensures reading { ReadsInput (map string_bytes words.now) (S.seen input.old) (S.seen input.new) }
 {
     match read_words(words) {
@@ -120,6 +109,8 @@ fn serve<S: Source, K: Sink, H: Shelf, L: Ledger>(
 /// In a session, and after a soak, the bench that is left has the state to which its lines and replies lead, and the cache
 /// that they leave of an empty one; the counter rises by no more than they allow. No other command leaves a bench or
 /// classifies a cell.
+///
+/// All that it promises is `RunsAs` in `specs/Promise.antt`.
 pub fn run<S: Source, K: Sink, N: Sink, H: Shelf, L: Ledger>(
     alloc: Global,
     words: &[String],
@@ -131,67 +122,9 @@ pub fn run<S: Source, K: Sink, N: Sink, H: Shelf, L: Ledger>(
     steps: &mut Steps<L>,
 ) -> Status
     requires { left.old ≡ None }
-    // What was read, written and left, and what the note says.
-    ensures outcome { (answer : Answer) × (result ≡ status_of answer)
-        × Ends (map string_bytes words.now)
-        (call_between S.seen K.seen H.seen input.old input.new output.old output.new shelf.old shelf.new left.new steps.old steps.new) answer
-        × Tries (N.seen notes.old) (N.seen notes.new) (note_of answer) }
-
-    // The input was read no further than the command's limit and one piece, and each read but the last took at least one byte.
-    ensures reading { ReadsInput (map string_bytes words.now) (S.seen input.old) (S.seen input.new) }
-
-    // The cause of each status but done and want of memory.
-    ensures bad_words { (result ≡ Status.BadWords) ↔ (request_of (map string_bytes words.now) ≡ None) }
-    ensures input_fault { result ≡ Status.InputFault → Rose (S.seen input.old).faults (S.seen input.new).faults }
-    ensures output_fault { result ≡ Status.OutputFault → Rose (K.seen output.old).faults (K.seen output.new).faults }
-    ensures too_long { result ≡ Status.InputTooLong → Asks (request_of (map string_bytes words.now)) HasTooMany
-        (call_between S.seen K.seen H.seen input.old input.new output.old output.new shelf.old shelf.new left.new steps.old steps.new) }
-    ensures bad_volume { result ≡ Status.BadVolume → Asks (request_of (map string_bytes words.now)) HasBadVolume
-        (call_between S.seen K.seen H.seen input.old input.new output.old output.new shelf.old shelf.new left.new steps.old steps.new) }
-    ensures shelf_fault { result ≡ Status.ShelfFault → Asks (request_of (map string_bytes words.now)) HasNoFile
-        (call_between S.seen K.seen H.seen input.old input.new output.old output.new shelf.old shelf.new left.new steps.old steps.new) }
-    ensures bad_mesh { result ≡ Status.BadMesh → Asks (request_of (map string_bytes words.now)) HasBadMesh
-        (call_between S.seen K.seen H.seen input.old input.new output.old output.new shelf.old shelf.new left.new steps.old steps.new) }
-    ensures mesh_refused { result ≡ Status.MeshRefused → Asks (request_of (map string_bytes words.now)) HasBrokenMesh
-        (call_between S.seen K.seen H.seen input.old input.new output.old output.new shelf.old shelf.new left.new steps.old steps.new) }
-
-    // The headline, where a mesh is extracted: what was written is the text of the mesh of the volume in the input, and that
-    // mesh is watertight.
-    ensures headline { (level : ℤ) (pad : Option ℤ) (format : TwoWayFormat)
-        → request_of (map string_bytes words.now) ≡ Some (Extract level pad format)
-        → result ≡ Status.Done
-        → WritesWatertight level pad format (streams_between S.seen K.seen input.old input.new output.old output.new) }
-
-    // The headline, in a session, however it ended: each line `ply` or `obj` that was run wrote the mesh of the state that the
-    // lines before it led to, and that mesh is watertight; or it was answered that the shelf failed.
-    ensures session_headline { (level : ℤ) (pad : Option ℤ) (name : List ℕ) (bricks pages : ℕ)
-        → request_of (map string_bytes words.now) ≡ Some (Session level pad name bricks pages)
-        → HoldsWatertightMeshes (asked_for level pad name bricks pages)
-        (call_between S.seen K.seen H.seen input.old input.new output.old output.new shelf.old shelf.new left.new steps.old steps.new) result }
-
-    // So it is in a soak.
-    ensures soak_headline { (seed : ℕ) → request_of (map string_bytes words.now) ≡ Some (Soak seed) → HoldsSoakMeshes seed
-        (call_between S.seen K.seen H.seen input.old input.new output.old output.new shelf.old shelf.new left.new steps.old steps.new) }
-
-    // A bench that a session leaves is the one to which the lines run led with their replies, with what they keep of the mesh,
-    // and the counter rose by no more than they allow; where none is left, no cell was classified.
-    ensures economy { (level : ℤ) (pad : Option ℤ) (name : List ℕ) (bricks pages : ℕ)
-        → request_of (map string_bytes words.now) ≡ Some (Session level pad name bricks pages)
-        → LeavesBench (asked_for level pad name bricks pages)
-        (call_between S.seen K.seen H.seen input.old input.new output.old output.new shelf.old shelf.new left.new steps.old steps.new) }
-
-    // So it is with the bench that a soak leaves.
-    ensures soak_economy { (seed : ℕ) → request_of (map string_bytes words.now) ≡ Some (Soak seed) → SoakLeaves seed
-        (call_between S.seen K.seen H.seen input.old input.new output.old output.new shelf.old shelf.new left.new steps.old steps.new) }
-
-    // Nothing else stands in the way of a command.
-    ensures complete { (request : Request) → request_of (map string_bytes words.now) ≡ Some request
-        → CanServe request
-        (call_between S.seen K.seen H.seen input.old input.new output.old output.new shelf.old shelf.new left.new steps.old steps.new)
-        → (Rose (S.seen input.old).faults (S.seen input.new).faults → ⊥)
-        → (Rose (K.seen output.old).faults (K.seen output.new).faults → ⊥)
-        → IsCarriedOut request
-        (call_between S.seen K.seen H.seen input.old input.new output.old output.new shelf.old shelf.new left.new steps.old steps.new) result }
+    ensures run { RunsAs (map string_bytes words.now)
+        (call_between S.seen K.seen H.seen input.old input.new output.old output.new
+        shelf.old shelf.new left.new steps.old steps.new) result (N.seen notes.old) (N.seen notes.new) }
 {
     let answer = serve(alloc, words, input, output, shelf, left, steps);
     put_note(notes, &answer);

@@ -13,7 +13,8 @@ use volume_gen::put_generated;
 
 /// Writes the file of the generated volume of a seed and sizes, row by row.
 pub fn generate<K: Sink>(alloc: Global, seed: u64, sizes: &Sizes, output: &mut K) -> Answer
-    ensures { (input : Feed) → WritesGenerated seed sizes.now (unread_between input K.seen output.old output.new) result }
+    ensures { (input : Feed)
+        → WritesGenerated seed sizes.now (unread_between input K.seen output.old output.new) result }
 {
     let Ok(mut waiting) = Vec::with_capacity(alloc, STAGE) else {
         return Answer::Memory;

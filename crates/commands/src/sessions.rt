@@ -44,7 +44,8 @@ pub fn run_on_file<S: Source, K: Sink, H: Shelf, L: Ledger>(
     requires left { left.old ≡ None }
     requires pad { IfSome pad IsSample }
     ensures runs { RunsSession (asked_for level pad name.now capacity.bricks capacity.pages)
-        (call_between S.seen K.seen H.seen input.old input.new output.old output.new shelf.old shelf.new left.new steps.old steps.new) result }
+        (call_between S.seen K.seen H.seen input.old input.new output.old output.new
+        shelf.old shelf.new left.new steps.old steps.new) result }
     ensures reading { ReadsWithin script_limit (S.seen input.old) (S.seen input.new) }
 {
     let store = match bricks_on_shelf(alloc, shelf, name, pad, level) {

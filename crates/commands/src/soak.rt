@@ -167,7 +167,8 @@ pub fn soak<K: Sink, H: Shelf, L: Ledger>(
 ) -> Answer
     requires { left.old ≡ None }
     ensures { (input : Feed) → DoesSoak seed
-        (call_with (unread_between input K.seen output.old output.new) H.seen shelf.old shelf.new left.new steps.old steps.new) result }
+        (call_with (unread_between input K.seen output.old output.new)
+        H.seen shelf.old shelf.new left.new steps.old steps.new) result }
 {
     let Ok(mut bench) = open(alloc, seed) else {
         return Answer::Memory;

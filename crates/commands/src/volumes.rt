@@ -30,7 +30,8 @@ pub fn in_pad<S: Samples>(
     requires range { IsSample pad }
     ensures view { IfOk result (λ p. p ≡ record { grid = sizes; samples = S.list samples.now; pad = pad }) }
     ensures above { IfOk result (λ _. is_above_pad level pad ≡ true) }
-    ensures volume { (v : Volume) → v.grid ≡ sizes → IfOk result (λ _. with_pad (Some pad) level v ≡ Ok (padded_volume v pad)) }
+    ensures volume { (v : Volume) → v.grid ≡ sizes
+        → IfOk result (λ _. with_pad (Some pad) level v ≡ Ok (padded_volume v pad)) }
     ensures fault { (v : Volume) → v.grid ≡ sizes → IfErr result (IsNotTaken (Some pad) level v) }
 {
     let padded = match Padded::new(samples, sizes, pad) {
@@ -55,9 +56,11 @@ fn bricks_of<S: Samples>(
 ) -> Result<BrickStore, NoVolume>
     requires voxels { IsVoxels (record { grid = sizes; kind = kind; samples = S.list samples.now }) }
     requires range { IfSome pad IsSample }
-    ensures volume { IfOk result (λ b. with_pad pad level (unpadded (record { grid = sizes; kind = kind; samples = S.list samples.now })) ≡ Ok b) }
+    ensures volume { IfOk result
+        (λ b. with_pad pad level (unpadded (record { grid = sizes; kind = kind; samples = S.list samples.now })) ≡ Ok b) }
     ensures above { IfOk result (λ b. begin_fault b.pad level ≡ None) }
-    ensures fault { IfErr result (IsNotTaken pad level (unpadded (record { grid = sizes; kind = kind; samples = S.list samples.now }))) }
+    ensures fault { IfErr result
+        (IsNotTaken pad level (unpadded (record { grid = sizes; kind = kind; samples = S.list samples.now }))) }
 {
     match pad {
         None => Ok(BrickStore::of_samples(alloc, sizes, kind, None, samples)?),
@@ -137,7 +140,8 @@ pub fn bricks_on_shelf<H: Shelf>(
     ensures later { (H.seen shelf.old).faults ≤ (H.seen shelf.new).faults }
     ensures volume { IfOk result (λ v. FileIs (H.seen shelf.old) name.now (λ bytes. volume_of pad level bytes ≡ Ok v)) }
     ensures above { IfOk result (λ v. begin_fault v.pad level ≡ None) }
-    ensures fault { IfErr result (λ answer. LacksVolume pad level name.now (H.seen shelf.old) (H.seen shelf.new) answer) }
+    ensures fault { IfErr result
+        (λ answer. LacksVolume pad level name.now (H.seen shelf.old) (H.seen shelf.new) answer) }
 {
     let bytes = shelf.read(alloc, name, VOLUME_LIMIT)?;
     Ok(bricks_in(alloc, bytes, pad, level)?)
