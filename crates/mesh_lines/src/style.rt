@@ -2,6 +2,7 @@
 ghost use Rattle.std.specs.Prelude.{◌≡◌, ◌+◌, ◌<◌, ◌≤◌, ◌^◌, ◌++◌, length, unsigned_abs};
 ghost use Rattle.iso_base.specs.Triangles.{triangle_of};
 ghost use Rattle.mesh_text.specs.Lines.{letter_line};
+ghost use Rattle.mesh_text.specs.Numbers.{IsShort, number_text};
 ghost use Rattle.mesh_lines.specs.Lines.{origin_coordinate, vertex_line};
 ghost use Rattle.mesh_lines.specs.declared.style.Origin.TheVariants.{Window};
 ghost use Rattle.mesh_lines.specs.Triangles.{corner_text, first_of, letter_of};
@@ -118,16 +119,30 @@ impl Style {
     /// The text of a corner of triangles.
     #[inline(always)]
     pub fn corner_text(self, corner: u32, lines: &Lines) -> Number
-        ensures { result ≡ corner_text self.format corner }
+        ensures text { number_text result ≡ corner_text self.format corner }
+        ensures short { IsShort result }
     {
         lines.number(self.first() + u64::from(corner))
+    }
+
+    /// Sets a text to that of a corner of triangles.
+    #[inline(always)]
+    pub fn set_corner_text(self, corner: u32, lines: &Lines, number: &mut Number)
+        ensures text { number_text number.new ≡ corner_text self.format corner }
+        ensures short { IsShort number.new }
+    {
+        lines.set_number(self.first() + u64::from(corner), number);
     }
 
     /// Puts the line of a triangle, whose corners' texts are at hand, behind others.
     #[inline(always)]
     pub fn gather_texts(self, a: &Number, b: &Number, c: &Number, lines: &mut Lines)
-        requires { length lines.old + 64 ≤ 4096 }
-        ensures line { lines.new ≡ lines.old ++ letter_line (letter_of self.format) a.now b.now c.now }
+        requires first { IsShort a.now }
+        requires second { IsShort b.now }
+        requires third { IsShort c.now }
+        requires room { length lines.old + 64 ≤ 4096 }
+        ensures line { let letter = letter_of self.format in
+            lines.new ≡ lines.old ++ letter_line letter (number_text a.now) (number_text b.now) (number_text c.now) }
         ensures few { length lines.new ≤ length lines.old + 64 }
     {
         lines.push_numbers(self.letter(), a, b, c);

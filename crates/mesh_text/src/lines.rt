@@ -1,6 +1,7 @@
 ghost use Rattle.std.specs.Prelude.{◌≡◌, ◌+◌, ◌<◌, ◌≤◌, ◌^◌, ◌++◌, [], All, IsTrue, length, decimal, unsigned_abs, ◌↔◌};
 ghost use Rattle.mesh_text.specs.Pieces.{parts_line, thirds_line};
 ghost use Rattle.mesh_text.specs.Lines.{along, letter_line, obj_face_line, obj_vertex_line, ply_face_line, ply_vertex_line, point_line};
+ghost use Rattle.mesh_text.specs.Numbers.{IsShort, number_text};
 
 use crate::digits::put_letter;
 use crate::fours::{Fours, put_last_three, put_point_line};
@@ -145,7 +146,8 @@ impl Lines {
     #[inline(always)]
     pub fn number(&self, n: u64) -> Number
         requires { n < 10 ^ 11 }
-        ensures { result ≡ decimal n }
+        ensures text { number_text result ≡ decimal n }
+        ensures short { IsShort result }
     {
         Number::of(&self.digits, n)
     }
@@ -194,11 +196,24 @@ impl Lines {
         self.end = put_byte(b'\n', &mut self.bytes, end);
     }
 
+    /// Sets a text to that of a number, out of the table.
+    #[inline(always)]
+    pub fn set_number(&self, n: u64, number: &mut Number)
+        requires { n < 10 ^ 11 }
+        ensures text { number_text number.new ≡ decimal n }
+        ensures short { IsShort number.new }
+    {
+        number.set(&self.digits, n);
+    }
+
     /// Puts the line of a letter and three numbers behind the others.
     #[inline(always)]
     pub fn push_numbers(&mut self, letter: u8, a: &Number, b: &Number, c: &Number)
+        requires first { IsShort a.now }
+        requires second { IsShort b.now }
+        requires third { IsShort c.now }
         requires room { length self.old + 64 ≤ 4096 }
-        ensures line { self.new ≡ self.old ++ letter_line letter a.now b.now c.now }
+        ensures line { self.new ≡ self.old ++ letter_line letter (number_text a.now) (number_text b.now) (number_text c.now) }
         ensures few { length self.new ≤ length self.old + 64 }
     {
         let at = put_letter(letter, &mut self.bytes, self.end);

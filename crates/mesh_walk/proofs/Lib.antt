@@ -9,6 +9,8 @@ pub mod CellRuns
 pub mod FaceLines
 pub mod CornerNumbers
 pub mod CornerRows
+pub mod SlotRows
+pub mod RowSlots
 pub mod CentreLines
 pub mod MeshText
 pub mod WholeMesh

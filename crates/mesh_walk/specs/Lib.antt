@@ -3,3 +3,4 @@ pub mod Numbers
 pub mod Cells
 pub mod Edges
 pub mod FourRows
+pub mod Slots

@@ -9,6 +9,7 @@ mod edges;
 mod faces;
 mod offsets;
 mod ranks;
+mod slots;
 mod walk;
 mod write;
 

@@ -1,0 +1,11 @@
+use Rattle.std.proofs.Common.{◌≡◌, refl, arith, length, take}
+use Rattle.mesh_walk.proofs.CellRuns.{width_is}
+use Rattle.mesh_walk.proofs.RowNames.{listed_by}
+use Rattle.mesh_walk.proofs.slots.list_edges.Goals as goal
+
+pub returns-clause-edges : goal.returns-clause-edges
+returns-clause-edges g c =
+    let v = g.R.Heights.leveled c.args.rows.now in
+    let nx = width_is v _ _ c.sizes.ensures.value c.nx-nx.ensures.value in
+    let count : length (take c.nx-nx.result c.set_flags.new.flags) ≡ v.grid.nx = omega (arith, nx) in
+    listed_by v c.args.y c.args.z c.nx-nx.result c.set_flags.new.flags (take c.nx-nx.result c.set_flags.new.flags) _ nx count refl c.set_flags.ensures.flags c.put_row.ensures.put

@@ -1,0 +1,164 @@
+//! What belongs to the crossing edges of the four rows of points round a row of cells, each edge's in a slot of its own.
+ghost use Rattle.std.specs.Prelude.{◌≡◌, ℕ, List, ◌+◌, ◌*◌, ◌<◌, ◌≤◌, slice_index, take};
+ghost use Rattle.iso_base.specs.Sizing.{IsGrid};
+ghost use Rattle.flat_mesh.specs.Lattice.{Leveled};
+ghost use Rattle.mesh_lines.specs.declared.style.Style.{Style};
+ghost use Rattle.mesh_rows.specs.Rows.{AreEdges};
+ghost use Rattle.mesh_walk.specs.Numbers.{AreRowRanks};
+ghost use Rattle.mesh_walk.specs.Slots.{AreAround, AreLaid, AreLaidInBoth, IsReady, edge_slot, row_slot};
+
+use crate::offsets::{ROOM, put_row};
+use crate::ranks::{ROW, set_flags};
+use crate::walk::Walk;
+use mesh_lines::{Block, Style};
+use mesh_rows::MeshRows;
+
+/// So many slots there are: those of four of the longest rows of points.
+pub const SLOTS: usize = 12_312;
+
+/// The first slot of a row of points.
+#[inline(always)]
+pub fn row_slot(y: u32, z: u32) -> usize
+    ensures value { result ≡ row_slot y z }
+    ensures bound { result ≤ 9234 }
+{
+    3078 * (y % 2 + 2 * (z % 2)) as usize
+}
+
+/// The slots of the edges of the first cell of a row.
+pub fn edge_slots(y: u32, z: u32) -> [u16; 12]
+    requires y { y < 1026 }
+    requires z { z < 1026 }
+    ensures slots { (e : ℕ) → e < 12 → slice_index result e ≡ edge_slot y z e }
+    ensures bound { (e : ℕ) → e < 12 → slice_index result e ≤ 9239 }
+{
+    let near = row_slot(y, z) as u16;
+    let up = row_slot(y + 1, z) as u16;
+    let far = row_slot(y, z + 1) as u16;
+    let both = row_slot(y + 1, z + 1) as u16;
+    [
+        near,
+        up,
+        far,
+        both,
+        near + 1,
+        near + 4,
+        far + 1,
+        far + 4,
+        near + 2,
+        near + 5,
+        up + 2,
+        up + 5,
+    ]
+}
+
+/// Lists the crossing edges of a row of points by their offsets, and says how many there are. `flags` is a buffer.
+pub fn list_edges<R: MeshRows>(
+    rows: &mut R,
+    y: u32,
+    z: u32,
+    flags: &mut [u8; ROW],
+    edges: &mut [u16; ROOM],
+) -> usize
+    requires y { y < (R.leveled rows.old).grid.ny }
+    requires z { z < (R.leveled rows.old).grid.nz }
+    ensures count { result ≤ 3 * (R.leveled rows.old).grid.nx }
+    ensures edges { AreEdges (R.leveled rows.old) y z (take result edges.new) }
+    ensures volume { R.leveled rows.new ≡ R.leveled rows.old }
+    ensures kept { R.kept rows.new ≡ R.kept rows.old }
+    ensures spent { R.spent rows.new ≡ R.spent rows.old }
+{
+    let nx = rows.sizes().nx() as usize;
+    set_flags(rows, y, z, flags);
+    put_row(&flags[..nx], edges)
+}
+
+/// What is laid into slots. Contracts see what stands in each, and what is due to an edge, by its name.
+pub trait Slots {
+    ghost at: { Self → ℕ → List ℕ };
+
+    ghost due: { Style → Leveled → ℕ → List ℕ };
+
+    /// Lays what is due to the crossing edges that begin in a row of points into their slots.
+    fn lay<R: MeshRows>(&mut self, rows: &mut R, walk: Walk<'_>, block: &Block, y: u32, z: u32)
+        requires ranks { AreRowRanks (R.leveled rows.old) walk.ranks.now walk.total }
+        requires y { y < (R.leveled rows.old).grid.ny }
+        requires z { z < (R.leveled rows.old).grid.nz }
+        ensures laid { let v = R.leveled rows.old in
+            AreLaid (at self.new) (due walk.entry.style v) v y z }
+        ensures before { (i : ℕ) → i < row_slot y z → at self.new i ≡ at self.old i }
+        ensures behind { (i : ℕ) → row_slot y z + 3078 ≤ i → at self.new i ≡ at self.old i }
+        ensures volume { R.leveled rows.new ≡ R.leveled rows.old }
+        ensures kept { R.kept rows.new ≡ R.kept rows.old }
+        ensures spent { R.spent rows.new ≡ R.spent rows.old };
+}
+
+/// The slots of the rows of points round a row of cells. Two of these rows stay when the next row of cells is the one behind,
+/// which begins with the row of points numbered `next`.
+#[derive(Drop)]
+pub struct Around<S: Slots> {
+    pub slots: S,
+    pub next: u32,
+}
+
+impl<S: Slots> Around<S> {
+    /// Slots of which nothing is known.
+    pub fn of(slots: S) -> Around<S>
+        ensures slots { result.slots ≡ slots }
+        ensures ready { (style : Style) → (v : Leveled) → IsGrid v.grid → IsReady (S.at slots) (S.due style v) v result.next }
+    {
+        Around {
+            slots,
+            next: u32::MAX,
+        }
+    }
+
+    /// Lays the rows of points that a row of cells begins with in its two slices, unless they are laid.
+    fn lay_near<R: MeshRows>(&mut self, rows: &mut R, walk: Walk<'_>, block: &Block, y: u32, z: u32)
+        requires ready { let v = R.leveled rows.old in
+            IsReady (S.at self.old.slots) (S.due walk.style v) v self.old.next }
+        requires ranks { AreRowRanks (R.leveled rows.old) walk.ranks.now walk.total }
+        requires y { y + 1 < (R.leveled rows.old).grid.ny }
+        requires z { z + 1 < (R.leveled rows.old).grid.nz }
+        ensures near { let v = R.leveled rows.old in
+            AreLaidInBoth (S.at self.new.slots) (S.due walk.entry.style v) v y z }
+        ensures volume { R.leveled rows.new ≡ R.leveled rows.old }
+        ensures kept { R.kept rows.new ≡ R.kept rows.old }
+        ensures spent { R.spent rows.new ≡ R.spent rows.old }
+    {
+        let sizes = rows.sizes();
+        if self.next != y + sizes.ny() * z {
+            self.slots.lay(rows, walk, block, y, z);
+            self.slots.lay(rows, walk, block, y, z + 1);
+        }
+    }
+
+    /// Lays the rows of points round a row of cells.
+    pub fn turn_to<R: MeshRows>(
+        &mut self,
+        rows: &mut R,
+        walk: Walk<'_>,
+        block: &Block,
+        y: u32,
+        z: u32,
+    )
+        requires ready { let v = R.leveled rows.old in
+            IsReady (S.at self.old.slots) (S.due walk.style v) v self.old.next }
+        requires ranks { AreRowRanks (R.leveled rows.old) walk.ranks.now walk.total }
+        requires y { y + 1 < (R.leveled rows.old).grid.ny }
+        requires z { z + 1 < (R.leveled rows.old).grid.nz }
+        ensures around { let v = R.leveled rows.old in
+            AreAround (S.at self.new.slots) (S.due walk.entry.style v) v y z }
+        ensures ready { let v = R.leveled rows.old in
+            IsReady (S.at self.new.slots) (S.due walk.entry.style v) v self.new.next }
+        ensures volume { R.leveled rows.new ≡ R.leveled rows.old }
+        ensures kept { R.kept rows.new ≡ R.kept rows.old }
+        ensures spent { R.spent rows.new ≡ R.spent rows.old }
+    {
+        let sizes = rows.sizes();
+        self.lay_near(rows, walk, block, y, z);
+        self.slots.lay(rows, walk, block, y + 1, z);
+        self.slots.lay(rows, walk, block, y + 1, z + 1);
+        self.next = y + sizes.ny() * z + 1;
+    }
+}
