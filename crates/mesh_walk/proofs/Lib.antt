@@ -5,6 +5,7 @@ pub mod RankedRows
 pub mod AnyName
 pub mod EdgeLines
 pub mod RowNames
+pub mod FlagBits
 pub mod CellRuns
 pub mod FaceLines
 pub mod CornerNumbers

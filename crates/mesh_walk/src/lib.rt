@@ -1,5 +1,5 @@
 //! The text of the mesh of a volume at a level, written while its rows are walked: the mesh is never held, and no memory is
-//! taken.
+//! taken. The crossing edges of a row of points are listed by their offsets for other crates too.
 #![tactic(auto)]
 
 mod cells;
@@ -13,4 +13,5 @@ mod slots;
 mod walk;
 mod write;
 
+pub use offsets::{ROOM, put_row};
 pub use write::write_mesh;

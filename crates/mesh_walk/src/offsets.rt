@@ -1,8 +1,8 @@
 //! The crossing edges of a row of points, listed by their offsets from the flags.
-ghost use Rattle.std.specs.Prelude.{◌≡◌, ◌+◌, ◌-◌, ◌*◌, ◌<◌, ◌≤◌, ◌++◌, ◌∷◌, [], cond, length, slice_index, take};
+ghost use Rattle.std.specs.Prelude.{◌≡◌, ℕ, ◌+◌, ◌-◌, ◌*◌, ◌^◌, ◌<◌, ◌≤◌, ◌++◌, ◌∷◌, [], All, cond, length, slice_index, take};
+ghost use Rattle.std.specs.Int.{trailing_zeros, w64};
 ghost use Rattle.mesh_walk.specs.Edges.{edges_among, edges_at};
-
-use crossing_edges::begin_none;
+ghost use Rattle.mesh_walk.specs.declared.offsets.TheConstants.{OFFSETS};
 
 /// So many lattice edges begin in the longest row of points.
 pub const ROOM: usize = 3078;
@@ -49,24 +49,63 @@ fn put_points(flags: &[u8], from: usize, end: usize, edges: &mut [u16; ROOM], at
     at
 }
 
-/// Writes those of eight points. Where no crossing edge begins they are left at once.
+/// How far the edges of eight points are in their row, by the bits of their flags as one number: a point has three of eight bits.
+const OFFSETS: [u16; 64] = [
+    0, 1, 2, 0, 0, 0, 0, 0, 3, 4, 5, 0, 0, 0, 0, 0, 6, 7, 8, 0, 0, 0, 0, 0, 9, 10, 11, 0, 0, 0, 0,
+    0, 12, 13, 14, 0, 0, 0, 0, 0, 15, 16, 17, 0, 0, 0, 0, 0, 18, 19, 20, 0, 0, 0, 0, 0, 21, 22, 23,
+    0, 0, 0, 0, 0,
+];
+
+/// The flags of the eight points from a place on as one number, those of the first in its lowest bits.
+#[inline(always)]
+fn eight_at(flags: &[u8], from: usize) -> u64
+    requires { from + 8 ≤ length flags.now }
+    ensures { let byte = λ (k : ℕ). slice_index flags.now (from + k) in
+        result ≡ byte 0 + 2 ^ 8 * byte 1 + 2 ^ 16 * byte 2 + 2 ^ 24 * byte 3
+        + 2 ^ 32 * byte 4 + 2 ^ 40 * byte 5 + 2 ^ 48 * byte 6 + 2 ^ 56 * byte 7 }
+{
+    let eight = &flags[from..from + 8];
+    u64::from_le_bytes([
+        eight[0], eight[1], eight[2], eight[3], eight[4], eight[5], eight[6], eight[7],
+    ])
+}
+
+/// How far the edge of the lowest bit that is set is in the row of eight points.
+#[inline(always)]
+fn lowest_offset(bits: u64) -> u16
+    requires { 0 < bits }
+    ensures value { result ≡ slice_index OFFSETS (trailing_zeros w64 bits) }
+    ensures bound { result < 24 }
+{
+    OFFSETS[bits.trailing_zeros() as usize]
+}
+
+/// Writes those of eight points, bit after bit that is set in their flags.
 #[inline(always)]
 fn put_eight(flags: &[u8], from: usize, edges: &mut [u16; ROOM], at: usize) -> usize
+    requires flags { All (λ f. f < 8) flags.now }
     requires eight { from + 8 ≤ length flags.now }
     requires few { length flags.now ≤ 1026 }
     requires at { at ≤ 3 * from }
     ensures put { take result edges.new ≡ take at edges.old ++ edges_among flags.now from 8 }
     ensures end { result ≤ 3 * (from + 8) }
 {
-    if begin_none(flags, from) {
-        return at;
+    let first = 3 * from as u16;
+    let mut bits = eight_at(flags, from);
+    let mut at = at;
+    while bits != 0 {
+        edges[at] = first + lowest_offset(bits);
+        at += 1;
+        bits &= bits - 1;
     }
-    put_points(flags, from, from + 8, edges, at)
+    at
 }
 
-/// Writes those of a row of points of these flags, and says how many there are.
+/// Writes the offsets of the crossing edges that begin at the points of a row, by their flags, and says how many there are. An
+/// offset is three times how far its point is along x, and the edge's axis.
 pub fn put_row(flags: &[u8], edges: &mut [u16; ROOM]) -> usize
-    requires { length flags.now ≤ 1026 }
+    requires few { length flags.now ≤ 1026 }
+    requires flags { All (λ f. f < 8) flags.now }
     ensures put { take result edges.new ≡ edges_among flags.now 0 (length flags.now) }
     ensures count { result ≤ 3 * length flags.now }
 {
