@@ -7,8 +7,8 @@ pub mod EdgeLines
 pub mod RowNames
 pub mod CellRuns
 pub mod FaceLines
-pub mod CornerNumbers
-pub mod CornerRows
+pub mod TextSlots
+pub mod EmptyCase
 pub mod SlotRows
 pub mod RowSlots
 pub mod CentreLines
