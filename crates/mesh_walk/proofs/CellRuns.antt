@@ -10,6 +10,8 @@ use Rattle.iso_defs.specs.Lists.{below}
 use Rattle.iso_defs.specs.Grid.{Grid, index, is_cell}
 use Rattle.iso_defs.specs.Scratch.{cell_centres}
 use Rattle.cell_loops.specs.Loops.{row_loops}
+use Rattle.flat_mesh.specs.declared.centres.Cell.{Cell}
+use Rattle.flat_mesh.specs.Centres.{IsCellAt}
 use Rattle.flat_mesh.specs.Lattice.{Leveled, heights}
 use Rattle.flat_mesh.specs.Faces.{loops_at}
 use Rattle.flat_mesh.specs.Rows.{row_start}
@@ -46,6 +48,13 @@ last_point v y z some hy hz = record { none = last_column v y z (row_start v.gri
 module _ (v : Leveled) (cells : RowCells) (are : AreCells v cells) where
   abbrev start : ℕ
   start = row_start v.grid cells.y cells.z
+
+  -- the cell at a place of the row
+  abbrev pub cell_of : ℕ → Cell
+  cell_of x = record { index = start + x; low = record { x = x; y = cells.y; z = cells.z } }
+
+  pub cell_in : (x : ℕ) → x + 1 < v.grid.nx → IsCellAt v.grid (cell_of x)
+  cell_in x low = record { index = omega arith; x = low; y = are.y; z = are.z }
 
   pub case_at : (x : ℕ) → x + 1 < v.grid.nx → IsCaseOf v (start + x) (get_or cells.cases x 0)
   case_at x low =

@@ -25,8 +25,7 @@ use Rattle.iso_base.specs.declared.format.MeshFormat.TheVariants.{Ply, Obj, Off,
 use Rattle.mesh_lines.specs.Lines.{face_line}
 use Rattle.mesh_lines.specs.Blocks.{Gathered, IsBehind}
 use Rattle.mesh_lines.specs.Triangles.{corner_text, letter_of}
-use Rattle.mesh_walk.specs.FourRows.{HasNumber}
-use Rattle.mesh_walk.specs.Numbers.{AreQuiet}
+use Rattle.mesh_walk.specs.Numbers.{AreQuiet, HasNumber}
 use Rattle.mesh_rows.specs.Counts.{centres_among, span}
 use Rattle.mesh_walk.specs.Spans.{edge_count, face_lines, faces_text, triangle_lines}
 use Rattle.mesh_walk.proofs.Adding.{behind_as}

@@ -8,8 +8,8 @@ pub mod RowNames
 pub mod FlagBits
 pub mod CellRuns
 pub mod FaceLines
-pub mod CornerNumbers
-pub mod CornerRows
+pub mod TextSlots
+pub mod EmptyCase
 pub mod SlotRows
 pub mod RowSlots
 pub mod CentreLines

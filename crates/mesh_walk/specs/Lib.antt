@@ -2,5 +2,5 @@ pub mod Spans
 pub mod Numbers
 pub mod Cells
 pub mod Edges
-pub mod FourRows
 pub mod Slots
+pub mod Texts

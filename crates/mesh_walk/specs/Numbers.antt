@@ -8,6 +8,7 @@ use Rattle.crossing_edges.specs.Flags.{rank}
 use Rattle.edge_points.specs.Rows.{RowNumbers}
 use Rattle.flat_mesh.specs.Faces.{loops_at}
 use Rattle.flat_mesh.specs.Lattice.{Leveled, heights}
+use Rattle.mesh_rows.specs.Counts.{centres_among}
 use Rattle.mesh_walk.specs.Spans.{edge_count}
 
 -- how many crossing edges begin at points before one
@@ -39,3 +40,8 @@ cost_before g cost r = sum_by (cost_of_row g cost) (below r)
 -- and for all of them
 abbrev pub cells_cost : Leveled → (ℕ → ℕ) → ℕ
 cells_cost v cost = cost_before v.grid cost (row_count v.grid)
+
+-- the number of the first centre of the cells from a point on: vertices on edges come first
+pub record HasNumber (v : Leveled) (q next : ℕ) : Type 0 where
+  pub number : next ≡ edge_count v + centres_among v 0 q
+  pub few : next ≤ edge_count v + 4 * q

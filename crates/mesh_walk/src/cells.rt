@@ -16,15 +16,24 @@ use iso_base::Point;
 use mesh_rows::MeshRows;
 use std::simd::prelude::*;
 
-/// Whether the eight cases from a place on are one case. This saves work and no text rests on it: the contract leaves
+/// Whether the eight cases from a place on are this one. This saves work and no text rests on it: the contract leaves
 /// `false` free.
 #[inline(always)]
-fn are_same(cases: &[u16], from: usize) -> bool
+fn are_all(cases: &[u16], from: usize, case: u16) -> bool
     requires { from + 8 ≤ length cases.now }
-    ensures { IsTrue result → (k : ℕ) → k < 8 → slice_index cases.now (from + k) ≡ slice_index cases.now from }
+    ensures { IsTrue result → (k : ℕ) → k < 8 → slice_index cases.now (from + k) ≡ case }
 {
     let eight = u16x8::from_slice(&cases[from..]);
-    eight.simd_eq(u16x8::splat(cases[from])).all()
+    eight.simd_eq(u16x8::splat(case)).all()
+}
+
+/// Whether a case has loops. Case 0, which most cells have, has none, and no table is asked.
+#[inline(always)]
+pub fn has_loops(case: u16) -> bool
+    requires { case < 656 }
+    ensures { result ≡ false → row_loops case ≡ [] }
+{
+    case != 0 && loop_count(CaseRow::of(case)) != 0
 }
 
 /// A row of cells: where its first point is, and for each cell the number of a case that has its loops.
@@ -76,10 +85,11 @@ impl RowCells {
         ensures { IsTrue result → (k : ℕ) → k < 8 → row_loops (slice_index self.now.cases (from + k)) ≡ [] }
     {
         let from = from as usize;
-        if loop_count(CaseRow::of(self.cases[from])) != 0 {
-            return false;
+        if are_all(&self.cases, from, 0) {
+            return true;
         }
-        are_same(&self.cases, from)
+        let case = self.cases[from];
+        are_all(&self.cases, from, case) && !has_loops(case)
     }
 
     /// Turns to a row of cells. It has their cases then.

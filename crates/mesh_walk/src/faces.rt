@@ -1,18 +1,21 @@
 //! The lines of the triangles, cell by cell.
-ghost use Rattle.std.specs.Prelude.{◌≡◌, ◌+◌, ◌-◌, ◌*◌, ◌<◌, ◌≤◌, ◌^◌, All, IfOk, length, map, slice_index};
+ghost use Rattle.std.specs.Prelude.{◌≡◌, ℕ, List, ◌+◌, ◌-◌, ◌*◌, ◌<◌, ◌≤◌, ◌^◌, All, IfOk, length, map, slice_index};
 ghost use Rattle.std.specs.List.{sum_by};
 ghost use Rattle.iso_defs.specs.Rows.{row_count};
 ghost use Rattle.cell_loops.specs.Loops.{IsLoop, row_loops};
 ghost use Rattle.flat_mesh.specs.Faces.{cell_faces, centres_of, loop_faces};
+ghost use Rattle.mesh_text.specs.Numbers.{IsShort, number_text, text_at};
 ghost use Rattle.mesh_lines.specs.Blocks.{Adds, IsBehind};
 ghost use Rattle.mesh_walk.specs.Cells.{AreCells, cells_start, eight_at};
-ghost use Rattle.mesh_walk.specs.FourRows.{AreCorners, HasNumber, IsReady};
-ghost use Rattle.mesh_walk.specs.Numbers.{AreRowRanks, cells_cost, cost_of_row};
+ghost use Rattle.mesh_walk.specs.Numbers.{AreRowRanks, HasNumber, cells_cost, cost_of_row};
+ghost use Rattle.mesh_walk.specs.Slots.{IsReady};
 ghost use Rattle.mesh_walk.specs.Spans.{all_faces_text, face_lines, faces_text, row_faces_text};
+ghost use Rattle.mesh_walk.specs.Texts.{AreTexts, AreTextsAround, HasText, cell_text, number_due};
 
-use crate::cells::RowCells;
-use crate::corners::Corners;
+use crate::cells::{RowCells, has_loops};
 use crate::ranks::row_at;
+use crate::slots::{Around, SLOTS, edge_slots};
+use crate::texts::NumberTexts;
 use crate::walk::Walk;
 use byte_streams::{Failed, Sink};
 use case_table::CaseRow;
@@ -20,57 +23,71 @@ use cell_loops::{loop_count, loop_edges};
 use flat_mesh::Heights;
 use mesh_lines::{Block, Style};
 use mesh_rows::MeshRows;
+use mesh_text::Number;
 
-/// The number of a vertex of a loop.
-#[inline(always)]
-fn corner(numbers: &[u32; 12], edges: &[u8], i: usize) -> u32
-    requires edges { All (λ e. e < 12) edges.now }
-    requires bound { i < length edges.now }
-    ensures { result ≡ slice_index (map (slice_index numbers.now) edges.now) i }
-{
-    numbers[edges[i] as usize]
+/// The texts of the numbers of the edges of a cell, each in its slot: so far from that of the edge of the row's first cell.
+#[derive(Clone, Copy)]
+struct CellTexts<'a> {
+    texts: &'a [Number; SLOTS],
+    slots: &'a [u16; 12],
+    at: u16,
+}
+
+impl<'a> CellTexts<'a> {
+    /// The text of an edge.
+    #[inline(always)]
+    fn text(self, edge: u8) -> &'a Number
+        requires { HasText self edge }
+        ensures text { number_text result.now ≡ cell_text self.entry edge }
+        ensures short { IsShort result.now }
+    {
+        &self.texts[(self.slots[edge as usize] + self.at) as usize]
+    }
 }
 
 /// Puts the lines of the triangles of a loop with a centre behind the others.
-fn put_fan(style: Style, numbers: &[u32; 12], edges: &[u8], centre: u32, block: &mut Block)
-    requires edges { All (λ e. e < 12) edges.now }
+fn put_fan(style: Style, texts: CellTexts<'_>, edges: &[u8], centre: u32, block: &mut Block)
+    requires texts { All (HasText texts) edges.now }
     requires long { 3 < length edges.now }
     requires few { length edges.now ≤ 12 }
     requires room { block.old.page + 768 ≤ 4096 }
-    ensures put { let corners = map (slice_index numbers.now) edges.now in
+    ensures put { (numbers : List ℕ) → AreTexts style.format texts.entry numbers edges.now
+        → let corners = map (slice_index numbers) edges.now in
         IsBehind block.old block.new (face_lines style.format (loop_faces corners centre)) }
     ensures few { block.new.page ≤ block.old.page + 768 }
     ensures bytes { block.new.total ≤ block.old.total + 768 }
 {
     let centre_text = block.corner_text(style, centre);
-    let first = block.corner_text(style, corner(numbers, edges, 0));
-    let mut last = first.copied();
+    let first = texts.text(edges[0]);
+    let mut last = first;
     for i in 1..edges.len() {
-        let next = block.corner_text(style, corner(numbers, edges, i));
-        block.push_texts(style, &last, &next, &centre_text);
+        let next = texts.text(edges[i]);
+        block.push_texts(style, last, next, &centre_text);
         last = next;
     }
-    block.push_texts(style, &last, &first, &centre_text);
+    block.push_texts(style, last, first, &centre_text);
 }
 
-/// Puts the lines of the triangles of a loop behind the others, from the numbers of the edges of its cell and that of
+/// Puts the lines of the triangles of a loop behind the others, from the texts of the edges of its cell and the number of
 /// its centre.
-fn put_loop(style: Style, numbers: &[u32; 12], edges: &[u8], centre: u32, block: &mut Block)
+fn put_loop(style: Style, texts: CellTexts<'_>, edges: &[u8], centre: u32, block: &mut Block)
     requires edges { IsLoop edges.now }
+    requires texts { All (HasText texts) edges.now }
     requires room { block.old.page + 768 ≤ 4096 }
-    ensures put { let corners = map (slice_index numbers.now) edges.now in
+    ensures put { (numbers : List ℕ) → AreTexts style.format texts.entry numbers edges.now
+        → let corners = map (slice_index numbers) edges.now in
         IsBehind block.old block.new (face_lines style.format (loop_faces corners centre)) }
     ensures few { block.new.page ≤ block.old.page + 768 }
     ensures bytes { block.new.total ≤ block.old.total + 768 }
 {
     if edges.len() > 3 {
-        put_fan(style, numbers, edges, centre, block);
+        put_fan(style, texts, edges, centre, block);
         return;
     }
-    let a = block.corner_text(style, corner(numbers, edges, 0));
-    let b = block.corner_text(style, corner(numbers, edges, 1));
-    let c = block.corner_text(style, corner(numbers, edges, 2));
-    block.push_texts(style, &a, &b, &c);
+    let a = texts.text(edges[0]);
+    let b = texts.text(edges[1]);
+    let c = texts.text(edges[2]);
+    block.push_texts(style, a, b, c);
 }
 
 /// The number of the next centre behind a loop.
@@ -85,10 +102,18 @@ fn behind_loop(edges: &[u8], next: u32) -> u32
 
 /// Puts the lines of the triangles of the loops of a case behind the others, where `first` is the number of the first
 /// centre, and gives that of the next one.
-fn put_loops(style: Style, numbers: &[u32; 12], case: CaseRow, first: u32, block: &mut Block) -> u32
+fn put_loops(
+    style: Style,
+    texts: CellTexts<'_>,
+    case: CaseRow,
+    first: u32,
+    block: &mut Block,
+) -> u32
+    requires texts { All (All (HasText texts)) (row_loops case) }
     requires room { block.old.page + 3072 ≤ 4096 }
     requires first { first < 2 ^ 31 }
-    ensures put { let faces = cell_faces numbers.now (row_loops case) first in
+    ensures put { (numbers : List ℕ) → All (AreTexts style.format texts.entry numbers) (row_loops case)
+        → let faces = cell_faces numbers (row_loops case) first in
         IsBehind block.old block.new (face_lines style.format faces) }
     ensures next { result ≡ first + sum_by centres_of (row_loops case) }
     ensures bytes { block.new.total ≤ block.old.total + 3072 }
@@ -96,18 +121,19 @@ fn put_loops(style: Style, numbers: &[u32; 12], case: CaseRow, first: u32, block
     let mut next = first;
     for turn in 0..loop_count(case) {
         let edges = loop_edges(case, turn);
-        put_loop(style, numbers, edges, next, block);
+        put_loop(style, texts, edges, next, block);
         next = behind_loop(edges, next);
     }
     next
 }
 
-/// A row of cells with the rows of points round it, and how its triangles are written.
+/// A row of cells with the texts in the slots round it, and how its triangles are written.
 #[derive(Clone, Copy)]
 struct FaceRow<'a> {
     style: Style,
     cells: &'a RowCells,
-    corners: &'a Corners,
+    texts: &'a [Number; SLOTS],
+    slots: [u16; 12],
 }
 
 impl<'a> FaceRow<'a> {
@@ -122,7 +148,8 @@ impl<'a> FaceRow<'a> {
         sink: &mut K,
     ) -> Result<u32, Failed>
         requires cells { AreCells (H.leveled field.now) self.cells.now }
-        requires corners { AreCorners (H.leveled field.now) self.cells.now.y self.cells.now.z self.corners.now }
+        requires texts { let cells = self.cells.now in
+            AreTextsAround self.style (H.leveled field.now) cells.y cells.z self.texts.now self.slots }
         requires x { x + 1 < (H.leveled field.now).grid.nx }
         requires next { let v = H.leveled field.now in
             HasNumber v (cells_start v self.cells.now + x) next }
@@ -134,14 +161,17 @@ impl<'a> FaceRow<'a> {
         ensures bytes { IfOk result (λ _. block.new.total ≤ block.old.total + 3072) }
     {
         let _ = field.sizes();
-        let case = CaseRow::of(self.cells.cases[x as usize]);
-        if loop_count(case) == 0 {
+        let case = self.cells.cases[x as usize];
+        if !has_loops(case) {
             return Ok(next);
         }
         block.reserve(sink)?;
-        let cell = self.cells.cell(field, x);
-        let numbers = self.corners.edge_numbers(field, cell);
-        let next = put_loops(self.style, &numbers, case, next, block);
+        let texts = CellTexts {
+            texts: self.texts,
+            slots: &self.slots,
+            at: 3 * x as u16,
+        };
+        let next = put_loops(self.style, texts, CaseRow::of(case), next, block);
         Ok(next)
     }
 
@@ -157,7 +187,8 @@ impl<'a> FaceRow<'a> {
         sink: &mut K,
     ) -> Result<u32, Failed>
         requires cells { AreCells (H.leveled field.now) self.cells.now }
-        requires corners { AreCorners (H.leveled field.now) self.cells.now.y self.cells.now.z self.corners.now }
+        requires texts { let cells = self.cells.now in
+            AreTextsAround self.style (H.leveled field.now) cells.y cells.z self.texts.now self.slots }
         requires eight { 8 * eight + 1 < (H.leveled field.now).grid.nx }
         requires next { let v = H.leveled field.now in
             HasNumber v (cells_start v self.cells.now + 8 * eight) next }
@@ -193,7 +224,8 @@ impl<'a> FaceRow<'a> {
         sink: &mut K,
     ) -> Result<u32, Failed>
         requires cells { AreCells (H.leveled field.now) self.cells.now }
-        requires corners { AreCorners (H.leveled field.now) self.cells.now.y self.cells.now.z self.corners.now }
+        requires texts { let cells = self.cells.now in
+            AreTextsAround self.style (H.leveled field.now) cells.y cells.z self.texts.now self.slots }
         requires next { let v = H.leveled field.now in
             HasNumber v (cells_start v self.cells.now) next }
         ensures adds { let v = H.leveled field.now in
@@ -214,12 +246,12 @@ impl<'a> FaceRow<'a> {
     }
 }
 
-/// How far the lines of the triangles are: the number of the next centre, and buffers for a row of cells and the rows of
-/// points round it.
+/// How far the lines of the triangles are: the number of the next centre, and buffers for a row of cells and the texts
+/// round it.
 #[derive(Drop)]
 struct Faces {
     cells: RowCells,
-    corners: Corners,
+    texts: Around<NumberTexts>,
     next: u32,
 }
 
@@ -234,13 +266,15 @@ fn write_row<R: MeshRows, K: Sink>(
 ) -> Result<(), Failed>
     requires ranks { AreRowRanks (R.leveled rows.old) walk.ranks.now walk.total }
     requires row { row < row_count (R.leveled rows.old).grid }
-    requires ready { IsReady (R.leveled rows.old) faces.old.corners }
+    requires ready { let v = R.leveled rows.old in
+        IsReady (text_at faces.old.texts.slots.texts) (number_due walk.style v) v faces.old.texts.next }
     requires next { HasNumber (R.leveled rows.old) ((R.leveled rows.old).grid.nx * row) faces.old.next }
     ensures adds { Adds (K.seen sink.old) (K.seen sink.new) block.old block.new result
         (row_faces_text walk.entry.style.format (R.leveled rows.old) row) }
     ensures next { let v = R.leveled rows.old in
         IfOk result (λ _. HasNumber v (v.grid.nx * (row + 1)) faces.new.next) }
-    ensures ready { IsReady (R.leveled rows.old) faces.new.corners }
+    ensures ready { let v = R.leveled rows.old in
+        IsReady (text_at faces.new.texts.slots.texts) (number_due walk.entry.style v) v faces.new.texts.next }
     ensures bytes { IfOk result (λ _. block.new.total ≤ block.old.total + 3072 * (R.leveled rows.old).grid.nx) }
     ensures volume { R.leveled rows.new ≡ R.leveled rows.old }
     ensures kept { R.kept rows.new ≡ R.kept rows.old }
@@ -253,11 +287,12 @@ fn write_row<R: MeshRows, K: Sink>(
     if !faces.cells.find(rows, walk, y, z) {
         return Ok(());
     }
-    faces.corners.rank(rows, walk, y, z);
+    faces.texts.turn_to(rows, walk, block, y, z);
     let face_row = FaceRow {
         style: walk.style,
         cells: &faces.cells,
-        corners: &faces.corners,
+        texts: &faces.texts.slots.texts,
+        slots: edge_slots(y, z),
     };
     faces.next = face_row.write(rows, faces.next, block, sink)?;
     Ok(())
@@ -284,7 +319,7 @@ pub fn write_faces<R: MeshRows, K: Sink>(
     let sizes = rows.sizes();
     let mut faces = Faces {
         cells: RowCells::new(),
-        corners: Corners::new(),
+        texts: Around::of(NumberTexts::new()),
         next: walk.total,
     };
     for row in 0..sizes.ny() * sizes.nz() {

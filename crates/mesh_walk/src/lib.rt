@@ -4,12 +4,12 @@
 
 mod cells;
 mod centres;
-mod corners;
 mod edges;
 mod faces;
 mod offsets;
 mod ranks;
 mod slots;
+mod texts;
 mod walk;
 mod write;
 

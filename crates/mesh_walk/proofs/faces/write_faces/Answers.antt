@@ -4,9 +4,11 @@ use Rattle.std.proofs.Math.Nat.{mul-le-mul_left}
 use Rattle.iso_defs.specs.Grid.{is_cell}
 use Rattle.iso_defs.specs.Rows.{row_count}
 use Rattle.flat_mesh.specs.Lattice.{Leveled}
-use Rattle.mesh_walk.specs.FourRows.{HasNumber, IsReady}
-use Rattle.mesh_walk.specs.Numbers.{AreRowRanks, cost_before, cost_of_row}
+use Rattle.mesh_text.specs.Numbers.{text_at}
+use Rattle.mesh_walk.specs.Numbers.{AreRowRanks, HasNumber, cost_before, cost_of_row}
+use Rattle.mesh_walk.specs.Slots.{IsReady}
 use Rattle.mesh_walk.specs.Spans.{faces_text, row_faces_text, triangle_lines}
+use Rattle.mesh_walk.specs.Texts.{number_due}
 use Rattle.mesh_walk.proofs.Adding.{adds_as}
 use Rattle.mesh_walk.proofs.CellRuns.{cost_at_first, cost_next, cost_upto}
 use Rattle.mesh_walk.proofs.FaceLines.{first_number}
@@ -21,7 +23,7 @@ loop-row-init g c =
     record {
       adds = adds_as _ _ _ _ _ _ _ (ap (λ n. faces_text c.args.walk.style.format v 0 n) z) (run_none (triangle_lines c.args.walk.style.format v) (is_cell v.grid) 0 _ _ tt);
       bytes = omega arith;
-      ready = c.new-2.ensures v c.sizes-sizes.ensures.leveled.grid;
+      ready = c.of.ensures.ready c.args.walk.style v c.sizes-sizes.ensures.leveled.grid;
       next = subst (λ q. HasNumber v q c.args.walk.total) z (first_number v c.args.walk.total c.requires.ranks.all);
       volume = refl;
       kept = refl;
@@ -39,7 +41,9 @@ write_row-requires-clause-row g c =
     subst (λ (v : Leveled). c.loop-row.row < row_count v.grid) (sym c.loop-row.invariant.volume) (omega (arith, rows, c.loop-row-test.true))
 
 pub write_row-requires-clause-ready : goal.write_row-requires-clause-ready
-write_row-requires-clause-ready g c = subst (λ (v : Leveled). IsReady v c.loop-row.faces.corners) (sym c.loop-row.invariant.volume) c.loop-row.invariant.ready
+write_row-requires-clause-ready g c =
+    subst (λ (v : Leveled). IsReady (text_at c.loop-row.faces.texts.slots.texts) (number_due c.args.walk.style v) v c.loop-row.faces.texts.next)
+    (sym c.loop-row.invariant.volume) c.loop-row.invariant.ready
 
 pub write_row-requires-clause-next : goal.write_row-requires-clause-next
 write_row-requires-clause-next g c = subst (λ (v : Leveled). HasNumber v (v.grid.nx * c.loop-row.row) c.loop-row.faces.next) (sym c.loop-row.invariant.volume) c.loop-row.invariant.next
@@ -87,7 +91,8 @@ loop-row-preserved g c =
       adds = run_more (triangle_lines c.args.walk.style.format v) (is_cell v.grid) 0 _ _ _ _ _ _ tt tt
           (v.grid.nx * c.loop-row.row) v.grid.nx (v.grid.nx * (c.loop-row.row + 1)) _ (omega arith) (omega arith) c.loop-row.invariant.adds one;
       bytes = omega (arith, nx, c.loop-row.invariant.bytes, c.in_ok-write_row.ensures.bytes);
-      ready = subst (λ (v : Leveled). IsReady v c.write_row.new.faces.corners) c.loop-row.invariant.volume c.in_ok-write_row.ensures.ready;
+      ready = subst (λ (v : Leveled). IsReady (text_at c.write_row.new.faces.texts.slots.texts) (number_due c.args.walk.style v) v c.write_row.new.faces.texts.next)
+          c.loop-row.invariant.volume c.in_ok-write_row.ensures.ready;
       next = subst (λ (v : Leveled). HasNumber v (v.grid.nx * (c.loop-row.row + 1)) c.write_row.new.faces.next) c.loop-row.invariant.volume c.in_ok-write_row.ensures.next;
       volume = c.in_ok-write_row.ensures.volume ∙ c.loop-row.invariant.volume;
       kept = c.in_ok-write_row.ensures.kept ∙ c.loop-row.invariant.kept;

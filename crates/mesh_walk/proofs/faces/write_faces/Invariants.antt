@@ -1,8 +1,10 @@
 use Rattle.std.proofs.Common.{◌≡◌, ◌+◌, ◌*◌, ◌≤◌, Ok}
+use Rattle.mesh_text.specs.Numbers.{text_at}
 use Rattle.mesh_lines.specs.Blocks.{Adds}
-use Rattle.mesh_walk.specs.FourRows.{HasNumber, IsReady}
-use Rattle.mesh_walk.specs.Numbers.{cost_before}
+use Rattle.mesh_walk.specs.Numbers.{HasNumber, cost_before}
+use Rattle.mesh_walk.specs.Slots.{IsReady}
 use Rattle.mesh_walk.specs.Spans.{faces_text}
+use Rattle.mesh_walk.specs.Texts.{number_due}
 use Rattle.mesh_walk.proofs.faces.write_faces.Given as goal
 
 abbrev pub invariant-loop-row : goal.invariant-loop-row
@@ -11,7 +13,7 @@ invariant-loop-row g l =
     record {
       adds : Adds {T = Unit {0}} (g.K.Sink.seen l.fn.sink) (g.K.Sink.seen l.sink) l.fn.block l.block (Ok tt) (faces_text l.walk.style.format v 0 (v.grid.nx * l.row));
       bytes : l.block.total ≤ l.fn.block.total + 3072 * (v.grid.nx * l.row);
-      ready : IsReady v l.faces.corners;
+      ready : IsReady (text_at l.faces.texts.slots.texts) (number_due l.walk.style v) v l.faces.texts.next;
       next : HasNumber v (v.grid.nx * l.row) l.faces.next;
       volume : g.R.Heights.leveled l.rows ≡ v;
       kept : g.R.MeshRows.kept l.rows ≡ g.R.MeshRows.kept l.fn.rows;

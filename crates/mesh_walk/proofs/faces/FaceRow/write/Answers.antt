@@ -3,7 +3,7 @@ use Rattle.std.proofs.lemmas.Result.{err_from_is_err_and}
 use Rattle.iso_defs.specs.Grid.{is_cell}
 use Rattle.flat_mesh.specs.Rows.{row_start}
 use Rattle.mesh_walk.specs.Cells.{eight_at}
-use Rattle.mesh_walk.specs.FourRows.{HasNumber}
+use Rattle.mesh_walk.specs.Numbers.{HasNumber}
 use Rattle.mesh_walk.specs.Spans.{faces_text, triangle_lines}
 use Rattle.mesh_walk.proofs.Adding.{adds_as, adds_none, adds_with}
 use Rattle.mesh_walk.proofs.CellRuns.{last_point, width_is}

@@ -2,7 +2,7 @@ use Rattle.std.proofs.Common.{◌+◌, ◌*◌, ◌≤◌, Ok}
 use Rattle.flat_mesh.specs.Rows.{row_start}
 use Rattle.mesh_lines.specs.Blocks.{Adds}
 use Rattle.mesh_walk.specs.Cells.{eight_at}
-use Rattle.mesh_walk.specs.FourRows.{HasNumber}
+use Rattle.mesh_walk.specs.Numbers.{HasNumber}
 use Rattle.mesh_walk.specs.Spans.{faces_text}
 use Rattle.mesh_walk.proofs.faces.FaceRow.write.Given as goal
 

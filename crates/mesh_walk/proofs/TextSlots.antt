@@ -1,0 +1,150 @@
+-- The texts of the numbers of edges in their slots.
+use Rattle.std.proofs.Common.{◌≡◌, ℕ, ◌+◌, ◌*◌, ◌^◌, ◌<◌, ◌≤◌, All, true, inl, inr, List, [], map, set, length, get_or, sym, ◌∙◌, ap, subst, arith, zero-add}
+use Rattle.std.proofs.lemmas.Bool.{cases_lt}
+use Rattle.std.proofs.lemmas.Fmt.{length-decimal-le}
+use Rattle.std.proofs.lemmas.List.{get_or-map, get_or-set_other, get_or-set_same, get_or_default}
+use Rattle.std.proofs.lemmas.List.FromFn.{get_or-map-range_with_len}
+use Rattle.iso_defs.specs.Cell.{cell_edge, cell_signs, crosses}
+use Rattle.iso_defs.specs.Grid.{name_bound}
+use Rattle.iso_defs.specs.Lists.{below}
+use Rattle.iso_defs.specs.Signs.{is_crossing}
+use Rattle.iso_base.specs.Sizing.{IsGrid}
+use Rattle.iso_base.specs.declared.format.MeshFormat.{MeshFormat}
+use Rattle.iso_base.specs.declared.format.MeshFormat.TheVariants.{Ply, Obj, Off, Vtk}
+use Rattle.verdict_laws.proofs.Lists.{In-filter}
+use Rattle.mesh_laws.proofs.Names.{edge_in}
+use Rattle.mesh_laws.proofs.Numbers.{crossing_of_cell}
+use Rattle.crossing_edges.specs.Flags.{rank}
+use Rattle.flat_mesh.specs.declared.centres.Cell.{Cell}
+use Rattle.flat_mesh.specs.Centres.{IsCellAt}
+use Rattle.flat_mesh.specs.Faces.{loops_at}
+use Rattle.flat_mesh.specs.Lattice.{Leveled, heights}
+use Rattle.flat_mesh.specs.Numbers.{AreNumbers}
+use Rattle.flat_mesh.specs.Rows.{row_start}
+use Rattle.flat_mesh.proofs.CellPlaces.{cell_placed}
+use Rattle.flat_mesh.proofs.FirstNumbers.{rank_low}
+use Rattle.flat_mesh.proofs.Loops.{loop_crosses, loop_is}
+use Rattle.mesh_rows.specs.Rows.{AreEdges}
+use Rattle.mesh_text.specs.declared.number.Number.{Number}
+use Rattle.mesh_text.specs.Numbers.{number_text, text_at}
+use Rattle.mesh_lines.specs.declared.style.Style.{Style}
+use Rattle.mesh_lines.specs.Triangles.{corner_text}
+use Rattle.mesh_walk.specs.declared.faces.CellTexts.{CellTexts}
+use Rattle.mesh_walk.specs.Slots.{AreApart}
+use Rattle.mesh_walk.specs.Texts.{AreTexts, AreTextsAround, HasText, cell_slot, cell_text}
+use Rattle.mesh_walk.proofs.RowSlots.{edge_is}
+use Rattle.mesh_walk.proofs.SlotRows.{edge_laid, slot_low}
+
+-- one text more is set
+module _ (texts new : List Number) (at : ℕ) (n : Number) (here : at < length texts) (set_is : new ≡ set texts at n) where
+  pub text_set : text_at new at ≡ number_text n
+  text_set = ap (λ l. text_at l at) set_is ∙ ap number_text (get_or-set_same texts at n (record { bytes = []; len = 0 }) here)
+
+  pub text_kept : (k : ℕ) → ¬ (k ≡ at) → text_at new k ≡ text_at texts k
+  text_kept k other = ap (λ l. text_at l k) set_is ∙ ap number_text (get_or-set_other texts at k n (record { bytes = []; len = 0 }) other)
+
+-- the texts of the first edges of a list are set
+pub record AreSet (format : MeshFormat) (number first : ℕ) (edges : List ℕ) (old new : List Number) (count : ℕ) : Type 0 where
+  pub set : (k : ℕ) → k < count → text_at new (first + get_or edges k 0) ≡ corner_text format (number + k)
+  pub before : (i : ℕ) → i < first → text_at new i ≡ text_at old i
+  pub behind : (i : ℕ) → first + 3078 ≤ i → text_at new i ≡ text_at old i
+
+pub set_more : (format : MeshFormat) (number first : ℕ) (edges : List ℕ) (old texts new : List Number) (count : ℕ) (n : Number)
+    → AreApart edges → count < length edges → get_or edges count 0 < 3078 → first + get_or edges count 0 < length texts
+    → new ≡ set texts (first + get_or edges count 0) n → number_text n ≡ corner_text format (number + count)
+    → AreSet format number first edges old texts count → AreSet format number first edges old new (count + 1)
+set_more format number first edges old texts new count n apart low few here made is are =
+    let at : ℕ = first + get_or edges count 0 in
+    let kept : (k : ℕ) → ¬ (k ≡ at) → text_at new k ≡ text_at texts k = text_kept texts new at n here made in
+    record {
+      set = λ k within. elim (cases_lt k count) [
+        | inl earlier ↦ kept (first + get_or edges k 0)
+            (λ e. let same : get_or edges k 0 ≡ get_or edges count 0 = omega (arith, e) in omega (arith, apart.each k count (omega arith) low same, earlier))
+            ∙ are.set k earlier
+        | inr last ↦ (
+            let same : k ≡ count = omega arith in
+            ap (λ k. text_at new (first + get_or edges k 0)) same ∙ (text_set texts new at n here made ∙ (is ∙ ap (λ k. corner_text format (number + k)) (sym same))))
+      ];
+      before = λ i early. kept i (λ e. omega (arith, e, early)) ∙ are.before i early;
+      behind = λ i late. kept i (λ e. omega (arith, e, late, few)) ∙ are.behind i late;
+    }
+
+-- the edges of a row stand apart
+pub edges_apart : (v : Leveled) (y z : ℕ) (edges : List ℕ) → AreEdges v y z edges → AreApart edges
+edges_apart v y z edges are = record {
+  each = λ j k hj hk e.
+      let a = edge_is v y z edges are j hj in
+      let b = edge_is v y z edges are k hk in
+      let same : rank v.grid (heights v) (3 * row_start v.grid y z + get_or edges j 0) ≡ rank v.grid (heights v) (3 * row_start v.grid y z + get_or edges k 0)
+      = ap (λ e. rank v.grid (heights v) (3 * row_start v.grid y z + e)) e in
+      omega (arith, same, a.rank_is, b.rank_is);
+}
+
+-- the text of a number is short
+pub short_text : (format : MeshFormat) (n : ℕ) → n < 2 ^ 32 → length (corner_text format n) ≤ 12
+short_text Ply n low = let k = length-decimal-le 11 (0 + n) (omega arith) (omega arith) (omega arith) in omega (arith, k)
+short_text Obj n low = let k = length-decimal-le 11 (1 + n) (omega arith) (omega arith) (omega arith) in omega (arith, k)
+short_text Off n low = let k = length-decimal-le 11 (0 + n) (omega arith) (omega arith) (omega arith) in omega (arith, k)
+short_text Vtk n low = let k = length-decimal-le 11 (0 + n) (omega arith) (omega arith) (omega arith) in omega (arith, k)
+
+-- the text of a vertex of a loop
+pub text_there : (format : MeshFormat) (cell : CellTexts) (numbers edges text : List ℕ) (k e : ℕ) → AreTexts format cell numbers edges → k < length edges → e ≡ get_or edges k 0
+    → text ≡ cell_text cell e → text ≡ corner_text format (get_or (map (λ e. get_or numbers e 0) edges) k 0)
+text_there format cell numbers edges text k e are low at is =
+    is ∙ (ap (cell_text cell) at ∙ (are k 0 low ∙ ap (corner_text format) (sym (get_or-map (λ e. get_or numbers e 0) edges k 0 0 low))))
+
+-- the numbers of the edges of a cell
+module _ (v : Leveled) (q : ℕ) where
+  abbrev number : ℕ → ℕ
+  number e = rank v.grid (heights v) (cell_edge v.grid q e)
+
+  abbrev pub numbers : List ℕ
+  numbers = map number (below 12)
+
+  pub numbers_are : AreNumbers v q numbers
+  numbers_are e low = get_or-map-range_with_len number 0 12 e e 0 low (zero-add e)
+
+-- the texts of the edges of a cell
+module _ (v : Leveled) (is : IsGrid v.grid) (style : Style) (cell : Cell) (h : IsCellAt v.grid cell) (t : CellTexts) (at : t.at ≡ 3 * cell.low.x)
+    (are : AreTextsAround style v cell.low.y cell.low.z t.texts.now t.slots.now) where
+  slot_is : (e : ℕ) → e < 12 → cell_slot t e ≡ get_or t.slots.now e 0 + 3 * cell.low.x
+  slot_is e low = ap (λ n. get_or t.slots.now e 0 + n) at
+
+  module _ (e : ℕ) (low : e < 12) (c : crosses (cell_signs v.grid (heights v) cell.index) e ≡ true) where
+    crossing : is_crossing v.grid (heights v) (cell_edge v.grid cell.index e) ≡ true
+    crossing = (In-filter (is_crossing v.grid (heights v)) (cell_edge v.grid cell.index e) (below (name_bound v.grid)) (crossing_of_cell v.grid (heights v) cell.index e (cell_placed v.grid cell h).known low c)).1
+
+    text_is : cell_text t e ≡ corner_text style.format (number v cell.index e)
+    text_is = ap (text_at t.texts.now) (slot_is e low ∙ ap (λ n. n + 3 * cell.low.x) (are.each e low)) ∙ edge_laid _ _ v cell h are.around e low crossing
+
+    number_low : number v cell.index e < 2 ^ 32
+    number_low =
+        let count = is.count in
+        omega (arith, rank_low v.grid (heights v) (cell_edge v.grid cell.index e), edge_in v.grid cell.index e (cell_placed v.grid cell h).known low)
+
+    has_text : HasText t e
+    has_text = record {
+      edge = low;
+      slot = omega (arith, slot_is e low, are.each e low, slot_low cell.low.y cell.low.z e low, h.x, is.x.most);
+      short = subst (λ l. length l ≤ 12) (sym text_is) (short_text style.format (number v cell.index e) number_low);
+    }
+
+  module _ (ls : List (List ℕ)) (same : ls ≡ loops_at v cell.index) where
+    loop_at : (i : ℕ) (d : List ℕ) → i < length ls → get_or ls i d ≡ get_or (loops_at v cell.index) i []
+    loop_at i d low = get_or_default ls i d [] low ∙ ap (λ l. get_or l i []) same
+
+    low_at : (i : ℕ) → i < length ls → i < length (loops_at v cell.index)
+    low_at i low = subst (λ n. i < n) (ap length same) low
+
+    pub loops_have : All (All (HasText t)) ls
+    loops_have i d low =
+        let loop = loop_is v cell.index i (low_at i low) in
+        let cross = loop_crosses v cell.index i (low_at i low) in
+        subst (All (HasText t)) (sym (loop_at i d low)) (λ k d below. has_text _ (loop.low k d below) (cross.each k d below))
+
+    pub loops_are : All (AreTexts style.format t (numbers v cell.index)) ls
+    loops_are i d low =
+        let loop = loop_is v cell.index i (low_at i low) in
+        let cross = loop_crosses v cell.index i (low_at i low) in
+        subst (AreTexts style.format t (numbers v cell.index)) (sym (loop_at i d low))
+        (λ k d below. text_is _ (loop.low k d below) (cross.each k d below) ∙ ap (corner_text style.format) (sym (numbers_are v cell.index _ (loop.low k d below))))
