@@ -1,5 +1,6 @@
 pub mod QuietCases
 pub mod RowSlices
+pub mod RowPlaces
 pub mod Corners
 pub mod RowCases
 pub mod Counted

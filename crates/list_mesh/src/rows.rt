@@ -6,6 +6,7 @@ ghost use Rattle.iso_base.specs.Samples.{IsSample};
 use crate::cases::{CellCases, all_cases};
 use crate::counts::count_all;
 use crate::field::ListField;
+use crate::places::{CrossingPlaces, all_places, place_row};
 use crate::slices::{begin_no_edges, case_row, flag_row};
 use crossing_edges::put_flags;
 use flat_mesh::{Cell, Heights};
@@ -15,13 +16,14 @@ use samples::{Samples, all_signs};
 use std::alloc::Global;
 use std::marker::Model;
 
-/// A volume at a level, with the flags of its points and the cases of its cells. Contracts see the grid, the samples and the level.
+/// A volume at a level, with the flags of its points, the cases of its cells and where its edges are crossed. Contracts see the
+/// grid, the samples and the level.
 #[derive(Drop)]
 pub struct ListRows<'a, S: Samples> {
     field: ListField<'a, S>,
     flags: Vec<u8>,
     cases: CellCases,
-    ends: Vec<i64>,
+    places: CrossingPlaces,
 }
 
 impl<'a, S: Samples> Model for ListRows<'a, S> {
@@ -32,7 +34,7 @@ impl<'a, S: Samples> Model for ListRows<'a, S> {
 
     ghost view = { λ r. r.field };
 
-    ghost invariant = { λ r. AreKept r.field r.flags.items r.cases r.ends.items };
+    ghost invariant = { λ r. AreKept r.field r.flags.items r.cases r.places };
 }
 
 impl<'a, S: Samples> ListRows<'a, S> {
@@ -48,17 +50,17 @@ impl<'a, S: Samples> ListRows<'a, S> {
         ensures { IfOk result (λ r. r ≡ record { grid = sizes; samples = S.list samples.now; level = level }) }
     {
         let _ = sizes.count();
-        let ends = vec![in alloc; 0i64; 3 * sizes.nx() as usize]?;
         let mut bits = all_signs(alloc, &sizes, samples, level)?;
         let field = ListField::new(sizes, samples, level);
         let cases = all_cases(alloc, &field, &bits)?;
         // No sign is asked for from here on: the flags take their place.
         put_flags(&sizes, &mut bits);
+        let places = all_places(alloc, &field, &bits)?;
         Ok(ListRows {
             field,
             flags: bits,
             cases,
-            ends,
+            places,
         })
     }
 }
@@ -97,7 +99,8 @@ impl<'a, S: Samples> MeshRows for ListRows<'a, S> {
     }
 
     fn fill_places(&mut self, y: u32, z: u32, edges: &[u16], places: &mut [u16]) {
-        self.field.put_places(y, z, edges, &mut self.ends, places);
+        let _ = self.field.sizes();
+        places.copy_from_slice(place_row(&self.field, &self.places, y, z, edges.len()));
     }
 
     fn fill_cases(&mut self, y: u32, z: u32, cases: &mut [u16]) {
