@@ -11,6 +11,8 @@ pub mod CornerNumbers
 pub mod CornerRows
 pub mod SlotRows
 pub mod RowSlots
+pub mod CellLanes
+pub mod PlaceSlots
 pub mod CentreLines
 pub mod MeshText
 pub mod WholeMesh

@@ -8,6 +8,7 @@ mod corners;
 mod edges;
 mod faces;
 mod offsets;
+mod places;
 mod ranks;
 mod slots;
 mod walk;
