@@ -5,6 +5,7 @@ use Rattle.iso_defs.specs.Grid.{is_cell}
 use Rattle.iso_defs.specs.Rows.{row_count}
 use Rattle.flat_mesh.specs.Lattice.{Leveled}
 use Rattle.mesh_walk.specs.Numbers.{AreRowRanks, cost_before, cost_of_row}
+use Rattle.mesh_walk.specs.declared.places.EdgePlaces.{EdgePlaces}
 use Rattle.mesh_walk.specs.Places.{due_to, in_slot}
 use Rattle.mesh_walk.specs.Slots.{IsReady}
 use Rattle.mesh_walk.specs.Spans.{centre_lines, centres_text, row_centres_text}
@@ -21,7 +22,8 @@ loop-row-init g c =
     record {
       adds = adds_as _ _ _ _ _ _ _ (ap (λ n. centres_text c.args.walk.style v 0 n) z) (run_none (centre_lines c.args.walk.style v) (is_cell v.grid) 0 _ _ tt);
       bytes = omega arith;
-      ready = c.of.ensures.ready c.args.walk.style v c.sizes-sizes.ensures.leveled.grid;
+      ready = subst (λ (p : EdgePlaces). IsReady (in_slot p.places) (due_to v) v c.of.result.next) (sym c.of.ensures.slots)
+          (c.of.ensures.ready c.args.walk.style v c.sizes-sizes.ensures.leveled.grid);
       volume = refl;
       kept = refl;
       least = omega arith;
