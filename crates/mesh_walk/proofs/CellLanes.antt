@@ -1,9 +1,8 @@
 -- The three coordinates of the vertices on the edges of a cell as one number.
-use Rattle.std.proofs.Common.{◌≡◌, ℕ, zero, suc, All, ◌+◌, ◌*◌, ◌/◌, ◌%◌, ◌<◌, ◌≤◌, List, [], ◌∷◌, map, length, get_or, take, sym, ◌∙◌, ap, ap₂, arith}
+use Rattle.std.proofs.Common.{◌≡◌, ℕ, zero, suc, All, ◌+◌, ◌*◌, ◌/◌, ◌%◌, ◌<◌, ◌≤◌, List, [], ◌∷◌, map, length, get_or, take, sym, ◌∙◌, ap, arith}
 use Rattle.std.specs.List.{sum as sum_of, sum_by}
 use Rattle.std.proofs.lemmas.List.{length-map, take_all, take_more}
 use Rattle.std.proofs.lemmas.List.Sums.{sum-map, sum_by-append, sum_by-cons}
-use Rattle.iso_defs.specs.Place.{mean}
 use Rattle.mesh_laws.proofs.Apart.{by_twelve}
 use Rattle.edge_points.specs.Points.{local_coordinate}
 use Rattle.flat_mesh.specs.Centres.{local_mean}
@@ -63,6 +62,7 @@ module _ (place : ℕ → ℕ) (edges : List ℕ) where
       added : (sum lanes a b c d e f x y z : ℕ) → sum ≡ a + (65536 * b + 4294967296 * c) → lanes ≡ d + (65536 * e + 4294967296 * f) → x ≡ a + d → y ≡ b + e → z ≡ c + f
           → sum + lanes ≡ x + (65536 * y + 4294967296 * z)
       added sum lanes a b c d e f x y z hs hl hx hy hz = omega (arith, hs, hl, hx, hy, hz)
+
       upto : (x a d i : ℕ) → x ≡ a + d → a ≤ 1000 * i → d ≤ 1000 → x ≤ 1000 * (i + 1)
       upto x a d i e ha hd = omega (arith, e, ha, hd)
 

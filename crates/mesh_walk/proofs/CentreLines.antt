@@ -1,24 +1,18 @@
 -- The lines of centres, loop by loop and cell by cell.
-use Rattle.std.proofs.Common.{◌≡◌, ℕ, zero, suc, ◌+◌, ◌*◌, ◌/◌, ◌<◌, ◌≤◌, true, cond, List, [], ◌∷◌, ◌++◌, All, map, length, get_or, refl, sym, ◌∙◌, ap, arith, ℤ, pos, append-nil}
+use Rattle.std.proofs.Common.{◌≡◌, ℕ, ◌+◌, ◌*◌, ◌<◌, ◌≤◌, true, cond, List, [], ◌∷◌, ◌++◌, All, map, length, refl, sym, ◌∙◌, ap, arith, append-nil}
 use Rattle.std.specs.List.{enumerate_from, filter, flat_map}
 use Rattle.std.proofs.lemmas.List.{length-map}
 use Rattle.std.proofs.lemmas.Bool.{le-ltb, lt-ltb}
 use Rattle.std.proofs.lemmas.List.Concat.{flat_map-append}
-use Rattle.iso_defs.specs.Lists.{below}
-use Rattle.iso_defs.specs.Grid.{is_cell, name_bound, stride}
-use Rattle.iso_defs.specs.Cell.{cell_edge, cell_signs, corner_point, crosses, edge_corner}
-use Rattle.iso_defs.specs.Place.{Position, centre_position, place}
+use Rattle.iso_defs.specs.Grid.{is_cell}
+use Rattle.iso_defs.specs.Cell.{cell_edge}
+use Rattle.iso_defs.specs.Place.{Position, centre_position}
 use Rattle.iso_defs.specs.Scratch.{cell_centres, cell_loops, centre_name, has_centre}
 use Rattle.case_table.specs.Cases.{case_at, cases}
 use Rattle.cell_loops.specs.Loops.{row_centres, row_loops}
-use Rattle.iso_defs.specs.Signs.{differ, is_above, is_crossing}
 use Rattle.iso_base.specs.Triangles.{triangle_of}
-use Rattle.verdict_laws.proofs.Lists.{In-filter}
-use Rattle.mesh_laws.proofs.Numbers.{crossing_of_cell}
-use Rattle.crossing_edges.proofs.NextPoints.{ends, place_at}
 use Rattle.flat_mesh.specs.declared.centres.Cell.{Cell}
 use Rattle.flat_mesh.specs.declared.centres.LoopCentre.{LoopCentre}
-use Rattle.flat_mesh.specs.Cases.{values_at}
 use Rattle.flat_mesh.specs.Centres.{IsCellAt, cell_place, centre_of, local_mean, loop_centre, loop_centres}
 use Rattle.flat_mesh.specs.Faces.{loops_at}
 use Rattle.flat_mesh.specs.Lattice.{Leveled, heights}

@@ -1,16 +1,15 @@
 -- The places of crossing edges in their slots.
-use Rattle.std.proofs.Common.{◌≡◌, ℕ, ◌+◌, ◌*◌, ◌/◌, ◌<◌, ◌≤◌, true, List, [], ◌∷◌, map, set, length, get_or, inl, inr, ◌⊎◌, sym, ◌∙◌, ap, subst, arith}
+use Rattle.std.proofs.Common.{◌≡◌, ℕ, ◌+◌, ◌*◌, ◌/◌, ◌<◌, ◌≤◌, true, List, [], ◌∷◌, set, length, get_or, inl, inr, ◌⊎◌, sym, ◌∙◌, ap, subst, arith}
 use Rattle.std.proofs.lemmas.List.{get_or-map, get_or-set_other, length-map}
 use Rattle.std.proofs.lemmas.Bool.{cases_eq, cases_lt}
 use Rattle.std.proofs.lemmas.Grind.{get_or-set_at}
 use Rattle.iso_defs.specs.Lists.{below}
 use Rattle.iso_defs.specs.Grid.{name_bound}
 use Rattle.iso_defs.specs.Cell.{cell_edge, cell_signs, corner_point, crosses, edge_corner}
-use Rattle.iso_defs.specs.Place.{place}
 use Rattle.iso_defs.specs.Signs.{is_crossing}
 use Rattle.verdict_laws.proofs.Lists.{In-filter}
 use Rattle.mesh_laws.proofs.Numbers.{crossing_of_cell}
-use Rattle.crossing_edges.specs.Flags.{edge_place, names_in, places_in}
+use Rattle.crossing_edges.specs.Flags.{edge_place, places_in}
 use Rattle.crossing_edges.proofs.NextPoints.{ends, place_at}
 use Rattle.flat_mesh.specs.declared.centres.Cell.{Cell}
 use Rattle.flat_mesh.specs.Centres.{IsCellAt, cell_place}

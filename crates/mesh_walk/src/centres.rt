@@ -7,7 +7,7 @@ ghost use Rattle.flat_mesh.specs.Faces.{AllCross, loops_at};
 ghost use Rattle.mesh_lines.specs.Blocks.{Adds, IsBehind};
 ghost use Rattle.mesh_walk.specs.Cells.{AreCells, cells_start, eight_at};
 ghost use Rattle.mesh_walk.specs.Numbers.{AreRowRanks, cells_cost, cost_of_row};
-ghost use Rattle.mesh_walk.specs.Places.{AreCellPlaces, AreRowPlaces, in_slot, due_to};
+ghost use Rattle.mesh_walk.specs.Places.{AreCellPlaces, AreRowPlaces, due_to, in_slot};
 ghost use Rattle.mesh_walk.specs.Slots.{IsReady};
 ghost use Rattle.mesh_walk.specs.Spans.{all_centres_text, centre_line, centres_text, loop_lines, row_centres_text};
 
@@ -151,7 +151,14 @@ fn write_cell<H: Heights, K: Sink>(
     }
     block.reserve(sink)?;
     let cell = row.cells.cell(field, x);
-    put_centres(field, style, cell, row.cell_places(field, cell), case, block);
+    put_centres(
+        field,
+        style,
+        cell,
+        row.cell_places(field, cell),
+        case,
+        block,
+    );
     Ok(())
 }
 

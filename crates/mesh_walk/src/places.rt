@@ -6,7 +6,7 @@ ghost use Rattle.flat_mesh.specs.Centres.{IsCellAt, cell_place, local_mean};
 ghost use Rattle.flat_mesh.specs.Faces.{AllCross};
 ghost use Rattle.flat_mesh.specs.Lattice.{heights};
 ghost use Rattle.mesh_rows.specs.Rows.{AreEdges, row_places};
-ghost use Rattle.mesh_walk.specs.Places.{AreCellPlaces, lanes_of, in_slot, due_to, slot_place};
+ghost use Rattle.mesh_walk.specs.Places.{AreCellPlaces, due_to, in_slot, lanes_of};
 ghost use Rattle.mesh_walk.specs.Slots.{AreLaid, row_slot};
 
 use crate::offsets::ROOM;
@@ -80,7 +80,10 @@ impl<'a> CellPlaces<'a> {
         ensures { result ≡ lanes_of (cell_place (H.leveled field.now) cell.index) edge }
     {
         let _ = field;
-        lanes(edge, self.places[(self.slots[edge as usize] + self.at) as usize])
+        lanes(
+            edge,
+            self.places[(self.slots[edge as usize] + self.at) as usize],
+        )
     }
 
     /// The centre of a loop.
@@ -198,6 +201,13 @@ impl Slots for EdgePlaces {
             return;
         }
         let count = self.list(rows, y, z);
-        lay_places(rows, y, z, &self.edges[..count], &self.row[..count], &mut self.places);
+        lay_places(
+            rows,
+            y,
+            z,
+            &self.edges[..count],
+            &self.row[..count],
+            &mut self.places,
+        );
     }
 }

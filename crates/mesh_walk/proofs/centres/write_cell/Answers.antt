@@ -1,8 +1,7 @@
-use Rattle.std.proofs.Common.{◌≡◌, ◌+◌, ◌∙◌, [], ap, sym, refl, length, get_or, arith}
+use Rattle.std.proofs.Common.{◌≡◌, ◌+◌, ◌∙◌, [], ap, sym, refl, length, get_or}
 use Rattle.std.proofs.lemmas.Result.{err_from_is_err_and}
 use Rattle.cell_loops.specs.Loops.{row_loops}
 use Rattle.iso_defs.specs.Scratch.{cell_centres}
-use Rattle.iso_defs.specs.Grid.{is_cell}
 use Rattle.flat_mesh.specs.Faces.{loops_at}
 use Rattle.flat_mesh.specs.Lattice.{heights}
 use Rattle.flat_mesh.specs.Centres.{loop_centres}

@@ -1,12 +1,11 @@
-use Rattle.std.proofs.Common.{◌≡◌, ◌+◌, ◌-◌, ◌*◌, get_or, ap, subst, sym, arith}
+use Rattle.std.proofs.Common.{◌≡◌, ◌+◌, ◌-◌, ◌*◌, ap, sym, arith}
 use Rattle.std.proofs.lemmas.Result.{err_from_is_err_and}
 use Rattle.iso_defs.specs.Grid.{is_cell}
 use Rattle.flat_mesh.specs.Rows.{row_start}
-use Rattle.mesh_rows.specs.Rows.{IsCaseOf}
 use Rattle.mesh_walk.specs.Cells.{eight_at}
 use Rattle.mesh_walk.specs.Spans.{centre_lines, centres_text}
 use Rattle.mesh_walk.proofs.Adding.{adds_as, adds_none}
-use Rattle.mesh_walk.proofs.CellRuns.{case_at, end_is, quiet_eight}
+use Rattle.mesh_walk.proofs.CellRuns.{end_is, quiet_eight}
 use Rattle.mesh_walk.proofs.CentreLines.{quiet_centres}
 use Rattle.mesh_walk.proofs.SpanLaws.{run_failed, run_more, run_none}
 use Rattle.mesh_walk.proofs.centres.write_eight.Goals as goal

@@ -1,6 +1,5 @@
-use Rattle.std.proofs.Common.{◌≡◌, ℕ, ◌+◌, ◌*◌, ◌<◌, ◌≤◌, get_or, length, set, arith, ap, sym, ◌∙◌, length-set}
+use Rattle.std.proofs.Common.{◌≡◌, ◌+◌, get_or, length, set, arith, ap, ◌∙◌, length-set}
 use Rattle.std.proofs.lemmas.List.{get_or-set_other}
-use Rattle.mesh_walk.specs.Places.{due_to, in_slot}
 use Rattle.mesh_walk.specs.Slots.{row_slot}
 use Rattle.mesh_walk.proofs.PlaceSlots.{laid_all, laid_more, place_count}
 use Rattle.mesh_walk.proofs.RowSlots.{edge_is}
