@@ -1,2 +1,3 @@
+pub mod RowLines
 pub mod Settled
 pub mod Texts

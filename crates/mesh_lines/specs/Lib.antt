@@ -1,4 +1,5 @@
 pub mod Blocks
 pub mod Lines
-pub mod Triangles
 pub mod Padded
+pub mod RowLines
+pub mod Triangles

@@ -2,7 +2,9 @@
 #![tactic(auto)]
 
 mod block;
+mod row_texts;
 mod style;
 
 pub use block::Block;
+pub use row_texts::RowTexts;
 pub use style::{Origin, Style};

@@ -1,3 +1,4 @@
 pub mod Chain
 pub mod Heads
+pub mod Pieces
 pub mod Tables

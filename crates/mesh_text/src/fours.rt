@@ -145,7 +145,7 @@ fn put_longest(fours: &Fours, n: u64, room: &mut [u8], at: usize) -> usize
 
 /// Writes a number below 1,000 in three digits, out of the table.
 #[inline(always)]
-fn put_last_three(fours: &Fours, n: u64, room: &mut [u8], at: usize) -> usize
+pub(crate) fn put_last_three(fours: &Fours, n: u64, room: &mut [u8], at: usize) -> usize
     requires bound { n < 1000 }
     requires space { at + 4 ≤ length room.old }
     ensures end { result ≡ at + 3 }

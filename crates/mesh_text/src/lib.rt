@@ -10,6 +10,7 @@ mod line;
 mod lines;
 mod number;
 mod obj;
+mod piece;
 mod ply;
 mod split;
 
@@ -20,5 +21,6 @@ pub use line::Line;
 pub use lines::Lines;
 pub use number::Number;
 pub use obj::{obj_face_text, obj_vertex_text, put_obj_face, put_obj_vertex};
+pub use piece::Piece;
 pub use ply::{ply_face_text, ply_vertex_text, put_ply_face, put_ply_vertex};
 pub use split::Split;

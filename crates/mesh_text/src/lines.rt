@@ -1,23 +1,29 @@
 ghost use Rattle.std.specs.Prelude.{◌≡◌, ◌+◌, ◌<◌, ◌≤◌, ◌^◌, ◌++◌, [], All, IsTrue, length, decimal, unsigned_abs, ◌↔◌};
+ghost use Rattle.mesh_text.specs.Pieces.{parts_line, thirds_line};
 ghost use Rattle.mesh_text.specs.Lines.{along, letter_line, obj_face_line, obj_vertex_line, ply_face_line, ply_vertex_line, point_line};
 
 use crate::digits::put_letter;
-use crate::fours::{Fours, put_point_line};
+use crate::fours::{Fours, put_last_three, put_point_line};
 use crate::number::{Number, put_line};
 use crate::obj::{write_obj_face, write_obj_vertex};
+use crate::piece::Piece;
 use crate::ply::{write_ply_face, write_ply_vertex};
 use crate::split::Split;
 use iso_base::Thousandth;
+use number_digits::put_byte;
 use std::marker::Model;
 
 /// The bytes of some lines.
 const PAGE: usize = 4096;
 
+/// Behind them stands room for what a piece moves at once beyond its text.
+const SPACE: usize = 4128;
+
 /// Lines one behind another, each written where it stays until all are taken, and a table of digits, four to a number.
 /// Contracts see the bytes of the lines, which are at most 4,096.
 #[derive(Drop)]
 pub struct Lines {
-    bytes: [u8; PAGE],
+    bytes: [u8; SPACE],
     end: usize,
     digits: Fours,
 }
@@ -29,7 +35,7 @@ impl Model for Lines {
 
     ghost view = { λ l. take l.end l.bytes };
 
-    ghost invariant = { λ l. (l.end ≤ 4096) × (length l.bytes ≡ 4096) };
+    ghost invariant = { λ l. (l.end ≤ 4096) × (length l.bytes ≡ 4128) };
 }
 
 impl Lines {
@@ -38,7 +44,7 @@ impl Lines {
         ensures { result ≡ [] }
     {
         Lines {
-            bytes: [0; PAGE],
+            bytes: [0; SPACE],
             end: 0,
             digits: Fours::new(),
         }
@@ -142,6 +148,50 @@ impl Lines {
         ensures { result ≡ decimal n }
     {
         Number::of(&self.digits, n)
+    }
+
+    /// The table of digits.
+    #[inline(always)]
+    pub fn digits(&self) -> &Fours {
+        &self.digits
+    }
+
+    /// Puts a line behind the others whose three digits stand between texts that are at hand.
+    #[inline(always)]
+    pub fn push_parts(&mut self, front: &Piece<16>, middle: &Piece<32>, n: u16, tail: &Piece<32>)
+        requires front { front.now.len ≤ 16 }
+        requires middle { middle.now.len ≤ 32 }
+        requires tail { tail.now.len ≤ 32 }
+        requires fits { front.now.len + (middle.now.len + tail.now.len) ≤ 61 }
+        requires bound { n < 1000 }
+        requires room { length self.old + 64 ≤ 4096 }
+        ensures line { self.new ≡ self.old ++ parts_line front.now middle.now n tail.now }
+        ensures few { length self.new ≤ length self.old + 64 }
+    {
+        let at = front.put(&mut self.bytes, self.end);
+        let at = middle.put(&mut self.bytes, at);
+        let at = put_last_three(&self.digits, u64::from(n), &mut self.bytes, at);
+        self.end = tail.put(&mut self.bytes, at);
+    }
+
+    /// Puts a line behind the others whose three numbers of three digits stand each behind a text that is at hand.
+    #[inline(always)]
+    pub fn push_thirds(&mut self, x: &Piece<16>, y: &Piece<16>, z: &Piece<16>, at: &[u32; 3])
+        requires x { x.now.len ≤ 16 }
+        requires y { y.now.len ≤ 16 }
+        requires z { z.now.len ≤ 16 }
+        requires rest { All (λ n. n < 1000) at.now }
+        requires room { length self.old + 64 ≤ 4096 }
+        ensures line { self.new ≡ self.old ++ thirds_line x.now y.now z.now at.now }
+        ensures few { length self.new ≤ length self.old + 64 }
+    {
+        let end = x.put(&mut self.bytes, self.end);
+        let end = put_last_three(&self.digits, u64::from(at[0]), &mut self.bytes, end);
+        let end = y.put(&mut self.bytes, end);
+        let end = put_last_three(&self.digits, u64::from(at[1]), &mut self.bytes, end);
+        let end = z.put(&mut self.bytes, end);
+        let end = put_last_three(&self.digits, u64::from(at[2]), &mut self.bytes, end);
+        self.end = put_byte(b'\n', &mut self.bytes, end);
     }
 
     /// Puts the line of a letter and three numbers behind the others.

@@ -1,7 +1,8 @@
 -- The crossing edges of a row of points, by their offsets and by their names.
-use Rattle.std.proofs.Common.{◌≡◌, ℕ, zero, suc, ◌+◌, ◌*◌, ◌/◌, ◌%◌, ◌<◌, ◌≤◌, Bool, true, false, cond, List, [], ◌∷◌, ◌++◌, map, take, drop, set, length, get_or, refl, sym, ◌∙◌, ap, ap₂, arith, eqb, ◌-◌, add-zero, append-nil, append_assoc, inl, inr}
+use Rattle.std.proofs.Common.{◌≡◌, ℕ, zero, suc, ◌+◌, ◌*◌, ◌/◌, ◌%◌, ◌<◌, ◌≤◌, Bool, true, false, cond, List, [], ◌∷◌, ◌++◌, map, take, drop, set, length, get_or, refl, sym, subst, ◌∙◌, ap, ap₂, arith, eqb, ◌-◌, add-zero, append-nil, append_assoc, inl, inr}
 use Rattle.std.specs.List.{flat_map, range_with_len}
 use Rattle.std.proofs.lemmas.List.{get_or-map, get_or-take, length-map, length-take-le, map-append, take-set, take_all, take_more, take_more_set, take-append-drop}
+use Rattle.std.proofs.lemmas.Bool.{and_parts}
 use Rattle.std.proofs.lemmas.List.Concat.{flat_map-append}
 use Rattle.iso_defs.proofs.Ranges.{range_append}
 use Rattle.iso_defs.specs.Signs.{is_crossing}
@@ -11,6 +12,7 @@ use Rattle.verdict_laws.proofs.Lists.{In, In-filter}
 use Rattle.mesh_laws.proofs.Cells.{range_at_least}
 use Rattle.flat_mesh.specs.Lattice.{Leveled, heights}
 use Rattle.flat_mesh.specs.Rows.{row_start}
+use Rattle.flat_mesh.proofs.Known.{place_low}
 use Rattle.mesh_lines.specs.declared.style.Style.{Style}
 use Rattle.mesh_rows.specs.Counts.{span}
 use Rattle.mesh_rows.specs.Rows.{AreEdges, AreFlags, row_names}
@@ -140,14 +142,15 @@ In-at (x ∷ xs) (suc k) d h = inr (In-at xs k d (omega arith))
 
 -- an edge of a row by its number
 pub record EdgeAt (v : Leveled) (row : RowEdges) (k : ℕ) : Type 0 where
-  pub low : k < length (row_names v row.y row.z)
-  pub name_is : get_or (row_names v row.y row.z) k 0 ≡ 3 * row_start v.grid row.y row.z + get_or row.edges k 0
+  pub low : k < length (row_names v row.texts.y row.texts.z)
+  pub name_is : get_or (row_names v row.texts.y row.texts.z) k 0 ≡ 3 * row_start v.grid row.texts.y row.texts.z + get_or row.edges k 0
   pub in_row : get_or row.edges k 0 < 3 * v.grid.nx
-  pub place_is : get_or row.places k 0 ≡ edge_place v.grid (heights v) (3 * row_start v.grid row.y row.z + get_or row.edges k 0)
+  pub place_low : get_or row.places k 0 ≤ 1000
+  pub place_is : get_or row.places k 0 ≡ edge_place v.grid (heights v) (3 * row_start v.grid row.texts.y row.texts.z + get_or row.edges k 0)
 
 module _ (v : Leveled) (row : RowEdges) (are : AreRowEdges v row) where
   abbrev names : List ℕ
-  names = row_names v row.y row.z
+  names = row_names v row.texts.y row.texts.z
 
   abbrev listed : List ℕ
   listed = take row.count row.edges
@@ -157,23 +160,25 @@ module _ (v : Leveled) (row : RowEdges) (are : AreRowEdges v row) where
 
   -- how many edges there are
   pub count_is : length names ≡ row.count
-  count_is = ap length (sym are.edges.names) ∙ (length-map listed (name v row.y row.z) ∙ listed_count)
+  count_is = ap length (sym are.edges.names) ∙ (length-map listed (name v row.texts.y row.texts.z) ∙ listed_count)
 
   pub edge_at : (k : ℕ) → k < row.count → EdgeAt v row k
   unfolding names_in places_in
   edge_at k low =
       let within : k < length names = omega (arith, count_is) in
       let offset : get_or listed k 0 ≡ get_or row.edges k 0 = get_or-take row.count row.edges k 0 low in
-      let is : get_or names k 0 ≡ name v row.y row.z (get_or row.edges k 0)
-      = ap (λ l. get_or l k 0) (sym are.edges.names) ∙ (get_or-map (name v row.y row.z) listed k 0 0 (omega (arith, listed_count)) ∙ ap (name v row.y row.z) offset) in
-      let known = In-filter (is_crossing v.grid (heights v)) (get_or names k 0) (range_with_len (3 * row_start v.grid row.y row.z) (3 * v.grid.nx)) (In-at names k 0 within) in
-      let bounds = range_at_least (3 * row_start v.grid row.y row.z) (3 * v.grid.nx) (get_or names k 0) known.0 in
+      let is : get_or names k 0 ≡ name v row.texts.y row.texts.z (get_or row.edges k 0)
+      = ap (λ l. get_or l k 0) (sym are.edges.names) ∙ (get_or-map (name v row.texts.y row.texts.z) listed k 0 0 (omega (arith, listed_count)) ∙ ap (name v row.texts.y row.texts.z) offset) in
+      let known = In-filter (is_crossing v.grid (heights v)) (get_or names k 0) (range_with_len (3 * row_start v.grid row.texts.y row.texts.z) (3 * v.grid.nx)) (In-at names k 0 within) in
+      let bounds = range_at_least (3 * row_start v.grid row.texts.y row.texts.z) (3 * v.grid.nx) (get_or names k 0) known.0 in
+      let place = sym (get_or-take row.count row.places k 0 low) ∙ (ap (λ l. get_or l k 0) are.places
+      ∙ get_or-map (edge_place v.grid (heights v)) names k 0 0 within) in
       record {
         low = within;
         name_is = is;
         in_row = omega (arith, is, bounds.1);
-        place_is = sym (get_or-take row.count row.places k 0 low) ∙ (ap (λ l. get_or l k 0) are.places
-            ∙ (get_or-map (edge_place v.grid (heights v)) names k 0 0 within ∙ ap (edge_place v.grid (heights v)) is));
+        place_low = subst (λ d. d ≤ 1000) (sym place) (place_low _ _ (and_parts _ _ known.1).1);
+        place_is = place ∙ ap (edge_place v.grid (heights v)) is;
       }
 
 -- the lines of the crossing edges of a row

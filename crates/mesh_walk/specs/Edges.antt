@@ -16,9 +16,10 @@ edges_among flags x n = flat_map (λ x. edges_at (slice_index flags x) x) (range
 
 -- a row of the grid, its crossing edges, and where they are crossed
 pub record AreRowEdges (v : Leveled) (row : RowEdges) : Type 0 where
-  pub y : row.y < v.grid.ny
-  pub z : row.z < v.grid.nz
+  pub y : row.texts.y < v.grid.ny
+  pub z : row.texts.z < v.grid.nz
+  pub width : row.texts.count ≡ v.grid.nx
   pub count : row.count ≤ 3 * v.grid.nx
   pub room : row.count ≤ length row.edges
-  pub edges : AreEdges v row.y row.z (take row.count row.edges)
-  pub places : take row.count row.places ≡ row_places v row.y row.z
+  pub edges : AreEdges v row.texts.y row.texts.z (take row.count row.edges)
+  pub places : take row.count row.places ≡ row_places v row.texts.y row.texts.z

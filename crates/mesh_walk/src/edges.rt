@@ -13,7 +13,7 @@ use crate::ranks::{ROW, row_at, set_flags};
 use crate::walk::Walk;
 use byte_streams::{Failed, Sink};
 use flat_mesh::Heights;
-use mesh_lines::{Block, Style};
+use mesh_lines::{Block, RowTexts};
 use mesh_rows::MeshRows;
 
 /// Fills in where the crossing edges of a row are crossed, at the front of a buffer.
@@ -31,11 +31,11 @@ fn set_places<R: MeshRows>(rows: &mut R, y: u32, z: u32, edges: &[u16], places: 
 }
 
 /// The crossing edges that begin in a row of points: so many offsets, three times how far an edge's point is along x and
-/// its axis, and where they are crossed, in thousandths from their lower ends. The flags of the points are a buffer.
+/// its axis, and where they are crossed, in thousandths from their lower ends. The texts are for that row, and the flags of
+/// the points are a buffer.
 #[derive(Drop)]
 pub struct RowEdges {
-    pub y: u32,
-    pub z: u32,
+    pub texts: RowTexts,
     pub count: usize,
     pub edges: [u16; ROOM],
     pub places: [u16; ROOM],
@@ -44,10 +44,11 @@ pub struct RowEdges {
 
 impl RowEdges {
     /// A row of which nothing is known.
-    pub fn new() -> RowEdges {
+    pub fn new(texts: RowTexts) -> RowEdges
+        ensures { result.texts ≡ texts }
+    {
         RowEdges {
-            y: 0,
-            z: 0,
+            texts,
             count: 0,
             edges: [0; ROOM],
             places: [0; ROOM],
@@ -59,8 +60,7 @@ impl RowEdges {
     fn list<R: MeshRows>(&mut self, rows: &mut R, y: u32, z: u32)
         requires y { y < (R.leveled rows.old).grid.ny }
         requires z { z < (R.leveled rows.old).grid.nz }
-        ensures y { self.new.y ≡ y }
-        ensures z { self.new.z ≡ z }
+        ensures texts { self.new.texts ≡ self.old.texts }
         ensures count { self.new.count ≤ 3 * (R.leveled rows.old).grid.nx }
         ensures edges { AreEdges (R.leveled rows.old) y z (take self.new.count self.new.edges) }
         ensures volume { R.leveled rows.new ≡ R.leveled rows.old }
@@ -69,18 +69,16 @@ impl RowEdges {
     {
         let nx = rows.sizes().nx() as usize;
         set_flags(rows, y, z, &mut self.flags);
-        self.y = y;
-        self.z = z;
         self.count = put_row(&self.flags[..nx], &mut self.edges);
     }
 
-    /// Turns to a row of points. It has its crossing edges then, and where they are crossed.
-    fn turn_to<R: MeshRows>(&mut self, rows: &mut R, y: u32, z: u32)
+    /// Turns to a row of points. It has its crossing edges then, where they are crossed, and the texts of their lines.
+    fn turn_to<R: MeshRows>(&mut self, rows: &mut R, y: u32, z: u32, block: &Block)
         requires y { y < (R.leveled rows.old).grid.ny }
         requires z { z < (R.leveled rows.old).grid.nz }
+        requires width { self.old.texts.count ≡ (R.leveled rows.old).grid.nx }
         ensures edges { AreRowEdges (R.leveled rows.old) self.new }
-        ensures y { self.new.y ≡ y }
-        ensures z { self.new.z ≡ z }
+        ensures texts { self.new.texts ≡ record { style = self.old.texts.style; count = self.old.texts.count; y = y; z = z } }
         ensures volume { R.leveled rows.new ≡ R.leveled rows.old }
         ensures kept { R.kept rows.new ≡ R.kept rows.old }
         ensures spent { R.spent rows.new ≡ R.spent rows.old }
@@ -89,25 +87,7 @@ impl RowEdges {
         self.list(rows, y, z);
         let edges = &self.edges[..self.count];
         set_places(rows, y, z, edges, &mut self.places);
-    }
-
-    /// Where the vertex on an edge is in thousandths, by the edge's number in the row.
-    #[inline(always)]
-    fn position<H: Heights>(&self, field: &H, k: usize) -> [u32; 3]
-        requires edges { AreRowEdges (H.leveled field.now) self.now }
-        requires k { k < self.now.count }
-        ensures x { let e = slice_index self.now.edges k in
-            slice_index result 0 ≡ 1000 * (e / 3) + (if 0 == e % 3 then slice_index self.now.places k else 0) }
-        ensures y { let e = slice_index self.now.edges k in
-            slice_index result 1 ≡ 1000 * self.now.y + (if 1 == e % 3 then slice_index self.now.places k else 0) }
-        ensures z { let e = slice_index self.now.edges k in
-            slice_index result 2 ≡ 1000 * self.now.z + (if 2 == e % 3 then slice_index self.now.places k else 0) }
-    {
-        let _ = field.sizes();
-        let edge = self.edges[k];
-        let mut at = [1000 * u32::from(edge / 3), 1000 * self.y, 1000 * self.z];
-        at[(edge % 3) as usize] += u32::from(self.places[k]);
-        at
+        self.texts.turn_to(y, z, block);
     }
 
     /// Puts the line of the vertex on the edge of that number behind the others, and first makes room for it.
@@ -115,7 +95,6 @@ impl RowEdges {
     fn write_edge<H: Heights, K: Sink>(
         &self,
         field: &H,
-        style: Style,
         k: usize,
         block: &mut Block,
         sink: &mut K,
@@ -123,13 +102,14 @@ impl RowEdges {
         requires edges { AreRowEdges (H.leveled field.now) self.now }
         requires k { k < self.now.count }
         ensures adds { let v = H.leveled field.now in
-            let name = 3 * row_start v.grid self.now.y self.now.z + slice_index self.now.edges k in
-            Adds (K.seen sink.old) (K.seen sink.new) block.old block.new result (edge_line style v name) }
+            let row = self.now.texts in
+            let name = 3 * row_start v.grid row.y row.z + slice_index self.now.edges k in
+            Adds (K.seen sink.old) (K.seen sink.new) block.old block.new result (edge_line row.style v name) }
         ensures bytes { IfOk result (λ _. block.new.total ≤ block.old.total + 64) }
     {
+        let _ = field.sizes();
         block.reserve(sink)?;
-        let at = self.position(field, k);
-        block.push_vertex(style, &at);
+        block.push_edge(&self.texts, self.edges[k], self.places[k]);
         Ok(())
     }
 
@@ -137,26 +117,26 @@ impl RowEdges {
     fn write<H: Heights, K: Sink>(
         &self,
         field: &H,
-        style: Style,
         block: &mut Block,
         sink: &mut K,
     ) -> Result<(), Failed>
         requires edges { AreRowEdges (H.leveled field.now) self.now }
         ensures adds { let v = H.leveled field.now in
+            let row = self.now.texts in
             Adds (K.seen sink.old) (K.seen sink.new) block.old block.new result
-            (edges_text style v (3 * row_start v.grid self.now.y self.now.z) (3 * v.grid.nx)) }
+            (edges_text row.style v (3 * row_start v.grid row.y row.z) (3 * v.grid.nx)) }
         ensures bytes { IfOk result (λ _. block.new.total ≤ block.old.total + 192 * (H.leveled field.now).grid.nx) }
     {
         let _ = field.sizes();
         for k in 0..self.count {
-            self.write_edge(field, style, k, block, sink)?;
+            self.write_edge(field, k, block, sink)?;
         }
         Ok(())
     }
 }
 
 /// Puts the lines of the vertices on the edges that begin in a row of points behind the others, where there are any.
-/// `edges` is a buffer.
+/// `edges` is a buffer, with texts in the style of the walk.
 fn write_row<R: MeshRows, K: Sink>(
     rows: &mut R,
     walk: Walk<'_>,
@@ -167,6 +147,10 @@ fn write_row<R: MeshRows, K: Sink>(
 ) -> Result<(), Failed>
     requires ranks { AreRowRanks (R.leveled rows.old) walk.ranks.now walk.total }
     requires row { row < row_count (R.leveled rows.old).grid }
+    requires style { edges.old.texts.style ≡ walk.style }
+    requires width { edges.old.texts.count ≡ (R.leveled rows.old).grid.nx }
+    ensures style { edges.new.texts.style ≡ edges.old.texts.style }
+    ensures width { edges.new.texts.count ≡ edges.old.texts.count }
     ensures adds { let v = R.leveled rows.old in
         Adds (K.seen sink.old) (K.seen sink.new) block.old block.new result (row_edges_text walk.entry.style v row) }
     ensures bytes { IfOk result (λ _. block.new.total ≤ block.old.total + 192 * (R.leveled rows.old).grid.nx) }
@@ -179,8 +163,8 @@ fn write_row<R: MeshRows, K: Sink>(
     if !walk.has_edges(rows, y, z) {
         return Ok(());
     }
-    edges.turn_to(rows, y, z);
-    edges.write(rows, walk.style, block, sink)
+    edges.turn_to(rows, y, z, block);
+    edges.write(rows, block, sink)
 }
 
 /// Puts the lines of the vertices on all crossing edges behind the others.
@@ -200,7 +184,7 @@ pub fn write_edges<R: MeshRows, K: Sink>(
     ensures spent { R.spent rows.new ≡ R.spent rows.old }
 {
     let sizes = rows.sizes();
-    let mut edges = RowEdges::new();
+    let mut edges = RowEdges::new(RowTexts::new(walk.style, sizes.nx(), block));
     for row in 0..sizes.ny() * sizes.nz() {
         write_row(rows, walk, row, &mut edges, block, sink)?;
     }

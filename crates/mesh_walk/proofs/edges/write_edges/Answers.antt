@@ -1,4 +1,4 @@
-use Rattle.std.proofs.Common.{◌≡◌, ◌+◌, ◌*◌, ◌<◌, ◌≤◌, ◌∙◌, suc, ap, subst, sym, refl, arith}
+use Rattle.std.proofs.Common.{rules, ◌≡◌, ◌+◌, ◌*◌, ◌<◌, ◌≤◌, ◌∙◌, suc, ap, subst, sym, refl, arith}
 use Rattle.std.proofs.lemmas.Result.{err_from_is_err_and}
 use Rattle.std.proofs.Math.Nat.{mul-le-mul_left}
 use Rattle.iso_defs.specs.Rows.{row_count}
@@ -16,6 +16,8 @@ loop-row-init g c =
     let v = g.R.Heights.leveled c.args.rows.now in
     let z : 0 ≡ 3 * (v.grid.nx * 0) = omega arith in
     record {
+      style = search rules;
+      width = search rules;
       adds = adds_as _ _ _ _ _ _ _ (ap (λ n. edges_text c.args.walk.style v 0 n) z) (run_none (edge_line c.args.walk.style v) (is_crossing v.grid (heights v)) 0 _ _ tt);
       bytes = omega arith;
       volume = refl;
@@ -58,6 +60,8 @@ loop-row-preserved g c =
     let one = adds_as _ _ _ _ _ _ _ (ap (λ (v : Leveled). row_edges_text c.args.walk.style v c.loop-row.row) c.loop-row.invariant.volume) c.in_ok-write_row.ensures.adds in
     let nx : 192 * (g.R.Heights.leveled c.loop-row.rows).grid.nx ≡ 192 * v.grid.nx = ap (λ (w : Leveled). 192 * w.grid.nx) c.loop-row.invariant.volume in
     record {
+      style = c.in_ok-write_row.ensures.style ∙ c.loop-row.invariant.style;
+      width = c.in_ok-write_row.ensures.width ∙ c.loop-row.invariant.width;
       adds = run_more (edge_line c.args.walk.style v) (is_crossing v.grid (heights v)) 0 _ _ _ _ _ _ tt tt
           (3 * (v.grid.nx * c.loop-row.row)) (3 * v.grid.nx) (3 * (v.grid.nx * (c.loop-row.row + 1))) _ (omega arith) (omega arith) c.loop-row.invariant.adds one;
       bytes = omega (arith, nx, c.loop-row.invariant.bytes, c.in_ok-write_row.ensures.bytes);

@@ -7,6 +7,8 @@ abbrev pub invariant-loop-row : goal.invariant-loop-row
 invariant-loop-row g l =
     let v = g.R.Heights.leveled l.fn.rows in
     record {
+      style : l.edges.texts.style ≡ l.walk.style;
+      width : l.edges.texts.count ≡ v.grid.nx;
       adds : Adds {T = Unit {0}} (g.K.Sink.seen l.fn.sink) (g.K.Sink.seen l.sink) l.fn.block l.block (Ok tt) (edges_text l.walk.style v 0 (3 * (v.grid.nx * l.row)));
       bytes : l.block.total ≤ l.fn.block.total + 192 * (v.grid.nx * l.row);
       volume : g.R.Heights.leveled l.rows ≡ v;

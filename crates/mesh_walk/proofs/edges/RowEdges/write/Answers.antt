@@ -14,12 +14,12 @@ pub returns-in_err-write_edge-clause-adds : goal.returns-in_err-write_edge-claus
 returns-in_err-write_edge-clause-adds g c =
     let v = g.H.Heights.leveled c.args.field.now in
     let row = c.args.self.now in
-    let f = edge_line c.args.style v in
-    let ns = row_names v row.y row.z in
+    let f = edge_line row.texts.style v in
+    let ns = row_names v row.texts.y row.texts.z in
     let k = c.loop-k.k in
     let p = err_from_is_err_and c.from_residual.result c.from_residual.ensures.1 in
     let at = edge_at v row c.requires.edges k c.loop-k-test.true in
-    let whole = sym (row_text v c.args.style row.y row.z) ∙ lines_cut f ns k at.low in
+    let whole = sym (row_text v row.texts.style row.texts.y row.texts.z) ∙ lines_cut f ns k at.low in
     let one = adds_as _ _ _ _ _ _ _ (ap f (sym at.name_is)) c.in_err-write_edge.ensures.adds in
     rw p.1 (adds_front _ _ _ _ _ _ _ (flat_map f (take k ns) ++ f (get_or ns k 0)) (flat_map f (drop (k + 1) ns)) _ whole
     (adds_both _ _ _ _ _ _ _ _ (flat_map f (take k ns)) (f (get_or ns k 0)) c.loop-k.invariant.adds one))
@@ -28,8 +28,8 @@ pub loop-k-preserved : goal.loop-k-preserved
 loop-k-preserved g c =
     let v = g.H.Heights.leveled c.args.field.now in
     let row = c.args.self.now in
-    let f = edge_line c.args.style v in
-    let ns = row_names v row.y row.z in
+    let f = edge_line row.texts.style v in
+    let ns = row_names v row.texts.y row.texts.z in
     let k = c.loop-k.k in
     let at = edge_at v row c.requires.edges k c.loop-k-test.true in
     let one = adds_as _ _ _ _ _ _ _ (ap f (sym at.name_is)) c.in_ok-write_edge.ensures.adds in
@@ -42,10 +42,10 @@ pub returns-clause-adds : goal.returns-clause-adds
 returns-clause-adds g c =
     let v = g.H.Heights.leveled c.args.field.now in
     let row = c.args.self.now in
-    let f = edge_line c.args.style v in
-    let ns = row_names v row.y row.z in
+    let f = edge_line row.texts.style v in
+    let ns = row_names v row.texts.y row.texts.z in
     let few = count_is v row c.requires.edges in
-    adds_as _ _ _ _ _ _ _ (lines_all f ns c.loop-k.k (omega (arith, few, c.loop-k-test.false)) ∙ row_text v c.args.style row.y row.z) c.loop-k.invariant.adds
+    adds_as _ _ _ _ _ _ _ (lines_all f ns c.loop-k.k (omega (arith, few, c.loop-k-test.false)) ∙ row_text v row.texts.style row.texts.y row.texts.z) c.loop-k.invariant.adds
 
 pub returns-clause-bytes : goal.returns-clause-bytes
 returns-clause-bytes g c = omega (arith, c.requires.edges.count, c.loop-k-test.false, c.loop-k.auto.k-end, c.loop-k.invariant.bytes)

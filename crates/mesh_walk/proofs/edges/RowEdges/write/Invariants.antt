@@ -9,6 +9,6 @@ abbrev pub invariant-loop-k : goal.invariant-loop-k
 invariant-loop-k g l =
     let v = g.H.Heights.leveled l.field in
     record {
-      adds : Adds {T = Unit {0}} (g.K.Sink.seen l.fn.sink) (g.K.Sink.seen l.sink) l.fn.block l.block (Ok tt) (flat_map (edge_line l.style v) (take l.k (row_names v l.self.y l.self.z)));
+      adds : Adds {T = Unit {0}} (g.K.Sink.seen l.fn.sink) (g.K.Sink.seen l.sink) l.fn.block l.block (Ok tt) (flat_map (edge_line l.self.texts.style v) (take l.k (row_names v l.self.texts.y l.self.texts.z)));
       bytes : l.block.total ≤ l.fn.block.total + 64 * l.k;
     }

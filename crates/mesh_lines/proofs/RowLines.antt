@@ -1,0 +1,157 @@
+-- Lines of vertices in parts.
+use Rattle.std.proofs.Common.{◌≡◌, ◌≢◌, ℕ, zero, suc, ◌+◌, ◌-◌, ◌*◌, ◌/◌, ◌%◌, ◌<◌, ◌≤◌, ◌^◌, Bool, true, false, cond, if◌then◌else◌, eqb, List, [], ◌∷◌, ◌++◌, length, decimal, pos, ◌-ℤ◌, ◌⊎◌, inl, inr, refl, sym, ap, subst, ◌∙◌, append_assoc, arith, eq-zero-or-pos, slice_index, slice_index_or, slice_set}
+use Rattle.std.proofs.lemmas.Bool.{eqb-true}
+use Rattle.std.proofs.lemmas.Fmt.{decimal_digit}
+use Rattle.std.proofs.lemmas.Int.{ints}
+use Rattle.std.proofs.lemmas.List.{get_or-set_other, get_or-set_same}
+use Rattle.std.proofs.lemmas.Bool.Decides.{eqb_tells}
+use Rattle.iso_defs.specs.Place.{Position}
+use Rattle.iso_defs.specs.Texts.{decimal_text, line, printed, thousandths, three_digits}
+use Rattle.mesh_text.proofs.Pieces.{ten_digits_most}
+use Rattle.mesh_lines.specs.Lines.{origin_coordinate, vertex_letter, vertex_line}
+use Rattle.mesh_text.specs.Pieces.{parts_line, thirds_line}
+use Rattle.mesh_text.specs.declared.piece.Piece.{Piece}
+use Rattle.mesh_lines.specs.RowLines.{AreFronts, AreTexts, IsPiece, RowPlace, centre_at, edge_at, front_text, is_layer, no_piece, middle_text, tail_text, whole_at, whole_size, whole_text, y_text, z_text, zeros}
+use Rattle.mesh_lines.specs.declared.row_texts.RowParts.{RowParts}
+use Rattle.mesh_lines.specs.declared.style.Origin.{Origin}
+use Rattle.mesh_lines.specs.declared.style.Origin.TheVariants.{Volume, Pad, Window}
+use Rattle.mesh_lines.specs.declared.style.Style.{Style}
+
+-- a sign and a number are not long
+pub sign_and_digits : (origin : Origin) (axis n : ℕ) → whole_size origin axis n < 10 ^ 10 → (if is_layer origin n then 1 else 0) + length (decimal (whole_size origin axis n)) ≤ 10
+sign_and_digits Volume axis n low = omega (arith, ten_digits_most n low)
+sign_and_digits (Window at) axis n low = omega (arith, ten_digits_most (slice_index (at.x ∷ at.y ∷ at.z ∷ []) axis + n) low)
+sign_and_digits Pad axis n low = layer (eqb n 0) low
+  where
+    layer : (b : Bool) → (if b then 1 else n - 1) < 10 ^ 10 → (if b then 1 else 0) + length (decimal (if b then 1 else n - 1)) ≤ 10
+    layer true low = omega (arith, ap length (decimal_digit 1 (omega arith)))
+    layer false low = omega (arith, ten_digits_most (n - 1) low)
+
+-- a whole number and thousandths beyond it
+split_text : (n r : ℕ) → r < 1000 → thousandths (1000 * n + r) ≡ (decimal n ++ 46 ∷ []) ++ three_digits r
+split_text n r low =
+    let whole : (1000 * n + r) / 1000 ≡ n = omega arith in
+    let rest : (1000 * n + r) % 1000 ≡ r = omega arith in
+    ap (λ (q : ℕ). decimal q ++ 46 ∷ three_digits ((1000 * n + r) % 1000)) whole
+    ∙ (ap (λ (q : ℕ). decimal n ++ 46 ∷ three_digits q) rest ∙ sym (append_assoc (decimal n) (46 ∷ []) (three_digits r)))
+
+-- the same in a pad, where no thousandths stand beyond the layer
+pad_text : (n r : ℕ) (b : Bool) → r < 1000 → (b ≡ false) ⊎ (r ≡ 0) → eqb n 0 ≡ b
+    → decimal_text (printed true (1000 * n + r)) ≡ (cond b (45 ∷ []) [] ++ (decimal (if b then 1 else n - 1) ++ 46 ∷ [])) ++ three_digits r
+pad_text n r true low (inl e) is = absurd (cc)
+pad_text n r true low (inr e) is =
+    let none : 1000 * n + r ≡ 0 = omega (arith, e, eqb-true n 0 is) in
+    ap (λ (m : ℕ). decimal_text (printed true m)) none
+    ∙ (ap (λ (l : List ℕ). 45 ∷ l) (split_text 1 0 (omega arith)) ∙ ap (λ (m : ℕ). (45 ∷ (decimal 1 ++ 46 ∷ [])) ++ three_digits m) (sym e))
+pad_text n r false low side is =
+    let least : 0 < n = positive (eqb_tells n 0) in
+    let moved : pos (1000 * n + r) -ℤ pos 1000 ≡ pos (1000 * (n - 1) + r) = omega (arith, ints) in
+    ap decimal_text moved ∙ split_text (n - 1) r low
+  where
+    positive : ((eqb n 0 ≡ true) × (n ≡ 0)) ⊎ ((eqb n 0 ≡ false) × (n ≢ 0)) → 0 < n
+    positive (inl e) = absurd (cc)
+    positive (inr e) = omega (arith, e.1)
+
+-- a coordinate, as it is printed, is its whole part and its decimals, where its place has none or does not lie in a pad's layer
+pub coordinate_is : (origin : Origin) (axis n r : ℕ) → r < 1000 → (is_layer origin n ≡ false) ⊎ (r ≡ 0)
+    → decimal_text (origin_coordinate origin axis (1000 * n + r)) ≡ whole_text origin axis n ++ three_digits r
+coordinate_is Volume axis n r low side = split_text n r low
+coordinate_is Pad axis n r low side = pad_text n r (eqb n 0) low side refl
+coordinate_is (Window at) axis n r low side =
+    let b : ℕ = slice_index (at.x ∷ at.y ∷ at.z ∷ []) axis in
+    let sum : 1000 * b + (1000 * n + r) ≡ 1000 * (b + n) + r = omega arith in
+    ap thousandths sum ∙ split_text (b + n) r low
+
+-- the parts of a line of three numbers one behind another
+flat : (l x y z a b c p q r : List ℕ) → x ≡ a ++ p → y ≡ b ++ q → z ≡ c ++ r
+    → line (l ++ (x ++ 32 ∷ (y ++ 32 ∷ z))) ≡ (l ++ a) ++ (p ++ ((32 ∷ b) ++ (q ++ ((32 ∷ c) ++ (r ++ 10 ∷ [])))))
+flat l x y z a b c p q r e f g = rw (e, f, g) (simp append_assoc)
+
+-- the line of a vertex on an edge along an axis in its parts
+pub edge_parts : (style : Style) (x y z axis r : ℕ) → axis < 3 → r < 1000 → is_layer style.origin (whole_at axis x y z) ≡ false
+    → front_text style x ++ (middle_text style.origin axis y z ++ (three_digits r ++ tail_text style.origin axis y z))
+    ≡ vertex_line style (0, (1000 * x + (if eqb 0 axis then r else 0), 1000 * y + (if eqb 1 axis then r else 0), 1000 * z + (if eqb 2 axis then r else 0)))
+unfolding vertex_line
+edge_parts style x y z zero r known low side =
+    let o : Origin = style.origin in
+    sym (flat (vertex_letter style.format) _ _ _ (whole_text o 0 x) (whole_text o 1 y) (whole_text o 2 z) (three_digits r) zeros zeros
+    (coordinate_is o 0 x r low (inl side)) (coordinate_is o 1 y 0 (omega arith) (inr refl)) (coordinate_is o 2 z 0 (omega arith) (inr refl)))
+edge_parts style x y z (suc zero) r known low side =
+    let o : Origin = style.origin in
+    sym (flat (vertex_letter style.format) _ _ _ (whole_text o 0 x) (whole_text o 1 y) (whole_text o 2 z) zeros (three_digits r) zeros
+    (coordinate_is o 0 x 0 (omega arith) (inr refl)) (coordinate_is o 1 y r low (inl side)) (coordinate_is o 2 z 0 (omega arith) (inr refl)))
+edge_parts style x y z (suc (suc zero)) r known low side =
+    let o : Origin = style.origin in
+    ap (λ (l : List ℕ). front_text style x ++ (zeros ++ 32 ∷ l)) (append_assoc (whole_text o 1 y) (zeros ++ z_text o z) (three_digits r ++ line []))
+    ∙ sym (flat (vertex_letter style.format) _ _ _ (whole_text o 0 x) (whole_text o 1 y) (whole_text o 2 z) zeros zeros (three_digits r)
+    (coordinate_is o 0 x 0 (omega arith) (inr refl)) (coordinate_is o 1 y 0 (omega arith) (inr refl)) (coordinate_is o 2 z r low (inl side)))
+edge_parts style x y z (suc (suc (suc n))) r known low side = absurd (omega arith)
+
+-- the line of a centre in its parts
+thirds : (f p b q c r : List ℕ) → line ((f ++ p) ++ ((b ++ q) ++ (c ++ r))) ≡ f ++ (p ++ (b ++ (q ++ (c ++ (r ++ 10 ∷ [])))))
+thirds f p b q c r = simp append_assoc
+
+pub centre_parts : (style : Style) (x y z a b c : ℕ) → a < 1000 → b < 1000 → c < 1000
+    → is_layer style.origin x ≡ false → is_layer style.origin y ≡ false → is_layer style.origin z ≡ false
+    → line ((front_text style x ++ three_digits a) ++ ((y_text style.origin y ++ three_digits b) ++ (z_text style.origin z ++ three_digits c)))
+    ≡ vertex_line style (0, (1000 * x + a, 1000 * y + b, 1000 * z + c))
+unfolding vertex_line
+centre_parts style x y z a b c la lb lc sx sy sz =
+    let o : Origin = style.origin in
+    thirds (front_text style x) (three_digits a) (y_text o y) (three_digits b) (z_text o z) (three_digits c)
+    ∙ sym (flat (vertex_letter style.format) _ _ _ (whole_text o 0 x) (whole_text o 1 y) (whole_text o 2 z) (three_digits a) (three_digits b) (three_digits c)
+    (coordinate_is o 0 x a la (inl sx)) (coordinate_is o 1 y b lb (inl sy)) (coordinate_is o 2 z c lc (inl sz)))
+
+-- the front of one more point
+pub fronts_more : (style : Style) (old : List (Piece 16)) (n : ℕ) (piece : Piece 16) → n < length old → AreFronts style n old → IsPiece piece (front_text style n) 14
+    → AreFronts style (n + 1) (slice_set old n piece)
+fronts_more style old n piece room each one x low =
+    elim (eq-zero-or-pos (n - x)) [
+      | inl z ↦ let e : x ≡ n = omega (arith, low) in
+          let is : slice_index_or (slice_set old n piece) x no_piece ≡ piece = ap (λ (k : ℕ). slice_index_or (slice_set old n piece) k no_piece) e ∙ get_or-set_same old n piece no_piece room in
+          subst (λ (p : Piece 16). IsPiece p (front_text style x) 14) (sym is) (subst (λ (k : ℕ). IsPiece piece (front_text style k) 14) (sym e) one)
+      | inr g ↦
+          let is : slice_index_or (slice_set old n piece) x no_piece ≡ slice_index_or old x no_piece = get_or-set_other old n x piece no_piece (λ e. omega (arith, e, g)) in
+          subst (λ (p : Piece 16). IsPiece p (front_text style x) 14) (sym is) (each x (omega arith))
+    ]
+
+-- equal parts make equal lines
+equal_parts : (a b c d p q r : List ℕ) → a ≡ p → b ≡ q → d ≡ r → a ++ (b ++ (c ++ d)) ≡ p ++ (q ++ (c ++ r))
+equal_parts a b c d p q r e f g = rw (e, f, g) refl
+
+equal_thirds : (a b c d e f p q r : List ℕ) → a ≡ p → c ≡ q → e ≡ r → line ((a ++ b) ++ ((c ++ d) ++ (e ++ f))) ≡ line ((p ++ b) ++ ((q ++ d) ++ (r ++ f)))
+equal_thirds a b c d e f p q r x y z = rw (x, y, z) refl
+
+module _ (row : RowPlace) (fronts : List (Piece 16)) (parts : RowParts) (h : AreTexts row fronts parts) where
+  abbrev front : ℕ → Piece 16
+  front x = slice_index_or fronts x no_piece
+
+  abbrev parts_at : List (Piece 32) → ℕ → Piece 32
+  parts_at pieces axis = slice_index_or pieces axis no_piece
+
+  -- the line of the vertex on an edge
+  pub edge_line : (e p axis x : ℕ) → axis ≡ e % 3 → x ≡ e / 3 → e < 3 * row.count → p < 1000 → slice_index parts.least axis ≤ e
+      → parts_line (front x) (parts_at parts.middles axis) p (parts_at parts.tails axis) ≡ vertex_line row.style (0, edge_at row e p)
+  edge_line e p axis x along here low place least =
+      let known : axis < 3 = omega (arith, along) in
+      let inside : is_layer row.style.origin (whole_at axis x row.y row.z) ≡ false
+      = subst (λ (k : ℕ). is_layer row.style.origin (whole_at axis k row.y row.z) ≡ false) (sym here) (h.parts_are.least axis e known (omega (arith, low, h.count)) least) in
+      let whole = equal_parts _ _ (three_digits p) _ _ _ _ (h.fronts_are x (omega (arith, here, low))).has (h.parts_are.middles axis known).has (h.parts_are.tails axis known).has
+      ∙ edge_parts row.style x row.y row.z axis p known place inside in
+      let text : List ℕ = parts_line (front x) (parts_at parts.middles axis) p (parts_at parts.tails axis) in
+      let place_at : ℕ → ℕ → Position
+      = λ q k. (1000 * q + (if eqb 0 k then p else 0), 1000 * row.y + (if eqb 1 k then p else 0), 1000 * row.z + (if eqb 2 k then p else 0)) in
+      subst (λ (q : ℕ). text ≡ vertex_line row.style (0, place_at q (e % 3))) here (subst (λ (k : ℕ). text ≡ vertex_line row.style (0, place_at x k)) along whole)
+
+  -- the line of the centre in a cell
+  pub centre_line : (x : ℕ) (at : List ℕ) → x < row.count → parts.inside ≤ 3 * x → slice_index at 0 < 1000 → slice_index at 1 < 1000 → slice_index at 2 < 1000
+      → thirds_line (front x) parts.y parts.z at ≡ vertex_line row.style (0, centre_at row x at)
+  centre_line x at low inside a b c =
+      let few : 3 * x < 3078 = omega (arith, low, h.count) in
+      let third : x ≡ 3 * x / 3 = omega arith in
+      equal_thirds _ (three_digits (slice_index at 0)) _ (three_digits (slice_index at 1)) _ (three_digits (slice_index at 2)) _ _ _
+      (h.fronts_are x low).has h.parts_are.y_is.has h.parts_are.z_is.has
+      ∙ centre_parts row.style x row.y row.z (slice_index at 0) (slice_index at 1) (slice_index at 2) a b c
+      (ap (is_layer row.style.origin) third ∙ h.parts_are.inside 0 (3 * x) (omega arith) few inside)
+      (h.parts_are.inside 1 (3 * x) (omega arith) few inside)
+      (h.parts_are.inside 2 (3 * x) (omega arith) few inside)
