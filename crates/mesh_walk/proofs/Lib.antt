@@ -12,6 +12,8 @@ pub mod TextSlots
 pub mod EmptyCase
 pub mod SlotRows
 pub mod RowSlots
+pub mod CellLanes
+pub mod PlaceSlots
 pub mod CentreLines
 pub mod MeshText
 pub mod WholeMesh

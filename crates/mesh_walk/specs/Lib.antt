@@ -4,3 +4,4 @@ pub mod Cells
 pub mod Edges
 pub mod Slots
 pub mod Texts
+pub mod Places

@@ -7,6 +7,7 @@ mod centres;
 mod edges;
 mod faces;
 mod offsets;
+mod places;
 mod ranks;
 mod slots;
 mod texts;

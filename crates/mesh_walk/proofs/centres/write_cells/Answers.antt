@@ -13,7 +13,7 @@ use Rattle.mesh_walk.proofs.centres.write_cells.Goals as goal
 pub loop-eight-init : goal.loop-eight-init
 loop-eight-init g c =
     let v = g.H.Heights.leveled c.args.field.now in
-    let a = row_start v.grid c.args.cells.now.y c.args.cells.now.z in
+    let a = row_start v.grid c.args.row.cells.now.y c.args.row.cells.now.z in
     let none : eight_at v.grid 0 ≡ 0 = omega arith in
     record {
       adds = adds_as _ _ _ _ _ _ _ (ap (λ n. centres_text c.args.style v a n) (sym none)) (run_none (centre_lines c.args.style v) (is_cell v.grid) a _ _ tt);
@@ -31,7 +31,7 @@ returns-in_err-write_eight-clause-adds g c =
     let v = g.H.Heights.leveled c.args.field.now in
     let p = err_from_is_err_and c.from_residual.result c.from_residual.ensures.1 in
     let nx = width_is v _ _ c.sizes.ensures.value c.nx-nx.ensures.value in
-    let a = row_start v.grid c.args.cells.now.y c.args.cells.now.z in
+    let a = row_start v.grid c.args.row.cells.now.y c.args.row.cells.now.z in
     let n = c.loop-eight.eight in
     let low : 8 * n + 1 < v.grid.nx = omega (arith, nx, c.loop-eight-test.true) in
     rw p.1 (run_failed (centre_lines c.args.style v) (is_cell v.grid) a _ _ _ _ _ _ _ _ _ _
@@ -41,7 +41,7 @@ pub loop-eight-preserved : goal.loop-eight-preserved
 loop-eight-preserved g c =
     let v = g.H.Heights.leveled c.args.field.now in
     let nx = width_is v _ _ c.sizes.ensures.value c.nx-nx.ensures.value in
-    let a = row_start v.grid c.args.cells.now.y c.args.cells.now.z in
+    let a = row_start v.grid c.args.row.cells.now.y c.args.row.cells.now.z in
     let n = c.loop-eight.eight in
     let low : 8 * n + 1 < v.grid.nx = omega (arith, nx, c.loop-eight-test.true) in
     record {
@@ -55,7 +55,7 @@ returns-clause-adds g c =
     let v = g.H.Heights.leveled c.args.field.now in
     let nx = width_is v _ _ c.sizes.ensures.value c.nx-nx.ensures.value in
     let least = c.sizes.ensures.leveled.grid.x.least in
-    let cells = c.args.cells.now in
+    let cells = c.args.row.cells.now in
     let a = row_start v.grid cells.y cells.z in
     let far : eight_at v.grid c.loop-eight.eight ≡ v.grid.nx - 1 = omega (arith, nx, c.loop-eight-test.false) in
     let quiet = last_point v cells.y cells.z (omega (arith, least)) (omega (arith, c.requires.cells.y)) (omega (arith, c.requires.cells.z)) in

@@ -5,6 +5,9 @@ use Rattle.iso_defs.specs.Grid.{is_cell}
 use Rattle.iso_defs.specs.Rows.{row_count}
 use Rattle.flat_mesh.specs.Lattice.{Leveled}
 use Rattle.mesh_walk.specs.Numbers.{AreRowRanks, cost_before, cost_of_row}
+use Rattle.mesh_walk.specs.declared.places.EdgePlaces.{EdgePlaces}
+use Rattle.mesh_walk.specs.Places.{due_to, in_slot}
+use Rattle.mesh_walk.specs.Slots.{IsReady}
 use Rattle.mesh_walk.specs.Spans.{centre_lines, centres_text, row_centres_text}
 use Rattle.mesh_walk.proofs.Adding.{adds_as}
 use Rattle.mesh_walk.proofs.CellRuns.{cost_at_first, cost_next, cost_upto}
@@ -19,6 +22,8 @@ loop-row-init g c =
     record {
       adds = adds_as _ _ _ _ _ _ _ (ap (λ n. centres_text c.args.walk.style v 0 n) z) (run_none (centre_lines c.args.walk.style v) (is_cell v.grid) 0 _ _ tt);
       bytes = omega arith;
+      ready = subst (λ (p : EdgePlaces). IsReady (in_slot p.places) (due_to v) v c.of.result.next) (sym c.of.ensures.slots)
+          (c.of.ensures.ready c.args.walk.style v c.sizes-sizes.ensures.leveled.grid);
       volume = refl;
       kept = refl;
       least = omega arith;
@@ -33,6 +38,10 @@ write_row-requires-clause-row g c =
     let v = g.R.Heights.leveled c.args.rows.now in
     let rows = rows_are v _ _ _ c.sizes-sizes.ensures.value c.ny.ensures.value c.nz.ensures.value in
     subst (λ (v : Leveled). c.loop-row.row < row_count v.grid) (sym c.loop-row.invariant.volume) (omega (arith, rows, c.loop-row-test.true))
+
+pub write_row-requires-clause-ready : goal.write_row-requires-clause-ready
+write_row-requires-clause-ready g c =
+    subst (λ (v : Leveled). IsReady (in_slot c.loop-row.centres.places.slots.places) (due_to v) v c.loop-row.centres.places.next) (sym c.loop-row.invariant.volume) c.loop-row.invariant.ready
 
 pub returns-in_err-write_row-clause-adds : goal.returns-in_err-write_row-clause-adds
 returns-in_err-write_row-clause-adds g c =
@@ -77,6 +86,7 @@ loop-row-preserved g c =
       adds = run_more (centre_lines c.args.walk.style v) (is_cell v.grid) 0 _ _ _ _ _ _ tt tt
           (v.grid.nx * c.loop-row.row) v.grid.nx (v.grid.nx * (c.loop-row.row + 1)) _ (omega arith) (omega arith) c.loop-row.invariant.adds one;
       bytes = omega (arith, nx, c.loop-row.invariant.bytes, c.in_ok-write_row.ensures.bytes);
+      ready = subst (λ (v : Leveled). IsReady (in_slot c.write_row.new.centres.places.slots.places) (due_to v) v c.write_row.new.centres.places.next) c.loop-row.invariant.volume c.in_ok-write_row.ensures.ready;
       volume = c.in_ok-write_row.ensures.volume ∙ c.loop-row.invariant.volume;
       kept = c.in_ok-write_row.ensures.kept ∙ c.loop-row.invariant.kept;
       least = omega (arith, c.loop-row.invariant.least, c.in_ok-write_row.ensures.least);

@@ -1,6 +1,8 @@
 use Rattle.std.proofs.Common.{◌≡◌, ◌+◌, ◌*◌, ◌≤◌, Ok}
 use Rattle.mesh_lines.specs.Blocks.{Adds}
 use Rattle.mesh_walk.specs.Numbers.{cost_before}
+use Rattle.mesh_walk.specs.Places.{due_to, in_slot}
+use Rattle.mesh_walk.specs.Slots.{IsReady}
 use Rattle.mesh_walk.specs.Spans.{centres_text}
 use Rattle.mesh_walk.proofs.centres.write_centres.Given as goal
 
@@ -10,6 +12,7 @@ invariant-loop-row g l =
     record {
       adds : Adds {T = Unit {0}} (g.K.Sink.seen l.fn.sink) (g.K.Sink.seen l.sink) l.fn.block l.block (Ok tt) (centres_text l.walk.style v 0 (v.grid.nx * l.row));
       bytes : l.block.total ≤ l.fn.block.total + 256 * (v.grid.nx * l.row);
+      ready : IsReady (in_slot l.centres.places.slots.places) (due_to v) v l.centres.places.next;
       volume : g.R.Heights.leveled l.rows ≡ v;
       kept : g.R.MeshRows.kept l.rows ≡ g.R.MeshRows.kept l.fn.rows;
       least : g.R.MeshRows.spent l.fn.rows ≤ g.R.MeshRows.spent l.rows;

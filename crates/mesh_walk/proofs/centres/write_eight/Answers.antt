@@ -1,12 +1,11 @@
-use Rattle.std.proofs.Common.{◌≡◌, ◌+◌, ◌-◌, ◌*◌, get_or, ap, subst, sym, arith}
+use Rattle.std.proofs.Common.{◌≡◌, ◌+◌, ◌-◌, ◌*◌, ap, sym, arith}
 use Rattle.std.proofs.lemmas.Result.{err_from_is_err_and}
 use Rattle.iso_defs.specs.Grid.{is_cell}
 use Rattle.flat_mesh.specs.Rows.{row_start}
-use Rattle.mesh_rows.specs.Rows.{IsCaseOf}
 use Rattle.mesh_walk.specs.Cells.{eight_at}
 use Rattle.mesh_walk.specs.Spans.{centre_lines, centres_text}
 use Rattle.mesh_walk.proofs.Adding.{adds_as, adds_none}
-use Rattle.mesh_walk.proofs.CellRuns.{case_at, end_is, quiet_eight}
+use Rattle.mesh_walk.proofs.CellRuns.{end_is, quiet_eight}
 use Rattle.mesh_walk.proofs.CentreLines.{quiet_centres}
 use Rattle.mesh_walk.proofs.SpanLaws.{run_failed, run_more, run_none}
 use Rattle.mesh_walk.proofs.centres.write_eight.Goals as goal
@@ -19,7 +18,7 @@ have_no_loops-requires-clause-case g c =
 pub returns-then-have_no_loops-clause-adds : goal.returns-then-have_no_loops-clause-adds
 returns-then-have_no_loops-clause-adds g c =
     let v = g.H.Heights.leveled c.args.field.now in
-    let cells = c.args.cells.now in
+    let cells = c.args.row.cells.now in
     let from = 8 * c.args.eight in
     let end = end_is v _ _ _ c.args.eight c.sizes.ensures.value c.nx-last.ensures.value c.min-end.ensures in
     let quiet = quiet_eight v cells c.requires.cells from (eight_at v.grid (c.args.eight + 1)) (omega (arith, end, c.if-end-from-eq8.true)) (omega (arith, c.requires.eight)) (c.have_no_loops.ensures c.if-have_no_loops.true) in
@@ -28,25 +27,18 @@ returns-then-have_no_loops-clause-adds g c =
 pub loop-x-init : goal.loop-x-init
 loop-x-init g c =
     let v = g.H.Heights.leveled c.args.field.now in
-    let a = row_start v.grid c.args.cells.now.y c.args.cells.now.z + 8 * c.args.eight in
+    let a = row_start v.grid c.args.row.cells.now.y c.args.row.cells.now.z + 8 * c.args.eight in
     let none : 8 * c.args.eight - 8 * c.args.eight ≡ 0 = omega arith in
     record {
       adds = adds_as _ _ _ _ _ _ _ (ap (λ n. centres_text c.args.style v a n) (sym none)) (run_none (centre_lines c.args.style v) (is_cell v.grid) a _ _ tt);
       bytes = omega arith;
     }
 
-pub cell-cell-requires-clause-x : goal.cell-cell-requires-clause-x
-cell-cell-requires-clause-x g c =
+pub write_cell-requires-clause-x : goal.write_cell-requires-clause-x
+write_cell-requires-clause-x g c =
     let v = g.H.Heights.leveled c.args.field.now in
     let end = end_is v _ _ _ c.args.eight c.sizes.ensures.value c.nx-last.ensures.value c.min-end.ensures in
     omega (arith, end, c.loop-x-test.true, c.requires.eight)
-
-pub write_cell-requires-clause-case : goal.write_cell-requires-clause-case
-write_cell-requires-clause-case g c =
-    let v = g.H.Heights.leveled c.args.field.now in
-    let end = end_is v _ _ _ c.args.eight c.sizes.ensures.value c.nx-last.ensures.value c.min-end.ensures in
-    subst (λ q. IsCaseOf v q (get_or c.args.cells.now.cases c.loop-x.x 0)) (sym c.cell-cell.ensures.index)
-    (case_at v c.args.cells.now c.requires.cells c.loop-x.x (omega (arith, end, c.loop-x-test.true, c.requires.eight)))
 
 pub returns-in_err-write_cell-clause-adds : goal.returns-in_err-write_cell-clause-adds
 returns-in_err-write_cell-clause-adds g c =
@@ -54,16 +46,16 @@ returns-in_err-write_cell-clause-adds g c =
     let p = err_from_is_err_and c.from_residual.result c.from_residual.ensures.1 in
     let from = 8 * c.args.eight in
     let end = end_is v _ _ _ c.args.eight c.sizes.ensures.value c.nx-last.ensures.value c.min-end.ensures in
-    rw p.1 (run_failed (centre_lines c.args.style v) (is_cell v.grid) (row_start v.grid c.args.cells.now.y c.args.cells.now.z + from) _ _ _ _ _ _ _ _ _ _
-    (c.loop-x.x - from) 1 (eight_at v.grid (c.args.eight + 1) - from) c.cell-cell.result.index (omega (arith, c.cell-cell.ensures.index)) (omega (arith, end, c.loop-x-test.true)) c.loop-x.invariant.adds c.in_err-write_cell.ensures.adds)
+    rw p.1 (run_failed (centre_lines c.args.style v) (is_cell v.grid) (row_start v.grid c.args.row.cells.now.y c.args.row.cells.now.z + from) _ _ _ _ _ _ _ _ _ _
+    (c.loop-x.x - from) 1 (eight_at v.grid (c.args.eight + 1) - from) (row_start v.grid c.args.row.cells.now.y c.args.row.cells.now.z + c.loop-x.x) (omega arith) (omega (arith, end, c.loop-x-test.true)) c.loop-x.invariant.adds c.in_err-write_cell.ensures.adds)
 
 pub loop-x-preserved : goal.loop-x-preserved
 loop-x-preserved g c =
     let v = g.H.Heights.leveled c.args.field.now in
     let from = 8 * c.args.eight in
     record {
-      adds = run_more (centre_lines c.args.style v) (is_cell v.grid) (row_start v.grid c.args.cells.now.y c.args.cells.now.z + from) _ _ _ _ _ _ tt tt
-          (c.loop-x.x - from) 1 (c.loop-x.x + 1 - from) c.cell-cell.result.index (omega (arith, c.cell-cell.ensures.index)) (omega arith) c.loop-x.invariant.adds c.in_ok-write_cell.ensures.adds;
+      adds = run_more (centre_lines c.args.style v) (is_cell v.grid) (row_start v.grid c.args.row.cells.now.y c.args.row.cells.now.z + from) _ _ _ _ _ _ tt tt
+          (c.loop-x.x - from) 1 (c.loop-x.x + 1 - from) (row_start v.grid c.args.row.cells.now.y c.args.row.cells.now.z + c.loop-x.x) (omega arith) (omega arith) c.loop-x.invariant.adds c.in_ok-write_cell.ensures.adds;
       bytes = omega (arith, c.loop-x.invariant.bytes, c.in_ok-write_cell.ensures.bytes);
     }
 
@@ -73,7 +65,7 @@ returns-clause-adds g c =
     let from = 8 * c.args.eight in
     let end = end_is v _ _ _ c.args.eight c.sizes.ensures.value c.nx-last.ensures.value c.min-end.ensures in
     let at : c.loop-x.x ≡ eight_at v.grid (c.args.eight + 1) = omega (arith, end, c.loop-x-test.false, c.loop-x.auto.x-end, c.requires.eight) in
-    adds_as _ _ _ _ _ _ _ (ap (λ n. centres_text c.args.style v (row_start v.grid c.args.cells.now.y c.args.cells.now.z + from) (n - from)) at) c.loop-x.invariant.adds
+    adds_as _ _ _ _ _ _ _ (ap (λ n. centres_text c.args.style v (row_start v.grid c.args.row.cells.now.y c.args.row.cells.now.z + from) (n - from)) at) c.loop-x.invariant.adds
 
 pub returns-clause-bytes : goal.returns-clause-bytes
 returns-clause-bytes g c =
