@@ -1,10 +1,9 @@
 //! The parts that the lines of vertices on a row of points have in common, made once for the row.
-ghost use Rattle.std.specs.Prelude.{◌≡◌, ℕ, ◌+◌, ◌*◌, ◌/◌, ◌%◌, ◌==◌, ◌<◌, ◌≤◌, ◌^◌, ◌∷◌, ◌++◌, [], All, cond, true, false, length, if◌then◌else◌, slice_index, slice_index_or};
-ghost use Rattle.iso_base.specs.Triangles.{triangle_of};
+ghost use Rattle.std.specs.Prelude.{◌≡◌, ℕ, ◌+◌, ◌*◌, ◌/◌, ◌%◌, ◌==◌, ◌<◌, ◌≤◌, ◌^◌, ◌∷◌, ◌++◌, [], All, cond, false, length, if◌then◌else◌, slice_index};
 ghost use Rattle.iso_defs.specs.Texts.{line};
 ghost use Rattle.mesh_text.specs.Pieces.{piece_text};
 ghost use Rattle.mesh_lines.specs.Lines.{vertex_letter, vertex_line};
-ghost use Rattle.mesh_lines.specs.RowLines.{AreFronts, AreLeast, AreParts, centre_at, edge_at, front_text, is_layer, no_piece, whole_size, whole_text, y_text, z_text, zeros};
+ghost use Rattle.mesh_lines.specs.RowLines.{AreFronts, AreLeast, AreParts, centre_at, edge_at, front_text, is_layer, whole_size, whole_text, zeros};
 
 use crate::block::Block;
 use crate::style::{Origin, Style};

@@ -1,6 +1,6 @@
 //! Texts that occur in several lines, made once.
 
-ghost use Rattle.std.specs.Prelude.{◌≡◌, ◌+◌, ◌≤◌, ◌<◌, ◌^◌, ◌∷◌, ◌++◌, [], take, length, decimal};
+ghost use Rattle.std.specs.Prelude.{◌≡◌, ◌+◌, ◌≤◌, ◌<◌, ◌^◌, ◌++◌, [], take, length, decimal};
 ghost use Rattle.mesh_text.specs.Pieces.{piece_text};
 
 use crate::fours::Fours;

@@ -1,5 +1,5 @@
 //! The lines of the vertices on crossing edges, in order of name.
-ghost use Rattle.std.specs.Prelude.{◌≡◌, ◌+◌, ◌*◌, ◌/◌, ◌%◌, ◌<◌, ◌≤◌, ◌==◌, IfOk, if◌then◌else◌, length, slice_index, take};
+ghost use Rattle.std.specs.Prelude.{◌≡◌, ◌+◌, ◌*◌, ◌<◌, ◌≤◌, IfOk, length, slice_index, take};
 ghost use Rattle.iso_defs.specs.Rows.{row_count};
 ghost use Rattle.flat_mesh.specs.Rows.{row_start};
 ghost use Rattle.mesh_rows.specs.Rows.{AreEdges, row_places};
