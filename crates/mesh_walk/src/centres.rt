@@ -5,7 +5,7 @@ ghost use Rattle.cell_loops.specs.Loops.{IsLoop, row_loops};
 ghost use Rattle.flat_mesh.specs.Centres.{IsCellAt, loop_centre, loop_centres};
 ghost use Rattle.flat_mesh.specs.Faces.{AllCross, loops_at};
 ghost use Rattle.mesh_lines.specs.Blocks.{Adds, IsBehind};
-ghost use Rattle.mesh_walk.specs.Cells.{AreCells, cells_start, eight_at};
+ghost use Rattle.mesh_walk.specs.Cells.{AreCells, AreTexts, cells_start, eight_at};
 ghost use Rattle.mesh_walk.specs.Numbers.{AreRowRanks, cells_cost, cost_of_row};
 ghost use Rattle.mesh_walk.specs.Places.{AreCellPlaces, AreRowPlaces, due_to, in_slot};
 ghost use Rattle.mesh_walk.specs.Slots.{IsReady};
@@ -20,88 +20,87 @@ use byte_streams::{Failed, Sink};
 use case_table::CaseRow;
 use cell_loops::{centre_count, loop_count, loop_edges};
 use flat_mesh::{Cell, Heights};
-use mesh_lines::{Block, Style};
+use mesh_lines::{Block, RowTexts};
 use mesh_rows::MeshRows;
 
 /// Puts the line of the centre of a loop behind the others. It is the same under any name.
 fn put_centre<H: Heights>(
     field: &H,
-    style: Style,
+    texts: &RowTexts,
     cell: Cell,
     places: CellPlaces<'_>,
     edges: &[u8],
     block: &mut Block,
 )
     requires cell { IsCellAt (H.leveled field.now).grid cell }
+    requires texts { AreTexts (H.leveled field.now).grid cell.low.y cell.low.z texts.now }
     requires places { AreCellPlaces (H.leveled field.now) cell.index places.places.now places.slots.now places.at }
     requires edges { IsLoop edges.now }
     requires crossing { AllCross (H.leveled field.now) cell.index edges.now }
     requires room { block.old.page + 64 ≤ 4096 }
     ensures put { let v = H.leveled field.now in
-        (n : ℕ) → IsBehind block.old block.new (centre_line style v cell.index edges.now n) }
+        (n : ℕ) → IsBehind block.old block.new (centre_line texts.now.style v cell.index edges.now n) }
     ensures few { block.new.page ≤ block.old.page + 64 }
     ensures bytes { block.new.total ≤ block.old.total + 64 }
 {
     let _ = field.sizes();
     let at = places.centre(field, cell, edges);
-    let at = [
-        1000 * cell.low.x + at[0],
-        1000 * cell.low.y + at[1],
-        1000 * cell.low.z + at[2],
-    ];
-    block.push_vertex(style, &at);
+    block.push_centre(texts, cell.low.x, &at);
 }
 
 /// Puts the line of the centre of a loop behind the others, if it has one, whatever turn the loop has in its cell.
 fn put_if_centre<H: Heights>(
     field: &H,
-    style: Style,
+    texts: &RowTexts,
     cell: Cell,
     places: CellPlaces<'_>,
     edges: &[u8],
     block: &mut Block,
 )
     requires cell { IsCellAt (H.leveled field.now).grid cell }
+    requires texts { AreTexts (H.leveled field.now).grid cell.low.y cell.low.z texts.now }
     requires places { AreCellPlaces (H.leveled field.now) cell.index places.places.now places.slots.now places.at }
     requires edges { IsLoop edges.now }
     requires crossing { AllCross (H.leveled field.now) cell.index edges.now }
     requires room { block.old.page + 64 ≤ 4096 }
     ensures put { let v = H.leveled field.now in
-        (turn : ℕ) → IsBehind block.old block.new (loop_lines style (loop_centre v cell.index turn edges.now)) }
+        (turn : ℕ) → IsBehind block.old block.new (loop_lines texts.now.style (loop_centre v cell.index turn edges.now)) }
     ensures few { block.new.page ≤ block.old.page + 64 }
     ensures bytes { block.new.total ≤ block.old.total + 64 }
 {
     if edges.len() > 3 {
-        put_centre(field, style, cell, places, edges, block);
+        put_centre(field, texts, cell, places, edges, block);
     }
 }
 
 /// Puts the lines of the centres of a cell behind the others.
 fn put_centres<H: Heights>(
     field: &H,
-    style: Style,
+    texts: &RowTexts,
     cell: Cell,
     places: CellPlaces<'_>,
     case: CaseRow,
     block: &mut Block,
 )
     requires cell { IsCellAt (H.leveled field.now).grid cell }
+    requires texts { AreTexts (H.leveled field.now).grid cell.low.y cell.low.z texts.now }
     requires places { AreCellPlaces (H.leveled field.now) cell.index places.places.now places.slots.now places.at }
     requires loops { row_loops case ≡ loops_at (H.leveled field.now) cell.index }
     requires room { block.old.page + 256 ≤ 4096 }
     ensures put { let v = H.leveled field.now in
-        IsBehind block.old block.new (loop_lines style (loop_centres v cell.index 0 (row_loops case))) }
+        IsBehind block.old block.new (loop_lines texts.now.style (loop_centres v cell.index 0 (row_loops case))) }
     ensures bytes { block.new.total ≤ block.old.total + 256 }
 {
     for turn in 0..loop_count(case) {
-        put_if_centre(field, style, cell, places, loop_edges(case, turn), block);
+        put_if_centre(field, texts, cell, places, loop_edges(case, turn), block);
     }
 }
 
-/// A row of cells, the places on their edges, and the slots of those of its first cell.
+/// A row of cells, the texts of its lines, the places on the edges of its cells, and the slots of those of the first one.
 #[derive(Clone, Copy)]
 struct CentreRow<'a> {
     cells: &'a RowCells,
+    texts: &'a RowTexts,
     places: &'a EdgePlaces,
     slots: &'a [u16; 12],
 }
@@ -126,18 +125,18 @@ impl<'a> CentreRow<'a> {
 /// Puts the lines of the centres of a cell of a row behind the others, and first makes room for them.
 fn write_cell<H: Heights, K: Sink>(
     field: &H,
-    style: Style,
     row: CentreRow<'_>,
     x: u32,
     block: &mut Block,
     sink: &mut K,
 ) -> Result<(), Failed>
     requires cells { AreCells (H.leveled field.now) row.cells.now }
+    requires texts { AreTexts (H.leveled field.now).grid row.cells.now.y row.cells.now.z row.texts.now }
     requires places { AreRowPlaces (H.leveled field.now) row.cells.now.y row.cells.now.z row.places.now.places row.slots.now }
     requires x { x + 1 < (H.leveled field.now).grid.nx }
     ensures adds { let v = H.leveled field.now in
         Adds (K.seen sink.old) (K.seen sink.new) block.old block.new result
-        (centres_text style v (cells_start v row.entry.cells.now + x) 1) }
+        (centres_text row.entry.texts.now.style v (cells_start v row.entry.cells.now + x) 1) }
     ensures bytes { IfOk result (λ _. block.new.total ≤ block.old.total + 256) }
 {
     let case = row.cells.cases[x as usize];
@@ -153,7 +152,7 @@ fn write_cell<H: Heights, K: Sink>(
     let cell = row.cells.cell(field, x);
     put_centres(
         field,
-        style,
+        row.texts,
         cell,
         row.cell_places(field, cell),
         case,
@@ -166,18 +165,18 @@ fn write_cell<H: Heights, K: Sink>(
 #[inline(always)]
 fn write_eight<H: Heights, K: Sink>(
     field: &H,
-    style: Style,
     row: CentreRow<'_>,
     eight: u32,
     block: &mut Block,
     sink: &mut K,
 ) -> Result<(), Failed>
     requires cells { AreCells (H.leveled field.now) row.cells.now }
+    requires texts { AreTexts (H.leveled field.now).grid row.cells.now.y row.cells.now.z row.texts.now }
     requires places { AreRowPlaces (H.leveled field.now) row.cells.now.y row.cells.now.z row.places.now.places row.slots.now }
     requires eight { 8 * eight + 1 < (H.leveled field.now).grid.nx }
     ensures adds { let v = H.leveled field.now in
         Adds (K.seen sink.old) (K.seen sink.new) block.old block.new result
-        (centres_text style v (cells_start v row.entry.cells.now + 8 * eight) (eight_at v.grid (eight + 1) - 8 * eight)) }
+        (centres_text row.entry.texts.now.style v (cells_start v row.entry.cells.now + 8 * eight) (eight_at v.grid (eight + 1) - 8 * eight)) }
     ensures bytes { let end = eight_at (H.leveled field.now).grid (eight + 1) in
         IfOk result (λ _. block.new.total ≤ block.old.total + 256 * (end - 8 * eight)) }
 {
@@ -188,7 +187,7 @@ fn write_eight<H: Heights, K: Sink>(
         return Ok(());
     }
     for x in from..end {
-        write_cell(field, style, row, x, block, sink)?;
+        write_cell(field, row, x, block, sink)?;
     }
     Ok(())
 }
@@ -196,22 +195,22 @@ fn write_eight<H: Heights, K: Sink>(
 /// Puts the lines of the centres of a row of cells behind the others, eight cells at a time.
 fn write_cells<H: Heights, K: Sink>(
     field: &H,
-    style: Style,
     row: CentreRow<'_>,
     block: &mut Block,
     sink: &mut K,
 ) -> Result<(), Failed>
     requires cells { AreCells (H.leveled field.now) row.cells.now }
+    requires texts { AreTexts (H.leveled field.now).grid row.cells.now.y row.cells.now.z row.texts.now }
     requires places { AreRowPlaces (H.leveled field.now) row.cells.now.y row.cells.now.z row.places.now.places row.slots.now }
     ensures adds { let v = H.leveled field.now in
         Adds (K.seen sink.old) (K.seen sink.new) block.old block.new result
-        (centres_text style v (cells_start v row.entry.cells.now) v.grid.nx) }
+        (centres_text row.entry.texts.now.style v (cells_start v row.entry.cells.now) v.grid.nx) }
     ensures bytes { IfOk result (λ _. block.new.total ≤ block.old.total + 256 * (H.leveled field.now).grid.nx) }
 {
     // The last point of a row begins no cell.
     let nx = field.sizes().nx();
     for eight in 0..(nx + 6) / 8 {
-        write_eight(field, style, row, eight, block, sink)?;
+        write_eight(field, row, eight, block, sink)?;
     }
     Ok(())
 }
@@ -220,6 +219,7 @@ fn write_cells<H: Heights, K: Sink>(
 #[derive(Drop)]
 struct Centres {
     cells: RowCells,
+    texts: RowTexts,
     places: Around<EdgePlaces>,
 }
 
@@ -232,6 +232,8 @@ fn write_row<R: MeshRows, K: Sink>(
     block: &mut Block,
     sink: &mut K,
 ) -> Result<(), Failed>
+    requires style { centres.old.texts.style ≡ walk.style }
+    requires width { centres.old.texts.count ≡ (R.leveled rows.old).grid.nx }
     requires ready { let v = R.leveled rows.old in
         IsReady (in_slot centres.old.places.slots.places) (due_to v) v centres.old.places.next }
     requires ranks { AreRowRanks (R.leveled rows.old) walk.ranks.now walk.total }
@@ -239,6 +241,8 @@ fn write_row<R: MeshRows, K: Sink>(
     ensures adds { let v = R.leveled rows.old in
         Adds (K.seen sink.old) (K.seen sink.new) block.old block.new result (row_centres_text walk.entry.style v row) }
     ensures bytes { IfOk result (λ _. block.new.total ≤ block.old.total + 256 * (R.leveled rows.old).grid.nx) }
+    ensures style { centres.new.texts.style ≡ walk.entry.style }
+    ensures width { centres.new.texts.count ≡ (R.leveled rows.old).grid.nx }
     ensures ready { let v = R.leveled rows.old in
         IsReady (in_slot centres.new.places.slots.places) (due_to v) v centres.new.places.next }
     ensures volume { R.leveled rows.new ≡ R.leveled rows.old }
@@ -253,12 +257,14 @@ fn write_row<R: MeshRows, K: Sink>(
         return Ok(());
     }
     centres.places.turn_to(rows, walk, block, y, z);
+    centres.texts.turn_to(y, z, block);
     let row = CentreRow {
         cells: &centres.cells,
+        texts: &centres.texts,
         places: &centres.places.slots,
         slots: &edge_slots(y, z),
     };
-    write_cells(rows, walk.style, row, block, sink)
+    write_cells(rows, row, block, sink)
 }
 
 /// Puts the lines of all centres behind the others.
@@ -282,6 +288,7 @@ pub fn write_centres<R: MeshRows, K: Sink>(
     let sizes = rows.sizes();
     let mut centres = Centres {
         cells: RowCells::new(),
+        texts: RowTexts::new(walk.style, sizes.nx(), block),
         places: Around::of(EdgePlaces::new()),
     };
     for row in 0..sizes.ny() * sizes.nz() {

@@ -13,7 +13,7 @@ use Rattle.mesh_walk.proofs.centres.put_centres.Goals as goal
 
 pub loop-turn-init : goal.loop-turn-init
 loop-turn-init g c = record {
-  behind = behind_as _ _ _ _ (sym (loop_lines_none c.args.style)) (behind_none c.args.block.now);
+  behind = behind_as _ _ _ _ (sym (loop_lines_none c.args.texts.now.style)) (behind_none c.args.block.now);
   bytes = omega arith;
   few = omega arith;
 }
@@ -45,9 +45,9 @@ loop-turn-preserved g c =
     let before = loop_centres v q 0 (take i ls) in
     record {
       behind = behind_as _ _ _ _
-          (ap (λ x. loop_lines c.args.style before ++ loop_lines c.args.style x) centre
-          ∙ (sym (loop_lines_append c.args.style before (loop_centre v q (0 + i) l))
-          ∙ ap (loop_lines c.args.style) (sym (loop_centres_more v q 0 i ls below))))
+          (ap (λ x. loop_lines c.args.texts.now.style before ++ loop_lines c.args.texts.now.style x) centre
+          ∙ (sym (loop_lines_append c.args.texts.now.style before (loop_centre v q (0 + i) l))
+          ∙ ap (loop_lines c.args.texts.now.style) (sym (loop_centres_more v q 0 i ls below))))
           (behind_both _ _ _ _ _ c.loop-turn.invariant.behind (c.put_if_centre.ensures.put (0 + i)));
       bytes = omega (arith, c.put_if_centre.ensures.bytes, c.loop-turn.invariant.bytes);
       few = omega (arith, c.put_if_centre.ensures.few, c.loop-turn.invariant.few);
@@ -57,4 +57,4 @@ pub returns-clause-put : goal.returns-clause-put
 returns-clause-put g c =
     let ls = row_loops c.args.case in
     let all : take c.loop-turn.turn ls ≡ ls = take_all c.loop-turn.turn ls (omega (arith, c.loop-turn-test.false, c.loop_count-turn-end.ensures.value)) in
-    behind_as _ _ _ _ (ap (λ ls. loop_lines c.args.style (loop_centres (g.H.Heights.leveled c.args.field.now) c.args.cell.index 0 ls)) all) c.loop-turn.invariant.behind
+    behind_as _ _ _ _ (ap (λ ls. loop_lines c.args.texts.now.style (loop_centres (g.H.Heights.leveled c.args.field.now) c.args.cell.index 0 ls)) all) c.loop-turn.invariant.behind

@@ -18,7 +18,7 @@ returns-then-case-eq0-clause-adds g c =
     let cells = c.args.row.cells.now in
     let q = cells_start v cells + c.args.x in
     let case = case_at v cells c.requires.cells c.args.x c.requires.x in
-    adds_as _ _ _ _ _ _ _ (sym (first_case_lines c.args.style v q (get_or cells.cases c.args.x 0) (tested_at v cells c.requires.cells c.args.x c.requires.x) case.loops c.if-case-eq0.true)) (adds_none _ c.args.block.now tt)
+    adds_as _ _ _ _ _ _ _ (sym (first_case_lines c.args.row.texts.now.style v q (get_or cells.cases c.args.x 0) (tested_at v cells c.requires.cells c.args.x c.requires.x) case.loops c.if-case-eq0.true)) (adds_none _ c.args.block.now tt)
 
 pub of-case-requires : goal.of-case-requires
 of-case-requires g c =
@@ -32,7 +32,7 @@ returns-then-centre_count-eq0-clause-adds g c =
     let q = cells_start v cells + c.args.x in
     let case : row_loops c.of-case.result ≡ loops_at v q = ap row_loops c.of-case.ensures ∙ (case_at v cells c.requires.cells c.args.x c.requires.x).loops in
     let none : length (cell_centres v.grid (heights v) q) ≡ 0 = sym (centres_of_case v q c.of-case.result case) ∙ (sym c.centre_count.ensures.value ∙ c.if-centre_count-eq0.true) in
-    adds_as _ _ _ _ _ _ _ (sym (no_centre_lines c.args.style v q (tested_at v cells c.requires.cells c.args.x c.requires.x) none)) (adds_none _ c.args.block.now tt)
+    adds_as _ _ _ _ _ _ _ (sym (no_centre_lines c.args.row.texts.now.style v q (tested_at v cells c.requires.cells c.args.x c.requires.x) none)) (adds_none _ c.args.block.now tt)
 
 pub returns-in_err-reserve-clause-adds : goal.returns-in_err-reserve-clause-adds
 returns-in_err-reserve-clause-adds g c =
@@ -55,4 +55,4 @@ returns-clause-adds g c =
     let tested = tested_at v cells c.requires.cells c.args.x c.requires.x in
     adds_both _ _ _ _ _ _ _ _ [] _ c.in_ok-reserve.ensures.put
     (adds_behind _ _ _ tt _ (behind_as _ _ _ _
-    (ap (λ q. loop_lines c.args.style (loop_centres v q 0 (row_loops c.of-case.result))) same ∙ cell_centre_lines c.args.style v q (row_loops c.of-case.result) tested case) c.put_centres.ensures.put))
+    (ap (λ q. loop_lines c.args.row.texts.now.style (loop_centres v q 0 (row_loops c.of-case.result))) same ∙ cell_centre_lines c.args.row.texts.now.style v q (row_loops c.of-case.result) tested case) c.put_centres.ensures.put))

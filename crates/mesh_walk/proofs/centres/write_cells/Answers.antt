@@ -16,7 +16,7 @@ loop-eight-init g c =
     let a = row_start v.grid c.args.row.cells.now.y c.args.row.cells.now.z in
     let none : eight_at v.grid 0 ≡ 0 = omega arith in
     record {
-      adds = adds_as _ _ _ _ _ _ _ (ap (λ n. centres_text c.args.style v a n) (sym none)) (run_none (centre_lines c.args.style v) (is_cell v.grid) a _ _ tt);
+      adds = adds_as _ _ _ _ _ _ _ (ap (λ n. centres_text c.args.row.texts.now.style v a n) (sym none)) (run_none (centre_lines c.args.row.texts.now.style v) (is_cell v.grid) a _ _ tt);
       bytes = omega arith;
     }
 
@@ -34,7 +34,7 @@ returns-in_err-write_eight-clause-adds g c =
     let a = row_start v.grid c.args.row.cells.now.y c.args.row.cells.now.z in
     let n = c.loop-eight.eight in
     let low : 8 * n + 1 < v.grid.nx = omega (arith, nx, c.loop-eight-test.true) in
-    rw p.1 (run_failed (centre_lines c.args.style v) (is_cell v.grid) a _ _ _ _ _ _ _ _ _ _
+    rw p.1 (run_failed (centre_lines c.args.row.texts.now.style v) (is_cell v.grid) a _ _ _ _ _ _ _ _ _ _
     (eight_at v.grid n) (eight_at v.grid (n + 1) - 8 * n) v.grid.nx (a + 8 * n) (omega (arith, low)) (omega (arith, low)) c.loop-eight.invariant.adds c.in_err-write_eight.ensures.adds)
 
 pub loop-eight-preserved : goal.loop-eight-preserved
@@ -45,7 +45,7 @@ loop-eight-preserved g c =
     let n = c.loop-eight.eight in
     let low : 8 * n + 1 < v.grid.nx = omega (arith, nx, c.loop-eight-test.true) in
     record {
-      adds = run_more (centre_lines c.args.style v) (is_cell v.grid) a _ _ _ _ _ _ tt tt
+      adds = run_more (centre_lines c.args.row.texts.now.style v) (is_cell v.grid) a _ _ _ _ _ _ tt tt
           (eight_at v.grid n) (eight_at v.grid (n + 1) - 8 * n) (eight_at v.grid (n + 1)) (a + 8 * n) (omega (arith, low)) (omega (arith, low)) c.loop-eight.invariant.adds c.in_ok-write_eight.ensures.adds;
       bytes = omega (arith, low, c.loop-eight.invariant.bytes, c.in_ok-write_eight.ensures.bytes);
     }
@@ -59,6 +59,6 @@ returns-clause-adds g c =
     let a = row_start v.grid cells.y cells.z in
     let far : eight_at v.grid c.loop-eight.eight ≡ v.grid.nx - 1 = omega (arith, nx, c.loop-eight-test.false) in
     let quiet = last_point v cells.y cells.z (omega (arith, least)) (omega (arith, c.requires.cells.y)) (omega (arith, c.requires.cells.z)) in
-    run_more (centre_lines c.args.style v) (is_cell v.grid) a _ _ _ _ _ _ tt tt
+    run_more (centre_lines c.args.row.texts.now.style v) (is_cell v.grid) a _ _ _ _ _ _ tt tt
     (eight_at v.grid c.loop-eight.eight) 1 v.grid.nx (a + (v.grid.nx - 1)) (omega (arith, far)) (omega (arith, far, least)) c.loop-eight.invariant.adds
-    (adds_as _ _ _ _ _ _ _ (sym (quiet_centres c.args.style v (a + (v.grid.nx - 1)) 1 quiet)) (adds_none _ c.loop-eight.block tt))
+    (adds_as _ _ _ _ _ _ _ (sym (quiet_centres c.args.row.texts.now.style v (a + (v.grid.nx - 1)) 1 quiet)) (adds_none _ c.loop-eight.block tt))

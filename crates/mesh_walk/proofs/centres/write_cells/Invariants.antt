@@ -10,6 +10,6 @@ invariant-loop-eight g l =
     let v = g.H.Heights.leveled l.field in
     record {
       adds : Adds {T = Unit {0}} (g.K.Sink.seen l.fn.sink) (g.K.Sink.seen l.sink) l.fn.block l.block (Ok tt)
-          (centres_text l.style v (row_start v.grid l.row.cells.now.y l.row.cells.now.z) (eight_at v.grid l.eight));
+          (centres_text l.row.texts.now.style v (row_start v.grid l.row.cells.now.y l.row.cells.now.z) (eight_at v.grid l.eight));
       bytes : l.block.total ≤ l.fn.block.total + 256 * eight_at v.grid l.eight;
     }

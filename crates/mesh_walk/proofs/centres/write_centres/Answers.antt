@@ -1,4 +1,4 @@
-use Rattle.std.proofs.Common.{◌≡◌, ◌+◌, ◌*◌, ◌<◌, ◌≤◌, ◌∙◌, suc, ap, subst, sym, refl, arith}
+use Rattle.std.proofs.Common.{rules, ◌≡◌, ◌+◌, ◌*◌, ◌<◌, ◌≤◌, ◌∙◌, suc, ap, subst, sym, refl, arith}
 use Rattle.std.proofs.lemmas.Result.{err_from_is_err_and}
 use Rattle.std.proofs.Math.Nat.{mul-le-mul_left}
 use Rattle.iso_defs.specs.Grid.{is_cell}
@@ -22,6 +22,8 @@ loop-row-init g c =
     record {
       adds = adds_as _ _ _ _ _ _ _ (ap (λ n. centres_text c.args.walk.style v 0 n) z) (run_none (centre_lines c.args.walk.style v) (is_cell v.grid) 0 _ _ tt);
       bytes = omega arith;
+      style = search rules;
+      width = search rules;
       ready = subst (λ (p : EdgePlaces). IsReady (in_slot p.places) (due_to v) v c.of.result.next) (sym c.of.ensures.slots)
           (c.of.ensures.ready c.args.walk.style v c.sizes-sizes.ensures.leveled.grid);
       volume = refl;
@@ -86,6 +88,8 @@ loop-row-preserved g c =
       adds = run_more (centre_lines c.args.walk.style v) (is_cell v.grid) 0 _ _ _ _ _ _ tt tt
           (v.grid.nx * c.loop-row.row) v.grid.nx (v.grid.nx * (c.loop-row.row + 1)) _ (omega arith) (omega arith) c.loop-row.invariant.adds one;
       bytes = omega (arith, nx, c.loop-row.invariant.bytes, c.in_ok-write_row.ensures.bytes);
+      style = c.in_ok-write_row.ensures.style;
+      width = c.in_ok-write_row.ensures.width ∙ ap (λ (w : Leveled). w.grid.nx) c.loop-row.invariant.volume;
       ready = subst (λ (v : Leveled). IsReady (in_slot c.write_row.new.centres.places.slots.places) (due_to v) v c.write_row.new.centres.places.next) c.loop-row.invariant.volume c.in_ok-write_row.ensures.ready;
       volume = c.in_ok-write_row.ensures.volume ∙ c.loop-row.invariant.volume;
       kept = c.in_ok-write_row.ensures.kept ∙ c.loop-row.invariant.kept;

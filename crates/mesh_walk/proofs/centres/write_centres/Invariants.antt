@@ -12,6 +12,8 @@ invariant-loop-row g l =
     record {
       adds : Adds {T = Unit {0}} (g.K.Sink.seen l.fn.sink) (g.K.Sink.seen l.sink) l.fn.block l.block (Ok tt) (centres_text l.walk.style v 0 (v.grid.nx * l.row));
       bytes : l.block.total ≤ l.fn.block.total + 256 * (v.grid.nx * l.row);
+      style : l.centres.texts.style ≡ l.walk.style;
+      width : l.centres.texts.count ≡ v.grid.nx;
       ready : IsReady (in_slot l.centres.places.slots.places) (due_to v) v l.centres.places.next;
       volume : g.R.Heights.leveled l.rows ≡ v;
       kept : g.R.MeshRows.kept l.rows ≡ g.R.MeshRows.kept l.fn.rows;

@@ -22,7 +22,7 @@ returns-then-have_no_loops-clause-adds g c =
     let from = 8 * c.args.eight in
     let end = end_is v _ _ _ c.args.eight c.sizes.ensures.value c.nx-last.ensures.value c.min-end.ensures in
     let quiet = quiet_eight v cells c.requires.cells from (eight_at v.grid (c.args.eight + 1)) (omega (arith, end, c.if-end-from-eq8.true)) (omega (arith, c.requires.eight)) (c.have_no_loops.ensures c.if-have_no_loops.true) in
-    adds_as _ _ _ _ _ _ _ (sym (quiet_centres c.args.style v (row_start v.grid cells.y cells.z + from) (eight_at v.grid (c.args.eight + 1) - from) quiet)) (adds_none _ c.args.block.now tt)
+    adds_as _ _ _ _ _ _ _ (sym (quiet_centres c.args.row.texts.now.style v (row_start v.grid cells.y cells.z + from) (eight_at v.grid (c.args.eight + 1) - from) quiet)) (adds_none _ c.args.block.now tt)
 
 pub loop-x-init : goal.loop-x-init
 loop-x-init g c =
@@ -30,7 +30,7 @@ loop-x-init g c =
     let a = row_start v.grid c.args.row.cells.now.y c.args.row.cells.now.z + 8 * c.args.eight in
     let none : 8 * c.args.eight - 8 * c.args.eight ≡ 0 = omega arith in
     record {
-      adds = adds_as _ _ _ _ _ _ _ (ap (λ n. centres_text c.args.style v a n) (sym none)) (run_none (centre_lines c.args.style v) (is_cell v.grid) a _ _ tt);
+      adds = adds_as _ _ _ _ _ _ _ (ap (λ n. centres_text c.args.row.texts.now.style v a n) (sym none)) (run_none (centre_lines c.args.row.texts.now.style v) (is_cell v.grid) a _ _ tt);
       bytes = omega arith;
     }
 
@@ -46,7 +46,7 @@ returns-in_err-write_cell-clause-adds g c =
     let p = err_from_is_err_and c.from_residual.result c.from_residual.ensures.1 in
     let from = 8 * c.args.eight in
     let end = end_is v _ _ _ c.args.eight c.sizes.ensures.value c.nx-last.ensures.value c.min-end.ensures in
-    rw p.1 (run_failed (centre_lines c.args.style v) (is_cell v.grid) (row_start v.grid c.args.row.cells.now.y c.args.row.cells.now.z + from) _ _ _ _ _ _ _ _ _ _
+    rw p.1 (run_failed (centre_lines c.args.row.texts.now.style v) (is_cell v.grid) (row_start v.grid c.args.row.cells.now.y c.args.row.cells.now.z + from) _ _ _ _ _ _ _ _ _ _
     (c.loop-x.x - from) 1 (eight_at v.grid (c.args.eight + 1) - from) (row_start v.grid c.args.row.cells.now.y c.args.row.cells.now.z + c.loop-x.x) (omega arith) (omega (arith, end, c.loop-x-test.true)) c.loop-x.invariant.adds c.in_err-write_cell.ensures.adds)
 
 pub loop-x-preserved : goal.loop-x-preserved
@@ -54,7 +54,7 @@ loop-x-preserved g c =
     let v = g.H.Heights.leveled c.args.field.now in
     let from = 8 * c.args.eight in
     record {
-      adds = run_more (centre_lines c.args.style v) (is_cell v.grid) (row_start v.grid c.args.row.cells.now.y c.args.row.cells.now.z + from) _ _ _ _ _ _ tt tt
+      adds = run_more (centre_lines c.args.row.texts.now.style v) (is_cell v.grid) (row_start v.grid c.args.row.cells.now.y c.args.row.cells.now.z + from) _ _ _ _ _ _ tt tt
           (c.loop-x.x - from) 1 (c.loop-x.x + 1 - from) (row_start v.grid c.args.row.cells.now.y c.args.row.cells.now.z + c.loop-x.x) (omega arith) (omega arith) c.loop-x.invariant.adds c.in_ok-write_cell.ensures.adds;
       bytes = omega (arith, c.loop-x.invariant.bytes, c.in_ok-write_cell.ensures.bytes);
     }
@@ -65,7 +65,7 @@ returns-clause-adds g c =
     let from = 8 * c.args.eight in
     let end = end_is v _ _ _ c.args.eight c.sizes.ensures.value c.nx-last.ensures.value c.min-end.ensures in
     let at : c.loop-x.x ≡ eight_at v.grid (c.args.eight + 1) = omega (arith, end, c.loop-x-test.false, c.loop-x.auto.x-end, c.requires.eight) in
-    adds_as _ _ _ _ _ _ _ (ap (λ n. centres_text c.args.style v (row_start v.grid c.args.row.cells.now.y c.args.row.cells.now.z + from) (n - from)) at) c.loop-x.invariant.adds
+    adds_as _ _ _ _ _ _ _ (ap (λ n. centres_text c.args.row.texts.now.style v (row_start v.grid c.args.row.cells.now.y c.args.row.cells.now.z + from) (n - from)) at) c.loop-x.invariant.adds
 
 pub returns-clause-bytes : goal.returns-clause-bytes
 returns-clause-bytes g c =
