@@ -2,3 +2,4 @@ pub mod Asked
 pub mod Kept
 pub mod Joining
 pub mod Origins
+pub mod Recent

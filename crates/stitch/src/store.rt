@@ -7,13 +7,15 @@ ghost use Rattle.stitch_rows.specs.Bricks.{AreMarked};
 ghost use Rattle.stitch_rows.specs.Named.{NamesCases, asked_among};
 ghost use Rattle.stitch.specs.Asked.{asked_in_row};
 ghost use Rattle.stitch.specs.Kept.{StoreKept};
+ghost use Rattle.stitch.specs.Recent.{AreRecent};
 
 use crate::counts::count_all;
+use crate::recent::RecentFlags;
 use flat_mesh::{Cell, Heights};
 use iso_base::{Sizes, Steps};
 use mesh_rows::{Counts, MeshRows};
 use std::sync::ledger::Ledger;
-use stitch_rows::{ActiveRow, CellRows, Field, case_row, flag_row, place_row};
+use stitch_rows::{ActiveRow, CellRows, Field, case_row, place_row};
 
 /// Whether a slice of points lies in a slice of bricks of even number.
 #[inline(always)]
@@ -22,35 +24,46 @@ fn is_even(z: u32) -> bool {
 }
 
 /// Fills in the flags of the points of a row, and says whether a crossing edge may begin there.
-fn fill_active(field: &Field, active: &mut ActiveRow, y: u32, z: u32, flags: &mut [u8]) -> bool
+fn fill_active(
+    field: &Field,
+    active: &mut ActiveRow,
+    recent: &mut RecentFlags,
+    y: u32,
+    z: u32,
+    flags: &mut [u8],
+) -> bool
     requires y { y < field.now.grid.ny }
     requires z { z < field.now.grid.nz }
     requires count { length flags.old ≡ field.now.grid.nx }
     requires marked { AreMarked field.now active.old }
+    requires recent { AreRecent field.now recent.old }
     ensures flags { IsTrue result → AreFlags field.now y z flags.new }
     ensures still { result ≡ false → IsStill field.now y z }
     ensures marked { AreMarked field.now active.new }
+    ensures recent { AreRecent field.now recent.new }
 {
     active.mark(field, y, z);
     if active.is_still(field) {
         return false;
     }
-    flag_row(field, active, flags);
+    recent.fill(field, active, flags);
     true
 }
 
-/// The rows of a volume in bricks at a level: with who names the cases of its cells, the counter of what that takes, and the bricks
-/// that hold the rows that were asked for last, in slices of bricks of even and of odd number: a traversal goes to and fro between
-/// two slices of points.
+/// The rows of a volume in bricks at a level: with who names the cases of its cells, the counter of what that takes, the flags of rows
+/// that were asked for last, and the bricks that hold those rows, in slices of bricks of even and of odd number: a traversal goes to and
+/// fro between two slices of points.
 #[derive(Drop)]
 pub struct StoreRows<'a, R: CellRows, L: Ledger> {
     field: &'a Field<'a>,
     even: ActiveRow,
     odd: ActiveRow,
+    recent: RecentFlags,
     rows: &'a mut R,
     steps: &'a mut Steps<L>,
     ghost even_marked: { AreMarked field.now even },
     ghost odd_marked: { AreMarked field.now odd },
+    ghost recent_kept: { AreRecent field.now recent },
     ghost named: { NamesCases (R.named rows.now) field.now.grid (heights field.now) },
 }
 
@@ -73,6 +86,7 @@ impl<'a, R: CellRows, L: Ledger> StoreRows<'a, R, L> {
             field,
             even: ActiveRow::new(),
             odd: ActiveRow::new(),
+            recent: RecentFlags::new(field),
             rows,
             steps,
         }
@@ -105,9 +119,9 @@ impl<'a, R: CellRows, L: Ledger> MeshRows for StoreRows<'a, R, L> {
     /// It looks at active bricks alone.
     fn fill_flags(&mut self, y: u32, z: u32, flags: &mut [u8]) -> bool {
         if is_even(z) {
-            fill_active(self.field, &mut self.even, y, z, flags)
+            fill_active(self.field, &mut self.even, &mut self.recent, y, z, flags)
         } else {
-            fill_active(self.field, &mut self.odd, y, z, flags)
+            fill_active(self.field, &mut self.odd, &mut self.recent, y, z, flags)
         }
     }
 
