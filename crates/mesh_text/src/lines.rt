@@ -213,7 +213,8 @@ impl Lines {
         requires second { IsShort b.now }
         requires third { IsShort c.now }
         requires room { length self.old + 64 ≤ 4096 }
-        ensures line { self.new ≡ self.old ++ letter_line letter (number_text a.now) (number_text b.now) (number_text c.now) }
+        ensures line { self.new
+            ≡ self.old ++ letter_line letter (number_text a.now) (number_text b.now) (number_text c.now) }
         ensures few { length self.new ≤ length self.old + 64 }
     {
         let at = put_letter(letter, &mut self.bytes, self.end);

@@ -1,18 +1,17 @@
--- The flags and the numbers of the points of a row.
-use Rattle.std.proofs.Common.{◌≡◌, ℕ, ◌+◌, ◌*◌, ◌^◌, ◌<◌, ◌≤◌, List, All, length, get_or, take, refl, sym, ◌∙◌, ap, subst, arith}
-use Rattle.std.specs.List.{sum_by}
+-- The flags of the points of a row.
+use Rattle.std.proofs.Common.{◌≡◌, ℕ, ◌+◌, ◌*◌, ◌^◌, ◌<◌, ◌≤◌, List, All, length, refl, sym, ◌∙◌, subst, arith}
 use Rattle.std.proofs.lemmas.List.{ext_get_or, get_or_default}
 use Rattle.std.proofs.lemmas.List.FromFn.{get_or-map-range_with_len}
 use Rattle.iso_defs.specs.Grid.{index, point_count}
 use Rattle.iso_defs.proofs.Points.{index_in}
-use Rattle.crossing_edges.specs.Flags.{edges_in, flags_at, flags_from, rank}
-use Rattle.crossing_edges.proofs.Counting.{length-flags_from, rank_along}
+use Rattle.crossing_edges.specs.Flags.{flags_at, flags_from, rank}
+use Rattle.crossing_edges.proofs.Counting.{length-flags_from}
 use Rattle.crossing_edges.proofs.FlagParts.{row_in}
 use Rattle.flat_mesh.specs.Lattice.{IsLeveled, Leveled, heights}
 use Rattle.flat_mesh.specs.Rows.{row_start}
 use Rattle.flat_mesh.proofs.FirstNumbers.{rank_low}
 use Rattle.flat_mesh.proofs.Known.{flags_low}
-use Rattle.mesh_rows.specs.Rows.{AreFirst, AreFlags}
+use Rattle.mesh_rows.specs.Rows.{AreFlags}
 
 -- flags by index are the list of flags
 pub flags_list : (v : Leveled) (y z : ℕ) (flags : List ℕ) → length flags ≡ v.grid.nx → AreFlags v y z flags → flags ≡ flags_from v.grid (heights v) (row_start v.grid y z) v.grid.nx
@@ -37,14 +36,7 @@ row_fits v y z hy hz =
         let one : index (record { nx = m; ny = n; nz = 1 }) a b 0 < point_count (record { nx = m; ny = n; nz = 1 }) = index_in (record { nx = m; ny = n; nz = 1 }) a b 0 h k (omega arith) in
         omega arith
 
--- the numbers
-pub first_are : (v : Leveled) (y z before : ℕ) (flags first : List ℕ) → before ≡ rank v.grid (heights v) (3 * row_start v.grid y z) → length flags ≡ v.grid.nx → AreFlags v y z flags
-    → ((i : ℕ) → i ≤ length flags → get_or first i 0 ≡ before + sum_by edges_in (take i flags)) → AreFirst v y z first
-first_are v y z before flags first start len each sums x low =
-    sums x (omega arith) ∙ (ap (λ n. n + sum_by edges_in (take x flags)) start
-    ∙ (ap (λ fs. rank v.grid (heights v) (3 * row_start v.grid y z) + sum_by edges_in (take x fs)) (flags_list v y z flags len each)
-    ∙ sym (rank_along v.grid (heights v) (row_start v.grid y z) v.grid.nx x low)))
-
+-- the numbers of the edges of a row
 pub before_low : (v : Leveled) (y z before : ℕ) → IsLeveled v → y < v.grid.ny → z < v.grid.nz → before ≡ rank v.grid (heights v) (3 * row_start v.grid y z) → before + 3 * v.grid.nx < 2 ^ 32
 before_low v y z before is hy hz start =
     let fits = row_fits v y z hy hz in

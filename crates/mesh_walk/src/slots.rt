@@ -105,7 +105,8 @@ impl<S: Slots> Around<S> {
     /// Slots of which nothing is known.
     pub fn of(slots: S) -> Around<S>
         ensures slots { result.slots ≡ slots }
-        ensures ready { (style : Style) → (v : Leveled) → IsGrid v.grid → IsReady (S.at result.slots) (S.due style v) v result.next }
+        ensures ready { (style : Style) → (v : Leveled) → IsGrid v.grid
+            → IsReady (S.at result.slots) (S.due style v) v result.next }
     {
         Around {
             slots,
