@@ -64,7 +64,8 @@ fn put_if_centre<H: Heights>(
     requires crossing { AllCross (H.leveled field.now) cell.index edges.now }
     requires room { block.old.page + 64 ≤ 4096 }
     ensures put { let v = H.leveled field.now in
-        (turn : ℕ) → IsBehind block.old block.new (loop_lines texts.now.style (loop_centre v cell.index turn edges.now)) }
+        (turn : ℕ) →
+        IsBehind block.old block.new (loop_lines texts.now.style (loop_centre v cell.index turn edges.now)) }
     ensures few { block.new.page ≤ block.old.page + 64 }
     ensures bytes { block.new.total ≤ block.old.total + 64 }
 {
@@ -96,7 +97,8 @@ fn put_centres<H: Heights>(
     }
 }
 
-/// A row of cells, the texts of its lines, the places on the edges of its cells, and the slots of those of the first one.
+/// A row of cells, the texts of its lines, the places on the edges of its cells, and the slots of those of the first
+/// one.
 #[derive(Clone, Copy)]
 struct CentreRow<'a> {
     cells: &'a RowCells,
@@ -132,7 +134,8 @@ fn write_cell<H: Heights, K: Sink>(
 ) -> Result<(), Failed>
     requires cells { AreCells (H.leveled field.now) row.cells.now }
     requires texts { AreTexts (H.leveled field.now).grid row.cells.now.y row.cells.now.z row.texts.now }
-    requires places { AreRowPlaces (H.leveled field.now) row.cells.now.y row.cells.now.z row.places.now.places row.slots.now }
+    requires places { let cells = row.cells.now in
+        AreRowPlaces (H.leveled field.now) cells.y cells.z row.places.now.places row.slots.now }
     requires x { x + 1 < (H.leveled field.now).grid.nx }
     ensures adds { let v = H.leveled field.now in
         Adds (K.seen sink.old) (K.seen sink.new) block.old block.new result
@@ -172,11 +175,13 @@ fn write_eight<H: Heights, K: Sink>(
 ) -> Result<(), Failed>
     requires cells { AreCells (H.leveled field.now) row.cells.now }
     requires texts { AreTexts (H.leveled field.now).grid row.cells.now.y row.cells.now.z row.texts.now }
-    requires places { AreRowPlaces (H.leveled field.now) row.cells.now.y row.cells.now.z row.places.now.places row.slots.now }
+    requires places { let cells = row.cells.now in
+        AreRowPlaces (H.leveled field.now) cells.y cells.z row.places.now.places row.slots.now }
     requires eight { 8 * eight + 1 < (H.leveled field.now).grid.nx }
     ensures adds { let v = H.leveled field.now in
         Adds (K.seen sink.old) (K.seen sink.new) block.old block.new result
-        (centres_text row.entry.texts.now.style v (cells_start v row.entry.cells.now + 8 * eight) (eight_at v.grid (eight + 1) - 8 * eight)) }
+        (centres_text row.entry.texts.now.style v (cells_start v row.entry.cells.now + 8 * eight)
+        (eight_at v.grid (eight + 1) - 8 * eight)) }
     ensures bytes { let end = eight_at (H.leveled field.now).grid (eight + 1) in
         IfOk result (λ _. block.new.total ≤ block.old.total + 256 * (end - 8 * eight)) }
 {
@@ -201,7 +206,8 @@ fn write_cells<H: Heights, K: Sink>(
 ) -> Result<(), Failed>
     requires cells { AreCells (H.leveled field.now) row.cells.now }
     requires texts { AreTexts (H.leveled field.now).grid row.cells.now.y row.cells.now.z row.texts.now }
-    requires places { AreRowPlaces (H.leveled field.now) row.cells.now.y row.cells.now.z row.places.now.places row.slots.now }
+    requires places { let cells = row.cells.now in
+        AreRowPlaces (H.leveled field.now) cells.y cells.z row.places.now.places row.slots.now }
     ensures adds { let v = H.leveled field.now in
         Adds (K.seen sink.old) (K.seen sink.new) block.old block.new result
         (centres_text row.entry.texts.now.style v (cells_start v row.entry.cells.now) v.grid.nx) }

@@ -18,8 +18,8 @@ use flat_mesh::{Cell, Heights};
 use mesh_lines::Block;
 use mesh_rows::MeshRows;
 
-/// Where the edges of a cell begin, in thousandths from its lowest point. One number has all three coordinates, that along x in
-/// its lowest 16 bits, then that along y and that along z. So the three sums of a loop are one sum.
+/// Where the edges of a cell begin, in thousandths from its lowest point. One number has all three coordinates, that
+/// along x in its lowest 16 bits, then that along y and that along z. So the three sums of a loop are one sum.
 const BEGIN: [u64; 12] = [
     0,
     65_536_000,
@@ -150,8 +150,9 @@ fn lay_places<H: Heights>(
     }
 }
 
-/// The places of the crossing edges of the rows of points round a row of cells, in thousandths from the edges' lower ends. The
-/// other fields are buffers for a row: its crossing edges by their offsets, their places, and the flags of its points.
+/// The places of the crossing edges of the rows of points round a row of cells, in thousandths from the edges' lower
+/// ends. The other fields are buffers for a row: its crossing edges by their offsets, their places, and the flags of its
+/// points.
 #[derive(Drop)]
 pub struct EdgePlaces {
     pub places: [u16; SLOTS],
