@@ -8,7 +8,6 @@ use Rattle.iso_defs.specs.Grid.{is_cell}
 use Rattle.iso_defs.specs.Cell.{cell_edge}
 use Rattle.iso_defs.specs.Place.{Position, centre_position}
 use Rattle.iso_defs.specs.Scratch.{cell_centres, cell_loops, centre_name, has_centre}
-use Rattle.case_table.specs.Cases.{case_at, cases}
 use Rattle.cell_loops.specs.Loops.{row_centres, row_loops}
 use Rattle.iso_base.specs.Triangles.{triangle_of}
 use Rattle.flat_mesh.specs.declared.centres.Cell.{Cell}
@@ -23,6 +22,7 @@ use Rattle.flat_mesh.proofs.CellPlaces.{cell_placed}
 use Rattle.flat_mesh.proofs.CentrePlaces.{centre_is}
 use Rattle.mesh_lines.specs.declared.style.Style.{Style}
 use Rattle.mesh_lines.specs.Lines.{vertex_line}
+use Rattle.mesh_walk.proofs.EmptyCase.{no_loops}
 use Rattle.mesh_walk.specs.declared.cells.RowCells.{RowCells}
 use Rattle.mesh_walk.specs.Cells.{AreCells}
 use Rattle.mesh_walk.specs.Numbers.{AreQuiet}
@@ -81,14 +81,9 @@ no_centre_lines style v q is none =
     empty [] h = refl
     empty (u ∷ us) h = absurd (omega arith)
 
--- the first case has no loops
-no_loops : row_loops 0 ≡ []
-unfolding row_loops case_at cases
-no_loops = refl
-
 pub first_case_lines : (style : Style) (v : Leveled) (q case : ℕ) → is_cell v.grid q ≡ true → row_loops case ≡ loops_at v q → case ≡ 0 → centres_text style v q 1 ≡ []
 first_case_lines style v q case is same first =
-    no_centre_lines style v q is (ap length (no_centres v q (sym same ∙ (ap row_loops first ∙ no_loops))))
+    no_centre_lines style v q is (ap length (no_centres v q (sym same ∙ no_loops case first)))
 
 pub quiet_centres : (style : Style) (v : Leveled) (a n : ℕ) → AreQuiet v a n → centres_text style v a n ≡ []
 unfolding centre_lines

@@ -9,6 +9,7 @@ ghost use Rattle.mesh_rows.specs.Rows.{AreEdges, row_places};
 ghost use Rattle.mesh_walk.specs.Places.{AreCellPlaces, due_to, in_slot, lanes_of};
 ghost use Rattle.mesh_walk.specs.Slots.{AreLaid, row_slot};
 
+use crate::edges::set_places;
 use crate::offsets::ROOM;
 use crate::ranks::ROW;
 use crate::slots::{SLOTS, Slots, list_edges, row_slot};
@@ -109,20 +110,6 @@ impl<'a> CellPlaces<'a> {
             rounded_mean((sum / 65_536 / 65_536) as u32, count),
         ]
     }
-}
-
-/// Fills in where the crossing edges of a row are crossed, at the front of a buffer.
-fn set_places<R: MeshRows>(rows: &mut R, y: u32, z: u32, edges: &[u16], row: &mut [u16; ROOM])
-    requires y { y < (R.leveled rows.old).grid.ny }
-    requires z { z < (R.leveled rows.old).grid.nz }
-    requires edges { AreEdges (R.leveled rows.old) y z edges.now }
-    requires few { length edges.now ≤ 3078 }
-    ensures row { take (length edges.now) row.new ≡ row_places (R.leveled rows.old) y z }
-    ensures volume { R.leveled rows.new ≡ R.leveled rows.old }
-    ensures kept { R.kept rows.new ≡ R.kept rows.old }
-    ensures spent { R.spent rows.new ≡ R.spent rows.old }
-{
-    rows.fill_places(y, z, edges, &mut row[..edges.len()]);
 }
 
 /// Lays the places of the crossing edges of a row of points into their slots.
