@@ -8,8 +8,9 @@ ghost use Rattle.mesh_walk.specs.Edges.{AreRowEdges};
 ghost use Rattle.mesh_walk.specs.Numbers.{AreRowRanks};
 ghost use Rattle.mesh_walk.specs.Spans.{all_edges_text, edge_line, edges_text, row_edges_text};
 
-use crate::offsets::{ROOM, put_row};
-use crate::ranks::{ROW, row_at, set_flags};
+use crate::offsets::ROOM;
+use crate::ranks::{ROW, row_at};
+use crate::slots::list_edges;
 use crate::walk::Walk;
 use byte_streams::{Failed, Sink};
 use flat_mesh::Heights;
@@ -67,9 +68,7 @@ impl RowEdges {
         ensures kept { R.kept rows.new ≡ R.kept rows.old }
         ensures spent { R.spent rows.new ≡ R.spent rows.old }
     {
-        let nx = rows.sizes().nx() as usize;
-        set_flags(rows, y, z, &mut self.flags);
-        self.count = put_row(&self.flags[..nx], &mut self.edges);
+        self.count = list_edges(rows, y, z, &mut self.flags, &mut self.edges);
     }
 
     /// Turns to a row of points. It has its crossing edges then, where they are crossed, and the texts of their lines.

@@ -24,8 +24,7 @@ loop-row-init g c =
       bytes = omega arith;
       style = search rules;
       width = search rules;
-      ready = subst (λ (p : EdgePlaces). IsReady (in_slot p.places) (due_to v) v c.of.result.next) (sym c.of.ensures.slots)
-          (c.of.ensures.ready c.args.walk.style v c.sizes-sizes.ensures.leveled.grid);
+      ready = c.of.ensures.ready c.args.walk.style v c.sizes-sizes.ensures.leveled.grid;
       volume = refl;
       kept = refl;
       least = omega arith;
