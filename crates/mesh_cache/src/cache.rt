@@ -113,6 +113,9 @@ impl MeshCache {
     pub fn kept_entries(&self, brick: BrickId, level: Level) -> Option<Entries<'_>>
         ensures { result ≡ kept_at brick.0 level self.now.items }
     {
+        if self.filed.is_empty() {
+            return None;
+        }
         let filed = self.filed.peek(&brick.0)?;
         if !filed.is_at(level) {
             return None;

@@ -1,7 +1,7 @@
 -- The edges of a row are left behind, one by one.
 use Rattle.std.proofs.Common.{◌≡◌, ◌≢◌, ℕ, zero, suc, ◌+◌, ◌*◌, ◌/◌, ◌%◌, ◌<◌, ◌≤◌, Bool, true, false, cond, not, List, [], ◌∷◌, ◌++◌, length, get_or, set, refl, sym, ◌∙◌, ap, subst, inl, inr, arith, eqb}
 use Rattle.std.specs.List.{count_by, filter, range_with_len}
-use Rattle.std.proofs.lemmas.Bool.{cases_eq, cases_lt, eq-eqb, ne_eqb}
+use Rattle.std.proofs.lemmas.Bool.{cases_eq, cases_lt, eq-eqb, eqb-true, ne_eqb}
 use Rattle.std.proofs.lemmas.List.{get_or-set_other}
 use Rattle.std.proofs.lemmas.List.Elements.{filter-append}
 use Rattle.std.proofs.lemmas.List.Sums.{count_by-le-length, length-filter}
@@ -180,6 +180,23 @@ left_stills k n labels edges zero h inside some each = subst (λ m. IsLeft k m l
 left_stills k n labels edges (suc j) h inside some each =
     subst (λ m. IsLeft k m labels edges) (let e : n + j + 1 ≡ n + suc j = omega arith in e)
     (left_still k (n + j) labels edges (left_stills k n labels edges j h (omega (arith, inside)) some (λ i l. each i (omega (arith, l)))) (omega (arith, inside)) some (each j (omega arith)))
+
+unlabelled : (a : ℕ) → not (eqb a none) ≡ false → a ≡ none
+unlabelled a e = eqb-true a none (not_back (eqb a none) e)
+  where
+    not_back : (b : Bool) → not b ≡ false → b ≡ true
+    not_back true e = refl
+    not_back false e = sym e
+
+-- so many edges one behind the other that are not crossing: they have no label
+pub left_quiet : (k : Leaving) (n : ℕ) (labels : Known) (edges : Passed) (j : ℕ) → IsLeft k n labels edges → n + j ≤ row_end k → 0 < room k.volume.grid
+    → ((m : ℕ) → n ≤ m → m < n + j → is_crossing k.volume.grid (heights k.volume) m ≡ false) → IsLeft k (n + j) labels edges
+left_quiet k n labels edges j h inside some quiet =
+    let w : 3 * k.volume.grid.nx ≤ 6 * (k.volume.grid.nx * k.volume.grid.ny) = row_within k.volume.grid.nx k.volume.grid.ny some in
+    left_stills k n labels edges j h inside some
+    (λ i l.
+    h.still (n + i) (omega arith) (omega (arith, w, inside, l))
+    ∙ unlabelled (k.label (n + i)) (sym (h.told (n + i) (omega (arith, h.least)) (omega (arith, inside, l))) ∙ quiet (n + i) (omega arith) (omega (arith, l))))
 
 -- where a place has room behind it, the next places are those of the next names
 pub next_place : (m n place j : ℕ) → place ≡ n % m → place + j < m → place + j ≡ (n + j) % m

@@ -1,11 +1,12 @@
 -- A row of points is left behind when the loops of the cells that begin in it have their labels.
 use Rattle.std.proofs.Common.{◌≡◌, ℕ, zero, suc, ◌+◌, ◌-◌, ◌*◌, ◌/◌, ◌%◌, ◌<◌, ◌≤◌, ℤ, Bool, true, false, cond, not, List, [], ◌++◌, map, take, drop, length, refl, sym, ◌∙◌, ap, subst, inl, inr, arith, eqb}
 use Rattle.std.specs.List.{filter, flat_map}
-use Rattle.std.proofs.lemmas.Bool.{both_ways, cases_Bool, cases_lt, eq-eqb, eqb-true, ne_eqb}
+use Rattle.std.proofs.lemmas.Bool.{both_ways, cases_Bool, cases_lt, eq-eqb, le-ltb, lt-ltb, ne_eqb}
 use Rattle.std.proofs.lemmas.List.{drop_all, take_all}
 use Rattle.std.proofs.Math.Nat.{mul-add, mul-le-mul_left}
 use Rattle.iso_base.specs.Sizing.{IsGrid}
 use Rattle.iso_base.proofs.VolumeLaws.{grid_is_thick}
+use Rattle.iso_defs.specs.Bricks.{bricks_along}
 use Rattle.iso_defs.specs.Cell.{cell_edge}
 use Rattle.iso_defs.specs.Grid.{Grid, cells, coordinate, index, is_cell, name_bound, point_count}
 use Rattle.iso_defs.specs.Lists.{below}
@@ -24,6 +25,7 @@ use Rattle.flat_mesh.specs.declared.centres.Cell.{Cell}
 use Rattle.loop_labels.specs.Fronts.{none, room, row_name}
 use Rattle.loop_labels.specs.Labelling.{Known}
 use Rattle.loop_labels.proofs.AddedLaws.{row_left}
+use Rattle.stitch_rows.specs.Rows.{AreStill}
 use Rattle.part_laws.specs.Loops.{Loop, loops_in, mesh_loops}
 use Rattle.part_laws.specs.Meets.{is_met}
 use Rattle.part_laws.proofs.FirstMet.{edge_looped}
@@ -33,12 +35,16 @@ use Rattle.part_laws.proofs.Numbered.{loops_cross}
 use Rattle.part_walk.specs.declared.passed.Passed.{Passed}
 use Rattle.part_walk.specs.Passed.{AreEdges, IsLeft, Leaving, edges_before, row_end}
 use Rattle.part_walk.specs.Components.{IsWhole}
-use Rattle.part_walk.specs.Rows.{IsAt}
+use Rattle.part_walk.specs.Rows.{IsAt, first_point}
 use Rattle.part_walk.specs.declared.rows.RowWalk.{RowWalk}
 use Rattle.part_walk.specs.Walks.{AreTallies, IsWalked, loops_before}
 use Rattle.part_walk.proofs.CellLaws.{before_quiets}
 use Rattle.part_walk.proofs.WalkLaws.{edge_within, none_behind}
-use Rattle.part_walk.proofs.LeftLaws.{left_stills}
+use Rattle.part_walk.proofs.LeftLaws.{left_quiet, next_place}
+
+-- a row that is left behind
+abbrev pub row_of : Leveled → ℕ → (ℕ → ℕ) → Known → Leaving
+row_of v row label base = record { volume = v; row = row; label = label; base = base }
 
 -- a vertex of a loop of a cell is an edge of the cell
 record Found (v : Leveled) (l : Loop) (w n : ℕ) : Type 0 where
@@ -121,7 +127,7 @@ module _ (v : Leveled) where
     inside = let m : v.grid.nx * (row + 1) ≤ v.grid.nx * (v.grid.ny * v.grid.nz) = mul-le-mul_left v.grid.nx (omega (arith, low)) in omega (arith, m)
 
     abbrev pub leaving : Leaving
-    leaving = record { volume = v; row = row; label = h.label; base = labels }
+    leaving = row_of v row h.label labels
 
     -- a loop that has the vertex
     met_loop : (w : ℕ) → is_met h.xs w ≡ true → (l : Loop) × In l (loops_before v n) × In w l.1
@@ -187,27 +193,14 @@ module _ (v : Leveled) where
       passed = left.passed ∙ ap (rank v.grid (heights v)) (sym next_row);
     }
 
+    some : 0 < room v.grid
+    some = (let w : v.grid.nx * 2 ≤ v.grid.nx * v.grid.ny = mul-le-mul_left v.grid.nx is.y.least in omega (arith, w, is.x.least))
+
     -- a row without crossing edges
     pub quiet_row : ((m : ℕ) → row_name v.grid row ≤ m → m < row_name v.grid (row + 1) → is_crossing v.grid (heights v) m ≡ false) → IsWalked value fits of_loop v (row + 1) (loops_before v n) labels ts edges
     quiet_row still =
-        leave_end labels edges (left_stills leaving (row_name v.grid row) labels edges (3 * v.grid.nx) leave_start (omega arith) some
-        (λ i l.
-        let m : ℕ = row_name v.grid row + i in
-        let b : m < row_name v.grid (row + 1) = omega (arith, l, next_row) in
-        h.labelled_are.standing.each m (omega arith) (omega (arith, l, wide)) ∙ unlabelled_edge (h.label m) (sym (told m b) ∙ still m (omega arith) b)))
-      where
-        wide : 3 * v.grid.nx ≤ room v.grid
-        wide = (let w : v.grid.nx * 2 ≤ v.grid.nx * v.grid.ny = mul-le-mul_left v.grid.nx is.y.least in omega (arith, w))
-
-        some : 0 < room v.grid
-        some = omega (arith, wide, is.x.least)
-
-        unlabelled_edge : (a : ℕ) → not (eqb a none) ≡ false → a ≡ none
-        unlabelled_edge a e = eqb-true a none (not_back (eqb a none) e)
-          where
-            not_back : (b : Bool) → not b ≡ false → b ≡ true
-            not_back true e = refl
-            not_back false e = sym e
+        leave_end labels edges
+        (left_quiet leaving (row_name v.grid row) labels edges (3 * v.grid.nx) leave_start (omega arith) some (λ m least low. still m least (omega (arith, low, next_row))))
 
 -- a row of a grid
 pub row_low : (g : Grid) (y z : ℕ) → y < g.ny → z < g.nz → y + g.ny * z < g.ny * g.nz
@@ -215,6 +208,38 @@ row_low g y z hy hz =
     let m : g.ny * (z + 1) ≤ g.ny * g.nz = mul-le-mul_left g.ny (omega (arith, hz)) in
     let e : g.ny * (z + 1) ≡ g.ny * z + g.ny * 1 = mul-add g.ny z 1 in
     omega (arith, m, e, hy)
+
+-- where the points of a row begin that a brick holds
+module _ (g : Grid) where
+  pub begin_in : (x : ℕ) → x < bricks_along g 0 → first_point g x ≡ 8 * x
+  begin_in x low = ap (λ b. cond b (8 * x) g.nx) (lt-ltb x (bricks_along g 0) low)
+
+  pub begin_behind : (x : ℕ) → bricks_along g 0 ≤ x → first_point g x ≡ g.nx
+  begin_behind x high = ap (λ b. cond b (8 * x) g.nx) (le-ltb x (bricks_along g 0) high)
+
+  pub begin_low : (x : ℕ) → first_point g x ≤ g.nx
+  begin_low x =
+      elim (cases_lt x (bricks_along g 0)) [
+        | inl low ↦ (let e = begin_in x low in omega (arith, e, low))
+        | inr high ↦ (let e = begin_behind x high in omega (arith, e))
+      ]
+
+  pub begin_grows : (from next : ℕ) → from ≤ next → first_point g from ≤ first_point g next
+  begin_grows from next least =
+      let most = begin_low from in
+      elim (cases_lt next (bricks_along g 0)) [
+        | inl here ↦ (let f = begin_in next here in let e = begin_in from (omega (arith, here, least)) in omega (arith, e, f, least))
+        | inr behind ↦ (let f = begin_behind next behind in omega (arith, f, most))
+      ]
+
+  pub brick_some : (x : ℕ) → x < bricks_along g 0 → 8 * x ≤ first_point g (x + 1)
+  brick_some x low = let e = begin_in x low in let m = begin_grows x (x + 1) (omega arith) in omega (arith, e, m)
+
+  -- the place of the first edge of a brick
+  pub brick_place : (row place x : ℕ) → place ≡ row_name g row % room g → place + 3 * g.nx ≤ room g → x < bricks_along g 0 → place + 24 * x ≡ (row_name g row + 3 * first_point g x) % room g
+  brick_place row place x at fits low =
+      let e = begin_in x low in
+      (let s : place + 24 * x ≡ place + 3 * first_point g x = omega (arith, e) in s) ∙ next_place (room g) (row_name g row) place (3 * first_point g x) at (omega (arith, e, fits, low))
 
 -- cells of a row that have no loops
 module _ (v : Leveled) (y z : ℕ) (hy : y < v.grid.ny) (hz : z < v.grid.nz) where
@@ -234,13 +259,13 @@ module _ (v : Leveled) (y z : ℕ) (hy : y < v.grid.ny) (hz : z < v.grid.nz) whe
       subst (λ q. loops_at v q ≡ []) (sym at) (h x (omega (arith, low.x, ex)) (omega arith) (omega (arith, l, le)) (omega (arith, low.y, ey)) (omega (arith, low.z, ez)))))
 
   -- points at which no crossing edge begins
-  pub no_crossing : ((x : ℕ) → x < v.grid.nx → flags_at v.grid (heights v) (row_start v.grid y z + x) ≡ 0) → (m : ℕ) → row_name v.grid (y + v.grid.ny * z) ≤ m → m < row_name v.grid (y + v.grid.ny * z) + 3 * v.grid.nx
-      → is_crossing v.grid (heights v) m ≡ false
-  no_crossing h m l b =
+  pub no_crossing : (from to : ℕ) → ((x : ℕ) → from ≤ x → x < to → flags_at v.grid (heights v) (row_start v.grid y z + x) ≡ 0)
+      → (m : ℕ) → row_name v.grid (y + v.grid.ny * z) + 3 * from ≤ m → m < row_name v.grid (y + v.grid.ny * z) + 3 * to → is_crossing v.grid (heights v) m ≡ false
+  no_crossing from to h m l b =
       let start : ℕ = row_start v.grid y z in
       let x : ℕ = m / 3 - start in
       let p : m / 3 ≡ start + x = omega (arith, l) in
-      let f : flags_at v.grid (heights v) (start + x) ≡ 0 = h x (omega (arith, l, b)) in
+      let f : flags_at v.grid (heights v) (start + x) ≡ 0 = h x (omega (arith, l)) (omega (arith, l, b)) in
       by_axis (start + x) f (m % 3) m (omega arith) (omega (arith, p))
     where
       low : (a b c : Bool) → cond {A = ℕ} a 1 0 + (2 * cond {A = ℕ} b 1 0 + 4 * cond {A = ℕ} c 1 0) ≡ 0 → (a ≡ false) × (b ≡ false) × (c ≡ false)
@@ -258,8 +283,59 @@ module _ (v : Leveled) (y z : ℕ) (hy : y < v.grid.ny) (hz : z < v.grid.nz) whe
           ap (is_crossing v.grid (heights v)) (let z : m ≡ 3 * p + 2 = omega (arith, e) in z) ∙ (low (is_crossing v.grid (heights v) (3 * p)) (is_crossing v.grid (heights v) (3 * p + 1)) (is_crossing v.grid (heights v) (3 * p + 2)) f).2
       by_axis p f (suc (suc (suc axis))) m a e = absurd (omega arith)
 
+  -- no crossing edge begins at the points of bricks between two active ones
+  pub quiet_between : (from next : ℕ) → 2 ≤ v.grid.nx → AreStill v y z from next → (x : ℕ) → first_point v.grid from ≤ x → x < first_point v.grid next → flags_at v.grid (heights v) (row_start v.grid y z + x) ≡ 0
+  quiet_between from next wide still x least low =
+      let most = begin_low v.grid next in
+      elim (cases_lt from (bricks_along v.grid 0)) [
+        | inr high ↦ (let e = begin_behind v.grid from high in absurd (omega (arith, e, least, low, most)))
+        | inl known ↦ (
+            let e = begin_in v.grid from known in
+            still.points x (omega (arith, low, most)) (omega (arith, e, least, known))
+            (elim (cases_lt next (bricks_along v.grid 0)) [
+              | inl here ↦ (let f = begin_in v.grid next here in omega (arith, f, low))
+              | inr behind ↦ omega (arith, behind, wide)
+            ]))
+      ]
+
+  -- so they are left behind
+  pub left_between : (label : ℕ → ℕ) (base : Known) (from next : ℕ) (labels : Known) (edges : Passed) → IsGrid v.grid → AreStill v y z from next
+      → IsLeft (row_of v (y + v.grid.ny * z) label base) (row_name v.grid (y + v.grid.ny * z) + 3 * first_point v.grid from) labels edges
+      → IsLeft (row_of v (y + v.grid.ny * z) label base) (row_name v.grid (y + v.grid.ny * z) + 3 * first_point v.grid next) labels edges
+  left_between label base from next labels edges is still h =
+      let start : ℕ = row_name v.grid (y + v.grid.ny * z) in
+      let a : ℕ = first_point v.grid from in
+      let b : ℕ = first_point v.grid next in
+      let grows : a ≤ b = begin_grows v.grid from next still.least in
+      let most : b ≤ v.grid.nx = begin_low v.grid next in
+      let deep : v.grid.nx * 2 ≤ v.grid.nx * v.grid.ny = mul-le-mul_left v.grid.nx is.y.least in
+      subst (λ n. IsLeft (row_of v (y + v.grid.ny * z) label base) n labels edges) (let e : start + 3 * a + 3 * (b - a) ≡ start + 3 * b = omega (arith, grows) in e)
+      (left_quiet (row_of v (y + v.grid.ny * z) label base) (start + 3 * a) labels edges (3 * (b - a)) h (omega (arith, grows, most)) (omega (arith, deep, is.x.least))
+      (λ m least low. no_crossing a b (quiet_between from next is.x.least still) m least (omega (arith, low, grows))))
+
   pub start_next : row_start v.grid y z + v.grid.nx ≡ v.grid.nx * (y + v.grid.ny * z + 1)
   start_next = (let e : v.grid.nx * (y + v.grid.ny * z + 1) ≡ v.grid.nx * (y + v.grid.ny * z) + v.grid.nx * 1 = mul-add v.grid.nx (y + v.grid.ny * z) 1 in omega (arith, e))
+
+  module _ {T : Type 0} (value : T → ℕ → ℤ) (fits : ℕ → T → Type 0) (of_loop : Leveled → ℕ → Loop → ℤ) (labels : Known) (ts : List T) (edges : Passed) (is : IsGrid v.grid)
+      (h : IsWalked value fits of_loop v (y + v.grid.ny * z) (loops_before v (row_start v.grid y z + v.grid.nx)) labels ts edges) where
+    abbrev row : ℕ
+    row = y + v.grid.ny * z
+
+    pub by_row : IsWalked value fits of_loop v row (loops_before v (v.grid.nx * (row + 1))) labels ts edges
+    by_row = subst (λ q. IsWalked value fits of_loop v row (loops_before v q) labels ts edges) start_next h
+
+    -- before the edges of the row are left behind
+    abbrev pub row_here : Leaving
+    row_here = leaving v value fits of_loop row labels ts edges is (row_low v.grid y z hy hz) by_row
+
+    pub row_begun : IsLeft row_here (row_name v.grid row) labels edges
+    row_begun = leave_start v value fits of_loop row labels ts edges is (row_low v.grid y z hy hz) by_row
+
+    -- and behind them
+    pub row_ended : (labels' : Known) (edges' : Passed) → IsLeft row_here (row_end row_here) labels' edges' → IsWalked value fits of_loop v (row + 1) (loops_before v (row_start v.grid y z + v.grid.nx)) labels' ts edges'
+    row_ended labels' edges' left =
+        subst (λ q. IsWalked value fits of_loop v (row + 1) (loops_before v q) labels' ts edges') (sym start_next)
+        (leave_end v value fits of_loop row labels ts edges is (row_low v.grid y z hy hz) by_row labels' edges' left)
 
 -- the same row and the same point, by other numbers
 pub moved : {T : Type 0} (value : T → ℕ → ℤ) (fits : ℕ → T → Type 0) (of_loop : Leveled → ℕ → Loop → ℤ) (v : Leveled) (r r' q q' : ℕ) (labels : Known) (ts : List T) (edges : Passed) → r ≡ r' → q ≡ q'

@@ -3,6 +3,7 @@
 ghost use Rattle.std.specs.Prelude.{◌≡◌, ℕ, ◌+◌, ◌*◌, ◌<◌, ◌≤◌, IfOk, OnOk, length};
 ghost use Rattle.flat_mesh.specs.Lattice.{heights};
 ghost use Rattle.flat_mesh.specs.Rows.{row_start};
+ghost use Rattle.iso_defs.specs.Bricks.{bricks_along};
 ghost use Rattle.span_tree.specs.Spans.{IsRightFor};
 ghost use Rattle.iso_base.specs.Shifted.{field as field_of};
 ghost use Rattle.stitch_rows.specs.Bricks.{AreMarked};
@@ -10,7 +11,7 @@ ghost use Rattle.stitch_rows.specs.Named.{NamesCases};
 ghost use Rattle.stitch_rows.specs.Rows.{at_level};
 ghost use Rattle.mesh_rows.specs.Rows.{AreCases};
 ghost use Rattle.part_walk.specs.Components.{IsWhole};
-ghost use Rattle.part_walk.specs.Rows.{IsAt};
+ghost use Rattle.part_walk.specs.Rows.{IsAt, first_point};
 ghost use Rattle.part_walk.specs.Walks.{IsWalked, loops_before};
 
 use crate::cells::{RowCells, add_cells};
@@ -18,7 +19,7 @@ use crate::leaving::leave_edges;
 use crate::tally::Tally;
 use crate::walked::Walked;
 use brick_store::BrickStore;
-use iso_base::{Level, Memory, Steps};
+use iso_base::{Level, Memory, Sizes, Steps};
 use span_tree::SpanTree;
 use std::alloc::Global;
 use std::sync::ledger::Ledger;
@@ -64,17 +65,47 @@ fn add_row<T: Tally>(
     Ok(())
 }
 
-/// Leaves the edges behind that begin in a row of points.
-fn leave_row<T: Tally>(field: &Field, walked: &mut Walked<T>, y: u32, z: u32) -> Result<(), Memory>
-    requires y { y < field.now.grid.ny }
-    requires z { z < field.now.grid.nz }
-    requires state { IsWalked T.value T.fits T.of_loop field.now (y + field.now.grid.ny * z) (loops_before field.now (row_start field.now.grid y z + field.now.grid.nx)) walked.old.labels walked.old.tallies.items walked.old.edges }
-    ensures { OnOk result (IsWalked T.value T.fits T.of_loop field.now (y + field.now.grid.ny * z + 1) (loops_before field.now (row_start field.now.grid y z + field.now.grid.nx))
+/// The first point of a row that the brick at a place of it holds, or the one behind the row. The last brick holds all points that are left.
+#[inline(always)]
+fn first_point(sizes: &Sizes, x: u32) -> u32
+    requires x { x ≤ bricks_along sizes.now 0 }
+    ensures { result ≡ first_point sizes.now x }
+{
+    if x < count_along(sizes.nx()) {
+        8 * x
+    } else {
+        sizes.nx()
+    }
+}
+
+/// Leaves the edges behind that begin in a row of points. No crossing edge begins at the points of bricks that are not active.
+fn leave_row<T: Tally>(
+    field: &Field,
+    active: &ActiveRow,
+    walked: &mut Walked<T>,
+) -> Result<(), Memory>
+    requires active { AreMarked field.now active.now }
+    requires y { active.now.y < field.now.grid.ny }
+    requires z { active.now.z < field.now.grid.nz }
+    requires state { let row = active.now.y + field.now.grid.ny * active.now.z in
+        let end = row_start field.now.grid active.now.y active.now.z + field.now.grid.nx in
+        IsWalked T.value T.fits T.of_loop field.now row (loops_before field.now end)
+        walked.old.labels walked.old.tallies.items walked.old.edges }
+    ensures { let row = active.now.y + field.now.grid.ny * active.now.z in
+        let end = row_start field.now.grid active.now.y active.now.z + field.now.grid.nx in
+        OnOk result (IsWalked T.value T.fits T.of_loop field.now (row + 1) (loops_before field.now end)
         walked.new.labels walked.new.tallies.items walked.new.edges) }
 {
     let sizes = field.sizes();
-    let place = walked.labels.row_place(y + sizes.ny() * z);
-    leave_edges(&mut walked.labels, &mut walked.edges, place, 3 * sizes.nx())?;
+    let place = walked.labels.row_place(active.y + sizes.ny() * active.z);
+    let count = count_along(sizes.nx());
+    let mut x = active.next_from(field, 0);
+    while x < count {
+        let points = first_point(&sizes, x + 1) - 8 * x;
+        let brick = place + 24 * x;
+        leave_edges(&mut walked.labels, &mut walked.edges, brick, 3 * points)?;
+        x = active.next_from(field, x + 1);
+    }
     Ok(())
 }
 
@@ -101,6 +132,7 @@ impl<'a, T: Tally> RowWalk<'a, T> {
         requires state { let v = self.old.field in let at = self.old.active in
             IsAt T.value T.fits T.of_loop v (at.y + v.grid.ny * at.z) (row_start v.grid at.y at.z) self.old }
         ensures same { R.named rows.new ≡ R.named rows.old }
+        ensures active { self.new.active ≡ self.old.active }
         ensures state { let v = self.old.field in let at = self.old.active in
             OnOk result (IsAt T.value T.fits T.of_loop v (at.y + v.grid.ny * at.z) (row_start v.grid at.y at.z + v.grid.nx) self.new) }
     {
@@ -137,7 +169,7 @@ impl<'a, T: Tally> RowWalk<'a, T> {
             return Ok(());
         }
         self.add_row_here(rows, steps)?;
-        leave_row(&self.field, &mut self.walked, y, z)?;
+        leave_row(&self.field, &self.active, &mut self.walked)?;
         Ok(())
     }
 

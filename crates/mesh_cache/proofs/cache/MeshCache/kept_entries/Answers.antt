@@ -1,9 +1,19 @@
-use Rattle.std.proofs.Common.{rules, ◌≡◌, cond, Some, None, sym, ap, ◌∙◌}
+use Rattle.std.proofs.Common.{rules, ◌≡◌, cond, [], length, nat_eq, Some, None, sym, ap, ◌∙◌}
+use Rattle.std.specs.Map.{lookup}
 use Rattle.std.specs.Option.{option_copied}
+use Rattle.std.proofs.lemmas.Bool.{eqb-true}
+use Rattle.std.proofs.lemmas.List.{nil_from_length}
 use Rattle.page_pool.specs.Chains.{entries_at}
 use Rattle.mesh_cache.specs.Cache.{Cache, kept_at}
 use Rattle.mesh_cache.proofs.Calls.{has_found, kept_found, none_kept}
 use Rattle.mesh_cache.proofs.cache.MeshCache.kept_entries.Goals as goal
+
+pub returns-then-is_empty : goal.returns-then-is_empty
+returns-then-is_empty c =
+    let s = c.self.inside in
+    let empty : s.filed.entries ≡ [] = nil_from_length s.filed.entries (eqb-true (length s.filed.entries) 0 (sym c.is_empty.ensures ∙ c.if-is_empty.true)) in
+    sym (none_kept s.pool c.args.brick.0 s.filed.entries (ap (lookup (nat_eq c.args.brick.0)) empty) c.args.level)
+    ∙ ap (λ (cache : Cache). kept_at c.args.brick.0 c.args.level cache.items) c.self.view_is
 
 pub returns-in_err-filed : goal.returns-in_err-filed
 returns-in_err-filed c =

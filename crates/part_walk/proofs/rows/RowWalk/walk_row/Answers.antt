@@ -1,8 +1,10 @@
-use Rattle.std.proofs.Common.{◌≡◌, ◌∙◌, ◌+◌, ◌*◌, ◌≤◌, ℕ, refl, sym, ap, subst, arith}
+use Rattle.std.proofs.Common.{◌≡◌, ◌∙◌, ◌+◌, ◌*◌, ◌<◌, ◌≤◌, ℕ, refl, sym, ap, subst, arith}
 use Rattle.iso_defs.specs.Grid.{Grid}
 use Rattle.flat_mesh.specs.Lattice.{Leveled}
 use Rattle.flat_mesh.specs.Rows.{row_start}
+use Rattle.stitch_rows.specs.Bricks.{AreMarked}
 use Rattle.stitch_rows.specs.Rows.{AreStill}
+use Rattle.stitch_rows.specs.declared.active.ActiveRow.{ActiveRow}
 use Rattle.stitch_rows.proofs.NextBricks.{at_row}
 use Rattle.part_walk.specs.Walks.{IsWalked, loops_before}
 use Rattle.part_walk.proofs.RowLaws.{no_crossing, quiet_row, quiet_to, row_low, start_next}
@@ -30,8 +32,8 @@ returns-then-next_from-count_along-clause-state g c =
       count = c.requires.state.count;
       walked = subst (λ q. IsWalked g.T.Tally.value g.T.Tally.fits g.T.Tally.of_loop v (row + 1) (loops_before v q) l.labels l.tallies.items l.edges) (sym next)
           (quiet_row v g.T.Tally.value g.T.Tally.fits g.T.Tally.of_loop row l.labels l.tallies.items l.edges is low h
-          (λ m first last. no_crossing v c.args.y c.args.z c.requires.y c.requires.z
-          (λ x wide. still.points x wide (omega arith) (omega (arith, far, wide, is.x.least))) m first (omega (arith, last, next))));
+          (λ m first last. no_crossing v c.args.y c.args.z c.requires.y c.requires.z 0 v.grid.nx
+          (λ x least wide. still.points x wide (omega arith) (omega (arith, far, wide, is.x.least))) m (omega (arith, first)) (omega (arith, last, next))));
     }
 
 pub add_row_here-requires-clause-state : goal.add_row_here-requires-clause-state
@@ -47,15 +49,51 @@ add_row_here-requires-clause-state g c =
           _ _ _ _ (sym c.mark.ensures.y) (sym c.mark.ensures.z) c.requires.state.walked;
     }
 
+pub leave_row-requires-clause-active : goal.leave_row-requires-clause-active
+leave_row-requires-clause-active g c =
+    let h = c.in_ok-add_row_here.ensures.state in
+    subst (λ (v : Leveled). AreMarked v c.add_row_here.new.self.active) (sym h.field) h.active
+
+pub leave_row-requires-clause-y : goal.leave_row-requires-clause-y
+leave_row-requires-clause-y g c =
+    let e = c.in_ok-add_row_here.ensures in
+    let y = ap (λ (a : ActiveRow). a.y) e.active ∙ c.mark.ensures.y in
+    subst (λ (v : Leveled). c.add_row_here.new.self.active.y < v.grid.ny) (sym e.state.field) (omega (arith, y, c.requires.y))
+
+pub leave_row-requires-clause-z : goal.leave_row-requires-clause-z
+leave_row-requires-clause-z g c =
+    let e = c.in_ok-add_row_here.ensures in
+    let z = ap (λ (a : ActiveRow). a.z) e.active ∙ c.mark.ensures.z in
+    subst (λ (v : Leveled). c.add_row_here.new.self.active.z < v.grid.nz) (sym e.state.field) (omega (arith, z, c.requires.z))
+
+pub leave_row-requires-clause-state : goal.leave_row-requires-clause-state
+leave_row-requires-clause-state g c =
+    let e = c.in_ok-add_row_here.ensures in
+    let w = c.add_row_here.new.self in
+    let v = c.args.self.now.field in
+    let l = w.walked in
+    subst
+    (λ (v : Leveled). IsWalked g.T.Tally.value g.T.Tally.fits g.T.Tally.of_loop v (w.active.y + v.grid.ny * w.active.z) (loops_before v (row_start v.grid w.active.y w.active.z + v.grid.nx)) l.labels l.tallies.items l.edges)
+    (sym e.state.field)
+    (subst
+    (λ (a : ActiveRow). IsWalked g.T.Tally.value g.T.Tally.fits g.T.Tally.of_loop v (a.y + v.grid.ny * a.z) (loops_before v (row_start v.grid a.y a.z + v.grid.nx)) l.labels l.tallies.items l.edges)
+    (sym e.active) e.state.walked)
+
 pub returns-clause-state : goal.returns-clause-state
 returns-clause-state g c =
-    let h = c.in_ok-add_row_here.ensures.state in
+    let e = c.in_ok-add_row_here.ensures in
+    let h = e.state in
     let l = c.leave_row.new.walked in
+    let y = ap (λ (a : ActiveRow). a.y) e.active ∙ c.mark.ensures.y in
+    let z = ap (λ (a : ActiveRow). a.z) e.active ∙ c.mark.ensures.z in
     record {
       field = h.field;
       active = h.active;
       count = h.count;
       walked = subst
           (λ (v : Leveled). IsWalked g.T.Tally.value g.T.Tally.fits g.T.Tally.of_loop v (c.args.y + v.grid.ny * c.args.z + 1) (loops_before v (row_start v.grid c.args.y c.args.z + v.grid.nx)) l.labels l.tallies.items l.edges)
-          h.field c.in_ok-leave_row.ensures;
+          h.field
+          (at_row
+          (λ y z. (let v = c.add_row_here.new.self.field in IsWalked g.T.Tally.value g.T.Tally.fits g.T.Tally.of_loop v (y + v.grid.ny * z + 1) (loops_before v (row_start v.grid y z + v.grid.nx)) l.labels l.tallies.items l.edges))
+          _ _ _ _ y z c.in_ok-leave_row.ensures);
     }
