@@ -7,6 +7,7 @@ use crate::fours::Fours;
 use number_digits::{Digits, put_array};
 
 /// Writes bytes from a place on.
+#[inline(always)]
 fn put_text(text: &[u8], room: &mut [u8], at: usize) -> usize
     requires space { at + length text.now ≤ length room.old }
     ensures end { result ≡ at + length text.now }
@@ -45,7 +46,8 @@ impl<const N: usize> Piece<N> {
         &self.bytes[..self.len]
     }
 
-    /// Puts bytes behind the others.
+    /// Puts bytes behind the others. Inlined, since most are so few that no call is worth while.
+    #[inline(always)]
     pub fn push(&mut self, text: &[u8])
         requires room { self.old.len + length text.now ≤ N }
         ensures text { piece_text self.new ≡ piece_text self.old ++ text.now }

@@ -18,7 +18,13 @@ use mesh_lines::{Block, RowTexts};
 use mesh_rows::MeshRows;
 
 /// Fills in where the crossing edges of a row are crossed, at the front of a buffer.
-pub fn set_places<R: MeshRows>(rows: &mut R, y: u32, z: u32, edges: &[u16], places: &mut [u16; ROOM])
+pub fn set_places<R: MeshRows>(
+    rows: &mut R,
+    y: u32,
+    z: u32,
+    edges: &[u16],
+    places: &mut [u16; ROOM],
+)
     requires y { y < (R.leveled rows.old).grid.ny }
     requires z { z < (R.leveled rows.old).grid.nz }
     requires edges { AreEdges (R.leveled rows.old) y z edges.now }

@@ -138,8 +138,9 @@ struct FaceRow<'a> {
 
 impl<'a> FaceRow<'a> {
     /// Puts the lines of the triangles of the cell at a place behind the others, where `next` is the number of its first
-    /// centre, and gives that of the next cell's.
-    fn write_cell<H: Heights, K: Sink>(
+    /// centre, and gives that of the next cell's. Apart, so that the cells without loops are passed over by a short loop.
+    #[inline(never)]
+    fn write_loops<H: Heights, K: Sink>(
         self,
         field: &H,
         x: u32,
@@ -162,9 +163,6 @@ impl<'a> FaceRow<'a> {
     {
         let _ = field.sizes();
         let case = self.cells.cases[x as usize];
-        if !has_loops(case) {
-            return Ok(next);
-        }
         block.reserve(sink)?;
         let texts = CellTexts {
             texts: self.texts,
@@ -173,6 +171,36 @@ impl<'a> FaceRow<'a> {
         };
         let next = put_loops(self.style, texts, CaseRow::of(case), next, block);
         Ok(next)
+    }
+
+    /// The same, at once where the cell has no loops.
+    #[inline(always)]
+    fn write_cell<H: Heights, K: Sink>(
+        self,
+        field: &H,
+        x: u32,
+        next: u32,
+        block: &mut Block,
+        sink: &mut K,
+    ) -> Result<u32, Failed>
+        requires cells { AreCells (H.leveled field.now) self.cells.now }
+        requires texts { let cells = self.cells.now in
+            AreTextsAround self.style (H.leveled field.now) cells.y cells.z self.texts.now self.slots }
+        requires x { x + 1 < (H.leveled field.now).grid.nx }
+        requires next { let v = H.leveled field.now in
+            HasNumber v (cells_start v self.cells.now + x) next }
+        ensures adds { let v = H.leveled field.now in
+            Adds (K.seen sink.old) (K.seen sink.new) block.old block.new result
+            (faces_text self.entry.style.format v (cells_start v self.entry.cells.now + x) 1) }
+        ensures next { let v = H.leveled field.now in
+            IfOk result (λ n. HasNumber v (cells_start v self.entry.cells.now + x + 1) n) }
+        ensures bytes { IfOk result (λ _. block.new.total ≤ block.old.total + 3072) }
+    {
+        let _ = field.sizes();
+        if !has_loops(self.cells.cases[x as usize]) {
+            return Ok(next);
+        }
+        self.write_loops(field, x, next, block, sink)
     }
 
     /// Puts the lines of the triangles of eight cells of the row behind the others, or of those that are left at its end,

@@ -5,7 +5,6 @@ use Rattle.iso_defs.specs.Grid.{is_cell}
 use Rattle.iso_defs.specs.Rows.{row_count}
 use Rattle.flat_mesh.specs.Lattice.{Leveled}
 use Rattle.mesh_walk.specs.Numbers.{AreRowRanks, cost_before, cost_of_row}
-use Rattle.mesh_walk.specs.declared.places.EdgePlaces.{EdgePlaces}
 use Rattle.mesh_walk.specs.Places.{due_to, in_slot}
 use Rattle.mesh_walk.specs.Slots.{IsReady}
 use Rattle.mesh_walk.specs.Spans.{centre_lines, centres_text, row_centres_text}
