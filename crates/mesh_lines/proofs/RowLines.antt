@@ -11,7 +11,7 @@ use Rattle.mesh_text.proofs.Pieces.{ten_digits_most}
 use Rattle.mesh_lines.specs.Lines.{origin_coordinate, vertex_letter, vertex_line}
 use Rattle.mesh_text.specs.Pieces.{parts_line, thirds_line}
 use Rattle.mesh_text.specs.declared.piece.Piece.{Piece}
-use Rattle.mesh_lines.specs.RowLines.{AreFronts, AreTexts, IsPiece, RowPlace, centre_at, edge_at, front_text, is_layer, no_piece, middle_text, tail_text, whole_at, whole_size, whole_text, y_text, z_text, zeros}
+use Rattle.mesh_lines.specs.RowLines.{AreCentreTexts, AreFronts, AreTexts, IsPiece, RowPlace, centre_at, edge_at, front_text, is_layer, no_piece, middle_text, tail_text, whole_at, whole_size, whole_text, y_text, z_text, zeros}
 use Rattle.mesh_lines.specs.declared.row_texts.RowParts.{RowParts}
 use Rattle.mesh_lines.specs.declared.style.Origin.{Origin}
 use Rattle.mesh_lines.specs.declared.style.Origin.TheVariants.{Volume, Pad, Window}
@@ -143,15 +143,16 @@ module _ (row : RowPlace) (fronts : List (Piece 16)) (parts : RowParts) (h : Are
       = λ q k. (1000 * q + (if eqb 0 k then p else 0), 1000 * row.y + (if eqb 1 k then p else 0), 1000 * row.z + (if eqb 2 k then p else 0)) in
       subst (λ (q : ℕ). text ≡ vertex_line row.style (0, place_at q (e % 3))) here (subst (λ (k : ℕ). text ≡ vertex_line row.style (0, place_at x k)) along whole)
 
-  -- the line of the centre in a cell
-  pub centre_line : (x : ℕ) (at : List ℕ) → x < row.count → parts.inside ≤ 3 * x → slice_index at 0 < 1000 → slice_index at 1 < 1000 → slice_index at 2 < 1000
-      → thirds_line (front x) parts.y parts.z at ≡ vertex_line row.style (0, centre_at row x at)
-  centre_line x at low inside a b c =
-      let few : 3 * x < 3078 = omega (arith, low, h.count) in
-      let third : x ≡ 3 * x / 3 = omega arith in
-      equal_thirds _ (three_digits (slice_index at 0)) _ (three_digits (slice_index at 1)) _ (three_digits (slice_index at 2)) _ _ _
-      (h.fronts_are x low).has h.parts_are.y_is.has h.parts_are.z_is.has
-      ∙ centre_parts row.style x row.y row.z (slice_index at 0) (slice_index at 1) (slice_index at 2) a b c
-      (ap (is_layer row.style.origin) third ∙ h.parts_are.inside 0 (3 * x) (omega arith) few inside)
-      (h.parts_are.inside 1 (3 * x) (omega arith) few inside)
-      (h.parts_are.inside 2 (3 * x) (omega arith) few inside)
+-- the line of the centre in a cell
+pub centre_line : (row : RowPlace) (fronts : List (Piece 16)) (u w : Piece 16) (inside : ℕ) → AreCentreTexts row fronts u w inside
+    → (x : ℕ) (at : List ℕ) → x < row.count → inside ≤ 3 * x → slice_index at 0 < 1000 → slice_index at 1 < 1000 → slice_index at 2 < 1000
+    → thirds_line (slice_index_or fronts x no_piece) u w at ≡ vertex_line row.style (0, centre_at row x at)
+centre_line row fronts u w inside h x at low begun a b c =
+    let few : 3 * x < 3078 = omega (arith, low, h.count) in
+    let third : x ≡ 3 * x / 3 = omega arith in
+    equal_thirds _ (three_digits (slice_index at 0)) _ (three_digits (slice_index at 1)) _ (three_digits (slice_index at 2)) _ _ _
+    (h.fronts_are x low).has h.behind_x_is.has h.behind_y_is.has
+    ∙ centre_parts row.style x row.y row.z (slice_index at 0) (slice_index at 1) (slice_index at 2) a b c
+    (ap (is_layer row.style.origin) third ∙ h.inside_is 0 (3 * x) (omega arith) few begun)
+    (h.inside_is 1 (3 * x) (omega arith) few begun)
+    (h.inside_is 2 (3 * x) (omega arith) few begun)

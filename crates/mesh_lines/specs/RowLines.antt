@@ -93,13 +93,10 @@ IsFirstInside origin y z first = (axis e : ℕ) → axis < 3 → e < 3078 → fi
 
 -- the parts of the lines of a row
 pub record AreParts (origin : Origin) (y z : ℕ) (parts : RowParts) : Type 0 where
-  pub y_is : IsPiece parts.y (y_text origin y) 12
-  pub z_is : IsPiece parts.z (z_text origin z) 12
   pub middles : (axis : ℕ) → axis < 3 → IsPiece (slice_index_or parts.middles axis no_piece) (middle_text origin axis y z) 32
   pub tails : (axis : ℕ) → axis < 3 → IsPiece (slice_index_or parts.tails axis no_piece) (tail_text origin axis y z) 32
   pub fits : (axis : ℕ) → axis < 3 → (slice_index_or parts.middles axis no_piece).len + (slice_index_or parts.tails axis no_piece).len ≤ 31
   pub least : AreLeast origin y z parts.least
-  pub inside : IsFirstInside origin y z parts.inside
 
 -- what a row's lines are put together from
 pub record AreTexts (row : RowPlace) (fronts : List (Piece 16)) (parts : RowParts) : Type 0 where
@@ -108,3 +105,13 @@ pub record AreTexts (row : RowPlace) (fronts : List (Piece 16)) (parts : RowPart
   pub z : row.z ≤ 1026
   pub fronts_are : AreFronts row.style row.count fronts
   pub parts_are : AreParts row.style.origin row.y row.z parts
+
+-- and those of the centres in a row of cells, with what stands behind the decimals of the first and the second number
+pub record AreCentreTexts (row : RowPlace) (fronts : List (Piece 16)) (behind_x behind_y : Piece 16) (inside : ℕ) : Type 0 where
+  pub count : row.count ≤ 1026
+  pub y : row.y ≤ 1026
+  pub z : row.z ≤ 1026
+  pub fronts_are : AreFronts row.style row.count fronts
+  pub behind_x_is : IsPiece behind_x (y_text row.style.origin row.y) 12
+  pub behind_y_is : IsPiece behind_y (z_text row.style.origin row.z) 12
+  pub inside_is : IsFirstInside row.style.origin row.y row.z inside

@@ -2,9 +2,11 @@
 #![tactic(auto)]
 
 mod block;
+mod centre_texts;
 mod row_texts;
 mod style;
 
 pub use block::Block;
+pub use centre_texts::CentreTexts;
 pub use row_texts::RowTexts;
 pub use style::{Origin, Style};

@@ -12,7 +12,7 @@ use mesh_text::{Fours, Lines, Piece};
 use std::marker::Model;
 
 /// The points of a row at most.
-const POINTS: usize = 1026;
+pub(crate) const POINTS: usize = 1026;
 
 /// The edges that begin at them.
 const EDGES: u16 = 3078;
@@ -90,7 +90,7 @@ fn front_of(style: Style, x: u32, digits: &Fours) -> Piece<16>
 }
 
 /// A blank, a whole coordinate and its point.
-fn behind_blank(origin: Origin, axis: usize, whole: u32, digits: &Fours) -> Piece<16>
+pub(crate) fn behind_blank(origin: Origin, axis: usize, whole: u32, digits: &Fours) -> Piece<16>
     requires axis { axis < 3 }
     requires whole { whole ≤ 1026 }
     ensures text { piece_text result ≡ 32 ∷ whole_text origin axis whole }
@@ -165,7 +165,7 @@ fn tail_z() -> Piece<32>
 }
 
 /// The offsets from which on no edge along an axis lies in a pad's layer.
-fn least_of(origin: Origin, y: u32, z: u32) -> [u16; 3]
+pub(crate) fn least_of(origin: Origin, y: u32, z: u32) -> [u16; 3]
     ensures { AreLeast origin y z result }
 {
     let from_second = if is_layer(origin, 0) { 3 } else { 0 };
@@ -174,23 +174,13 @@ fn least_of(origin: Origin, y: u32, z: u32) -> [u16; 3]
     [from_second, along_y, along_z]
 }
 
-/// The offset from which on no edge has a whole coordinate in a pad's layer.
-fn first_inside(least: &[u16; 3]) -> u16
-    ensures { (axis : ℕ) → axis < 3 → slice_index least.now axis ≤ result }
-{
-    least[0].max(least[1]).max(least[2])
-}
-
 /// The parts that lines have between their numbers, for a row of points: `middles` and `tails` stand before and behind the
 /// decimals of the place on an edge along each axis.
 #[derive(Drop)]
 struct RowParts {
-    y: Piece<16>,
-    z: Piece<16>,
     middles: [Piece<32>; 3],
     tails: [Piece<32>; 3],
     least: [u16; 3],
-    inside: u16,
 }
 
 /// The parts for a row.
@@ -205,15 +195,12 @@ fn parts_of(origin: Origin, y: u32, z: u32, digits: &Fours) -> RowParts
     RowParts {
         middles: [Piece::new(), middle_y(&y), middle_z(&y, &z)],
         tails: [tail_x(&y, &z), tail_y(&z), tail_z()],
-        y,
-        z,
-        inside: first_inside(&least),
         least,
     }
 }
 
 /// Sets the fronts of the lines of so many points.
-fn set_fronts(fronts: &mut [Piece<16>; POINTS], style: Style, count: u32, digits: &Fours)
+pub(crate) fn set_fronts(fronts: &mut [Piece<16>; POINTS], style: Style, count: u32, digits: &Fours)
     requires { count ≤ 1026 }
     ensures { AreFronts style count fronts.new }
 {
@@ -222,8 +209,8 @@ fn set_fronts(fronts: &mut [Piece<16>; POINTS], style: Style, count: u32, digits
     }
 }
 
-/// The parts of the lines of vertices for a row of points, and of the centres in the cells that begin at them. Contracts
-/// see how the lines are written, how many points there are, and where the row is.
+/// The parts of the lines of vertices on the edges of a row of points. Contracts see how the lines are written, how many
+/// points there are, and where the row is.
 #[derive(Drop)]
 pub struct RowTexts {
     style: Style,
@@ -319,37 +306,5 @@ impl RowTexts {
             place,
             &self.parts.tails[axis],
         );
-    }
-
-    /// Puts the line of the centre in a cell behind others, where it is not made of the row's parts.
-    #[inline(never)]
-    fn gather_centre_whole(&self, x: u32, at: &[u32; 3], lines: &mut Lines)
-        requires x { x < self.now.count }
-        requires at { All (λ n. n ≤ 1000) at.now }
-        requires room { length lines.old + 64 ≤ 4096 }
-        ensures line { lines.new ≡ lines.old ++ vertex_line self.now.style (0, centre_at self.now x at.now) }
-        ensures few { length lines.new ≤ length lines.old + 64 }
-    {
-        let (y, z) = (1000 * self.y, 1000 * self.z);
-        let at = [1000 * x + at[0], y + at[1], z + at[2]];
-        self.style.gather_vertex(&at, lines);
-    }
-
-    /// Puts the line of the centre in a cell behind others, by how far the cell is along x and by the place in it.
-    #[inline(always)]
-    pub fn gather_centre(&self, x: u32, at: &[u32; 3], lines: &mut Lines)
-        requires x { x < self.now.count }
-        requires at { All (λ n. n ≤ 1000) at.now }
-        requires room { length lines.old + 64 ≤ 4096 }
-        ensures line { lines.new ≡ lines.old ++ vertex_line self.now.style (0, centre_at self.now x at.now) }
-        ensures few { length lines.new ≤ length lines.old + 64 }
-    {
-        let inside = u32::from(self.parts.inside);
-        if inside <= 3 * x && at[0] < 1000 && at[1] < 1000 && at[2] < 1000 {
-            let front = &self.fronts[x as usize];
-            lines.push_thirds(front, &self.parts.y, &self.parts.z, at);
-            return;
-        }
-        self.gather_centre_whole(x, at, lines);
     }
 }

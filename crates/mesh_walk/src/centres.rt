@@ -20,13 +20,13 @@ use byte_streams::{Failed, Sink};
 use case_table::CaseRow;
 use cell_loops::{centre_count, loop_count, loop_edges};
 use flat_mesh::{Cell, Heights};
-use mesh_lines::{Block, RowTexts};
+use mesh_lines::{Block, CentreTexts};
 use mesh_rows::MeshRows;
 
 /// Puts the line of the centre of a loop behind the others. It is the same under any name.
 fn put_centre<H: Heights>(
     field: &H,
-    texts: &RowTexts,
+    texts: &CentreTexts,
     cell: Cell,
     places: CellPlaces<'_>,
     edges: &[u8],
@@ -51,7 +51,7 @@ fn put_centre<H: Heights>(
 /// Puts the line of the centre of a loop behind the others, if it has one, whatever turn the loop has in its cell.
 fn put_if_centre<H: Heights>(
     field: &H,
-    texts: &RowTexts,
+    texts: &CentreTexts,
     cell: Cell,
     places: CellPlaces<'_>,
     edges: &[u8],
@@ -77,7 +77,7 @@ fn put_if_centre<H: Heights>(
 /// Puts the lines of the centres of a cell behind the others.
 fn put_centres<H: Heights>(
     field: &H,
-    texts: &RowTexts,
+    texts: &CentreTexts,
     cell: Cell,
     places: CellPlaces<'_>,
     case: CaseRow,
@@ -102,7 +102,7 @@ fn put_centres<H: Heights>(
 #[derive(Clone, Copy)]
 struct CentreRow<'a> {
     cells: &'a RowCells,
-    texts: &'a RowTexts,
+    texts: &'a CentreTexts,
     places: &'a EdgePlaces,
     slots: &'a [u16; 12],
 }
@@ -225,7 +225,7 @@ fn write_cells<H: Heights, K: Sink>(
 #[derive(Drop)]
 struct Centres {
     cells: RowCells,
-    texts: RowTexts,
+    texts: CentreTexts,
     places: Around<EdgePlaces>,
 }
 
@@ -294,7 +294,7 @@ pub fn write_centres<R: MeshRows, K: Sink>(
     let sizes = rows.sizes();
     let mut centres = Centres {
         cells: RowCells::new(),
-        texts: RowTexts::new(walk.style, sizes.nx(), block),
+        texts: CentreTexts::new(walk.style, sizes.nx(), block),
         places: Around::of(EdgePlaces::new()),
     };
     for row in 0..sizes.ny() * sizes.nz() {
