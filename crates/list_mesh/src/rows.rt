@@ -7,7 +7,7 @@ use crate::cases::{CellCases, all_cases};
 use crate::counts::count_all;
 use crate::field::ListField;
 use crate::places::{CrossingPlaces, all_places, place_row};
-use crate::slices::{begin_no_edges, case_row, flag_row};
+use crate::slices::{case_row, flag_row};
 use crossing_edges::put_flags;
 use flat_mesh::{Cell, Heights};
 use iso_base::{Level, Memory, Sizes};
@@ -89,12 +89,9 @@ impl<'a, S: Samples> MeshRows for ListRows<'a, S> {
 
     ghost spent = { λ _. 0 };
 
+    // Whether no crossing edge begins in the row is seen by who lists them, in the same time.
     fn fill_flags(&mut self, y: u32, z: u32, flags: &mut [u8]) -> bool {
-        let row = flag_row(&self.field, &self.flags, y, z);
-        if begin_no_edges(row) {
-            return false;
-        }
-        flags.copy_from_slice(row);
+        flags.copy_from_slice(flag_row(&self.field, &self.flags, y, z));
         true
     }
 
