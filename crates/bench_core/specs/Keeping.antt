@@ -21,7 +21,10 @@ pub record Workbench : Type 0 where
 
 -- the bench that is opened on a volume at a level
 abbrev pub first_bench : Volume → ℤ → Limits → Workbench
-first_bench v level limits = record { state = record { volume = v; level = level; past = []; future = [] }; cache = empty_cache limits }
+first_bench v level limits = record {
+  state = record { volume = v; level = level; past = []; future = [] };
+  cache = empty_cache limits;
+}
 
 -- ---- the points that a command changes, where it is done
 
@@ -75,7 +78,8 @@ without_points g (Some a) cache = without_bricks (bricks_of g a) cache
 -- A change that is done leaves the cache without the items of the bricks that hold one of these points; one that is refused
 -- leaves it as it was.
 abbrev pub Keeps : {T : Type 0} → Workbench → Workbench → Result T BenchFault → Option Area → Type 0
-Keeps old new result area = MatchResult result (λ _. new.cache ≡ without_points old.state.volume.grid area old.cache) (λ _. new.cache ≡ old.cache)
+Keeps old new result area = MatchResult result (λ _. new.cache
+    ≡ without_points old.state.volume.grid area old.cache) (λ _. new.cache ≡ old.cache)
 
 -- ---- what a refresh makes
 

@@ -78,7 +78,8 @@ FailsAsWindow box text old new fault name =
     ((window_fault box ≡ Some fault) × (new ≡ old)) ⊎ ((window_fault box ≡ None) × FailsToWrite old new fault name text)
 
 -- The box is a window, the file is now its text, all others stay, and its numbers are answered; or it could not be written.
-pub record WritesWindow (v : Volume) (level : ℤ) (box : Option Area) (format : MeshFormat) (old new : Store) (result : Result Written BenchFault)
+pub record WritesWindow (v : Volume) (level : ℤ) (box : Option Area) (format : MeshFormat) (old new : Store)
+    (result : Result Written BenchFault)
     (name : List ℕ) : Type 0 where
   pub window : OnOk result (window_fault box ≡ None)
   pub numbers : IfOk result (λ w. w ≡ window_written v level box format)

@@ -62,7 +62,8 @@ impl Model for Bench {
 
     ghost view = { λ b. record { state = state_of b.store b.level b.log; cache = b.cache } };
 
-    ghost invariant = { λ b. IsHistory b.store b.level b.log × (IsKept b.store b.tree b.cache × (b.ranks.grid ≡ b.store.grid)) };
+    ghost invariant = { λ b. IsHistory b.store b.level b.log
+        × (IsKept b.store b.tree b.cache × (b.ranks.grid ≡ b.store.grid)) };
 }
 
 // How many points one `fill` may change.
@@ -80,7 +81,8 @@ impl Bench {
         ensures opened { IfOk result (λ b. b ≡ first_bench volume level capacity) }
         ensures sound { IfOk result (λ b. IsState b.state) }
         ensures above { IfOk result (λ _. begin_fault volume.pad level ≡ None) }
-        ensures fault { IfErr result (λ fault. (begin_fault volume.pad level ≡ Some fault) ⊎ ((fault ≡ BeginFault.Memory) × (begin_fault volume.pad level ≡ None))) }
+        ensures fault { IfErr result (λ fault. (begin_fault volume.pad level ≡ Some fault)
+            ⊎ ((fault ≡ BeginFault.Memory) × (begin_fault volume.pad level ≡ None))) }
     {
         // A level is refused before memory is asked for.
         if let Some(fault) = refused(volume.pad(), level) {
@@ -100,7 +102,8 @@ impl Bench {
         ensures opened { IfOk result (λ b. b ≡ first_bench store level capacity) }
         ensures sound { IfOk result (λ b. IsState b.state) }
         ensures above { IfOk result (λ _. begin_fault store.pad level ≡ None) }
-        ensures fault { IfErr result (λ fault. (begin_fault store.pad level ≡ Some fault) ⊎ ((fault ≡ BeginFault.Memory) × (begin_fault store.pad level ≡ None))) }
+        ensures fault { IfErr result (λ fault. (begin_fault store.pad level ≡ Some fault)
+            ⊎ ((fault ≡ BeginFault.Memory) × (begin_fault store.pad level ≡ None))) }
     {
         if let Some(fault) = refused(store.pad(), level) {
             return Err(fault);
@@ -171,8 +174,10 @@ impl Bench {
     /// order: `Outside` and `ValueOutside` as for `set`; `FillTooLarge` exactly where the box has more than 1,048,576
     /// points; `Memory`.
     pub fn fill(&mut self, corners: [i64; 6], value: i64) -> Result<(), BenchFault>
-        ensures step { IsStep self.old.state self.new.state result (fill_step self.old.state (three_from corners 0) (three_from corners 3) value) }
-        ensures kept { Keeps self.old self.new result (fill_area self.old.state (three_from corners 0) (three_from corners 3)) }
+        ensures step { IsStep self.old.state self.new.state result
+            (fill_step self.old.state (three_from corners 0) (three_from corners 3) value) }
+        ensures kept { Keeps self.old self.new result
+            (fill_area self.old.state (three_from corners 0) (three_from corners 3)) }
         ensures not_shelf { IsErrOf result BenchFault.ShelfFailed → ⊥ }
     {
         let [ax, ay, az, bx, by, bz] = corners;
@@ -220,11 +225,15 @@ impl Bench {
     /// Makes a change and puts it in the log. What is kept for bricks goes stale where the change has points.
     fn make(&mut self, change: Change)
         requires suits { Suits self.old.state.volume change }
-        requires back { before change (after change (moment self.old.state.volume self.old.state.level)) ≡ moment self.old.state.volume self.old.state.level }
-        requires above { IsAbovePad self.old.state.volume.pad (after change (moment self.old.state.volume self.old.state.level)).level }
+        requires back { before change (after change (moment self.old.state.volume self.old.state.level))
+            ≡ moment self.old.state.volume self.old.state.level }
+        requires above { IsAbovePad self.old.state.volume.pad
+            (after change (moment self.old.state.volume self.old.state.level)).level }
         ensures state { let next = after change (moment self.old.state.volume self.old.state.level) in
-            self.new.state ≡ changed self.old.state next.volume.samples next.level (area_of self.old.state.volume.grid change) }
-        ensures kept { self.new.cache ≡ without_points self.old.state.volume.grid (area_of self.old.state.volume.grid change) self.old.cache }
+            self.new.state ≡ changed self.old.state next.volume.samples next.level
+            (area_of self.old.state.volume.grid change) }
+        ensures kept { self.new.cache ≡ without_points self.old.state.volume.grid
+            (area_of self.old.state.volume.grid change) self.old.cache }
     {
         let area = change.area(&self.store);
         let value = change.value();
@@ -297,7 +306,8 @@ impl Bench {
         steps: &mut Steps<L>,
     ) -> Result<Written, BenchFault>
         ensures refreshed { Refreshes self.old self.new (waiting_bricks self.old) write_steps steps.old steps.new }
-        ensures file { WritesFile (H.seen shelf.old) (H.seen shelf.new) result name.now (ply_text self.old.state) (ply_written self.old.state) }
+        ensures file { WritesFile (H.seen shelf.old) (H.seen shelf.new) result name.now (ply_text self.old.state)
+            (ply_written self.old.state) }
         ensures surface { OnOk result (IsWatertight self.old.state.volume self.old.state.level) }
         ensures never_memory { IsErrOf result BenchFault.Memory → ⊥ }
     {
@@ -312,7 +322,8 @@ impl Bench {
         steps: &mut Steps<L>,
     ) -> Result<Written, BenchFault>
         ensures refreshed { Refreshes self.old self.new (waiting_bricks self.old) write_steps steps.old steps.new }
-        ensures file { WritesFile (H.seen shelf.old) (H.seen shelf.new) result name.now (obj_text self.old.state) (obj_written self.old.state) }
+        ensures file { WritesFile (H.seen shelf.old) (H.seen shelf.new) result name.now (obj_text self.old.state)
+            (obj_written self.old.state) }
         ensures surface { OnOk result (IsWatertight self.old.state.volume self.old.state.level) }
         ensures never_memory { IsErrOf result BenchFault.Memory → ⊥ }
     {
@@ -327,7 +338,8 @@ impl Bench {
         steps: &mut Steps<L>,
     ) -> Result<Written, BenchFault>
         ensures refreshed { Refreshes self.old self.new (waiting_bricks self.old) write_steps steps.old steps.new }
-        ensures file { WritesFile (H.seen shelf.old) (H.seen shelf.new) result name.now (text_of_state format self.old.state) (mesh_written format self.old.state) }
+        ensures file { WritesFile (H.seen shelf.old) (H.seen shelf.new) result name.now
+            (text_of_state format self.old.state) (mesh_written format self.old.state) }
         ensures surface { OnOk result (IsWatertight self.old.state.volume self.old.state.level) }
         ensures never_memory { IsErrOf result BenchFault.Memory → ⊥ }
     {
@@ -344,7 +356,8 @@ impl Bench {
         steps: &mut Steps<L>,
     ) -> Result<Written, BenchFault>
         ensures same { self.new ≡ self.old }
-        ensures file { WritesFile (H.seen shelf.old) (H.seen shelf.new) result name.now (text_of_state format self.old.state) (mesh_written format self.old.state) }
+        ensures file { WritesFile (H.seen shelf.old) (H.seen shelf.new) result name.now
+            (text_of_state format self.old.state) (mesh_written format self.old.state) }
         ensures surface { IsWatertight self.old.state.volume self.old.state.level }
         ensures never_memory { IsErrOf result BenchFault.Memory → ⊥ }
         ensures least { steps.old ≤ steps.new }
@@ -364,7 +377,8 @@ impl Bench {
     /// the shelf's count of faults rose; the file is then as before or a front of the text, and all other files are as
     /// before. No memory is taken.
     pub fn save<H: Shelf>(&self, shelf: &mut H, name: &str) -> Result<u64, BenchFault>
-        ensures file { WritesFile (H.seen shelf.old) (H.seen shelf.new) result name.now (raw_save self.now.state) (length (raw_save self.now.state)) }
+        ensures file { WritesFile (H.seen shelf.old) (H.seen shelf.new) result name.now (raw_save self.now.state)
+            (length (raw_save self.now.state)) }
         ensures read_again { nrrd_of (raw_save self.now.state) ≡ Ok (inner_voxels self.now.state.volume, 0) }
         ensures never_memory { IsErrOf result BenchFault.Memory → ⊥ }
     {
@@ -374,7 +388,8 @@ impl Bench {
     /// Makes the name's file the volume without its pad, as lines of numbers: a row of samples in a line. It is refused as
     /// `save` is, and no memory is taken.
     pub fn save_text<H: Shelf>(&self, shelf: &mut H, name: &str) -> Result<u64, BenchFault>
-        ensures file { WritesFile (H.seen shelf.old) (H.seen shelf.new) result name.now (text_save self.now.state) (length (text_save self.now.state)) }
+        ensures file { WritesFile (H.seen shelf.old) (H.seen shelf.new) result name.now (text_save self.now.state)
+            (length (text_save self.now.state)) }
         ensures read_again { nrrd_of (text_save self.now.state) ≡ Ok (inner_voxels self.now.state.volume, 1) }
         ensures never_memory { IsErrOf result BenchFault.Memory → ⊥ }
     {
@@ -384,7 +399,8 @@ impl Bench {
     /// Makes the name's file the volume without its pad, as lines of hex digits: a row of samples in a line, the low byte
     /// of each first. It is refused as `save` is, and no memory is taken.
     pub fn save_hex<H: Shelf>(&self, shelf: &mut H, name: &str) -> Result<u64, BenchFault>
-        ensures file { WritesFile (H.seen shelf.old) (H.seen shelf.new) result name.now (hex_save self.now.state) (length (hex_save self.now.state)) }
+        ensures file { WritesFile (H.seen shelf.old) (H.seen shelf.new) result name.now (hex_save self.now.state)
+            (length (hex_save self.now.state)) }
         ensures read_again { nrrd_of (hex_save self.now.state) ≡ Ok (inner_voxels self.now.state.volume, 1) }
         ensures never_memory { IsErrOf result BenchFault.Memory → ⊥ }
     {
@@ -405,8 +421,10 @@ impl Bench {
         format: MeshFormat,
     ) -> Result<Written, BenchFault>
         ensures window { let v = self.now.state.volume in
-            WritesWindow v self.now.state.level (window_area v corners) format (H.seen shelf.old) (H.seen shelf.new) result name.now }
-        ensures part { let v = self.now.state.volume in OnOk result (IsSomeAnd (window_area v corners) (IsWindowOfMesh v self.now.state.level)) }
+            WritesWindow v self.now.state.level (window_area v corners) format (H.seen shelf.old) (H.seen shelf.new)
+            result name.now }
+        ensures part { let v = self.now.state.volume in
+            OnOk result (IsSomeAnd (window_area v corners) (IsWindowOfMesh v self.now.state.level)) }
     {
         let Some(area) = self.box_of(corners) else {
             return Err(BenchFault::Outside);
@@ -421,7 +439,8 @@ impl Bench {
     pub fn contour(&self, k: i64) -> Result<Contours, BenchFault>
         ensures step { IsStep self.now.state self.now.state result (contour_step self.now.state k) }
         ensures lines { IfOk result (λ c. c ≡ contour_of self.now.state k) }
-        ensures cut { OnOk result (IsSomeAnd (plane_of self.now.state.volume k) (IsCutOfMesh self.now.state.volume self.now.state.level)) }
+        ensures cut { OnOk result (IsSomeAnd (plane_of self.now.state.volume k)
+            (IsCutOfMesh self.now.state.volume self.now.state.level)) }
         ensures not_shelf { IsErrOf result BenchFault.ShelfFailed → ⊥ }
     {
         let Some(plane) = self.plane(k) else {
@@ -483,7 +502,8 @@ impl Bench {
 
     /// The stored box of two corners that do not count the pad's layer.
     fn area(&self, ax: i64, ay: i64, az: i64, bx: i64, by: i64, bz: i64) -> Option<FillBox>
-        ensures area { result ≡ area_by (place_of self.now.state.volume (ax, ay, az)) (place_of self.now.state.volume (bx, by, bz)) }
+        ensures area { result ≡ area_by (place_of self.now.state.volume (ax, ay, az))
+            (place_of self.now.state.volume (bx, by, bz)) }
         ensures low { IfSome result (λ a. IsInside self.now.state.volume a.low) }
         ensures high { IfSome result (λ a. IsInside self.now.state.volume a.high) }
     {

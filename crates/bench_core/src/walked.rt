@@ -37,7 +37,8 @@ fn counted_numbers<L: Ledger>(
     requires tree { IsRightFor tree.now store.now }
     requires items { IsRight store.now.grid store.now.samples cache.now.items }
     ensures { IfOk result (λ r. r ≡ summary_of
-        (length (vertices store.now.grid (field store.now.samples level))) (triangles store.now.grid (field store.now.samples level))) }
+        (length (vertices store.now.grid (field store.now.samples level)))
+        (triangles store.now.grid (field store.now.samples level))) }
 {
     let (book, share) = blank.open::<L>();
     let mut rows = KeptRows::new(store, cache, level);
@@ -56,7 +57,8 @@ pub fn walked_numbers(
     requires tree { IsRightFor tree.now store.now }
     requires items { IsRight store.now.grid store.now.samples cache.now.items }
     ensures { IfOk result (λ r. r ≡ summary_of
-        (length (vertices store.now.grid (field store.now.samples level))) (triangles store.now.grid (field store.now.samples level))) }
+        (length (vertices store.now.grid (field store.now.samples level)))
+        (triangles store.now.grid (field store.now.samples level))) }
 {
     counted_numbers::<Brand>(Blank::new(1), alloc, store, tree, cache, level)
 }

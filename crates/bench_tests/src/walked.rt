@@ -83,8 +83,10 @@ fn volume_of(rt: &impl Abort, alloc: Global, seed: &mut u64) -> Result<VoxelList
 
 /// The triangles of the mesh of a volume from scratch.
 fn mesh_triangles(alloc: Global, volume: &VoxelList, level: Level) -> Result<TriangleList, Memory>
-    ensures vertices { IfOk result (λ t. t.vertex_count ≡ length (vertices volume.now.grid (field volume.now.samples level))) }
-    ensures triangles { IfOk result (λ t. triangles_of t.triangles ≡ triangles volume.now.grid (field volume.now.samples level)) }
+    ensures vertices { IfOk result (λ t. t.vertex_count
+        ≡ length (vertices volume.now.grid (field volume.now.samples level))) }
+    ensures triangles { IfOk result (λ t. triangles_of t.triangles
+        ≡ triangles volume.now.grid (field volume.now.samples level)) }
 {
     extract_flat(alloc, volume, level)?.triangle_list(alloc)
 }

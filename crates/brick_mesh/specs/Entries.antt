@@ -21,7 +21,8 @@ entry_of b cell = 1024 * cell + case_of b.grid (heights b) (brick_cell b.grid b.
 
 -- the entries of a run of cells of a brick, from a cell on
 unfoldable pub entries_from : BrickAt → ℕ → ℕ → List ℕ
-entries_from b first count = map (entry_of b) (filter (is_active_cell b.grid (heights b) b.brick) (range_with_len first count))
+entries_from b first count = map (entry_of b)
+    (filter (is_active_cell b.grid (heights b) b.brick) (range_with_len first count))
 
 -- the cases of the first cells of a row of a brick
 unfoldable pub first_cases : BrickAt → ℕ → ℕ → ℕ → List ℕ

@@ -32,7 +32,8 @@ fn height<T: Packed>(copies: &[T], place: usize, level: Level) -> i64
 fn corner_value<T: Packed>(copies: &[T], low: usize, corner: usize, level: Level) -> i64
     requires corner { corner < 8 }
     requires inside { low + 91 < length copies.now }
-    requires range { (corner : ℕ) → corner < 8 → IsSample (sample (map T.value copies.now) (low + corner_place corner)) }
+    requires range { (corner : ℕ) → corner < 8 →
+        IsSample (sample (map T.value copies.now) (low + corner_place corner)) }
     ensures value { result ≡ shifted (sample (map T.value copies.now) (low + corner_place corner)) level }
     ensures bound { unsigned_abs result < 2 ^ 44 }
 {
@@ -44,7 +45,8 @@ fn corner_value<T: Packed>(copies: &[T], low: usize, corner: usize, level: Level
 #[inline(always)]
 fn corner_values<T: Packed>(copies: &[T], low: usize, level: Level) -> [i64; 8]
     requires inside { low + 91 < length copies.now }
-    requires range { (corner : ℕ) → corner < 8 → IsSample (sample (map T.value copies.now) (low + corner_place corner)) }
+    requires range { (corner : ℕ) → corner < 8 →
+        IsSample (sample (map T.value copies.now) (low + corner_place corner)) }
     ensures value { result ≡ corner_values level (map T.value copies.now) low }
     ensures bound { All (λ v. unsigned_abs v < 2 ^ 44) result }
 {
@@ -72,7 +74,8 @@ fn values_among<T: Packed>(
     requires brick { brick.0 < brick_count store.now.grid }
     requires copies { AreCopiesOf store.now.grid store.now.samples brick.0 (map T.value copies.now) }
     requires cell { IsCell (block_of store.now brick.0 level) cell }
-    ensures value { result ≡ cell_values store.now.grid (heights (block_of store.now brick.0 level)) (brick_cell store.now.grid brick.0 cell) }
+    ensures value { result ≡ cell_values store.now.grid (heights (block_of store.now brick.0 level))
+        (brick_cell store.now.grid brick.0 cell) }
     ensures bound { All (λ v. unsigned_abs v < 2 ^ 44) result }
 {
     let _ = store.sizes();
@@ -96,7 +99,12 @@ impl<'a> Model for Block<'a> {
 
     ghost Value = { BrickAt };
 
-    ghost view = { λ b. record { grid = b.store.now.grid; samples = b.store.now.samples; brick = b.brick.0; level = b.level } };
+    ghost view = { λ b. record {
+      grid = b.store.now.grid;
+      samples = b.store.now.samples;
+      brick = b.brick.0;
+      level = b.level;
+    } };
 
     ghost invariant = { λ b. IsSpanned b.store.now.grid b.brick.0 b.along_x b.along_y b.along_z };
 }
@@ -156,7 +164,8 @@ impl<'a> Block<'a> {
     pub fn values<T: Packed>(&self, copies: &[T], cell: u32) -> [i64; 8]
         requires copies { AreCopiesOf self.now.grid self.now.samples self.now.brick (map T.value copies.now) }
         requires cell { IsCell self.now cell }
-        ensures value { result ≡ cell_values self.now.grid (heights self.now) (brick_cell self.now.grid self.now.brick cell) }
+        ensures value { result ≡ cell_values self.now.grid (heights self.now)
+            (brick_cell self.now.grid self.now.brick cell) }
         ensures bound { All (λ v. unsigned_abs v < 2 ^ 44) result }
     {
         values_among(self.store, self.brick, self.level, copies, cell)

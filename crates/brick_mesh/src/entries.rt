@@ -27,8 +27,10 @@ use std::sync::ledger::Ledger;
 fn joined_with<T: Packed>(block: &Block<'_>, copies: &[T], cell: u32, signs: u8) -> u8
     requires copies { AreCopiesOf block.now.grid block.now.samples block.now.brick (map T.value copies.now) }
     requires cell { IsCell block.now cell }
-    requires signs { bits_of 8 signs ≡ cell_signs block.now.grid (heights block.now) (brick_cell block.now.grid block.now.brick cell) }
-    ensures faces { bits_of 6 result ≡ cell_joined block.now.grid (heights block.now) (brick_cell block.now.grid block.now.brick cell) }
+    requires signs { bits_of 8 signs ≡ cell_signs block.now.grid (heights block.now)
+        (brick_cell block.now.grid block.now.brick cell) }
+    ensures faces { bits_of 6 result ≡ cell_joined block.now.grid (heights block.now)
+        (brick_cell block.now.grid block.now.brick cell) }
     ensures ambiguous { IsTrue (are_ambiguous (bits_of 8 signs) (bits_of 8 result)) }
 {
     if ambiguous_set(signs) == 0 {
@@ -48,8 +50,10 @@ fn case_with<T: Packed, L: Ledger>(
 ) -> u16
     requires copies { AreCopiesOf block.now.grid block.now.samples block.now.brick (map T.value copies.now) }
     requires cell { IsCell block.now cell }
-    requires signs { bits_of 8 signs ≡ cell_signs block.now.grid (heights block.now) (brick_cell block.now.grid block.now.brick cell) }
-    ensures value { result ≡ case_of block.now.grid (heights block.now) (brick_cell block.now.grid block.now.brick cell) }
+    requires signs { bits_of 8 signs ≡ cell_signs block.now.grid (heights block.now)
+        (brick_cell block.now.grid block.now.brick cell) }
+    ensures value { result ≡ case_of block.now.grid (heights block.now)
+        (brick_cell block.now.grid block.now.brick cell) }
     ensures bound { result < 656 }
     ensures counted { steps.new ≡ steps.old + 1 }
 {
@@ -69,7 +73,8 @@ fn add_cell<T: Packed, L: Ledger>(
 )
     requires copies { AreCopiesOf block.now.grid block.now.samples block.now.brick (map T.value copies.now) }
     requires cell { IsCell block.now cell }
-    requires signs { bits_of 8 signs ≡ cell_signs block.now.grid (heights block.now) (brick_cell block.now.grid block.now.brick cell) }
+    requires signs { bits_of 8 signs ≡ cell_signs block.now.grid (heights block.now)
+        (brick_cell block.now.grid block.now.brick cell) }
     requires room { array_vec_len entries.old < 512 }
     ensures entries { entries.new.items ≡ entries.old.items ++ entries_from block.now cell 1 }
     ensures counted { steps.new ≡ steps.old + length (entries_from block.now cell 1) }
@@ -246,7 +251,8 @@ fn push_cases<T: Packed, L: Ledger>(
     requires there { HasPoint block.now 0 (row % 8 + 1) (row / 8 + 1) }
     requires signs { AreBytes block.now row signs.now }
     requires none { rows.old.items ≡ [] }
-    ensures cases { rows.new.items ≡ first_cases block.now (row % 8) (row / 8) (points_along block.now.grid block.now.brick 0 - 1) }
+    ensures cases { rows.new.items ≡ first_cases block.now (row % 8) (row / 8)
+        (points_along block.now.grid block.now.brick 0 - 1) }
     ensures counted { steps.new ≡ steps.old + length rows.new.items }
 {
     for x in 0..block.cells_along_x() {

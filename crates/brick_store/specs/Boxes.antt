@@ -136,7 +136,14 @@ AreBoxWritten g a values zone old new = AreWrittenAt g (IsOfZone g a zone) (valu
 
 -- the bricks of a line along x that hold a point of the box
 abbrev pub box_line : Grid → Area → ℕ → ℕ → Zone
-box_line g a y z = record { x = home a.low.x; x_end = reach_end g.nx (a.high.x + 1); y = y; y_end = y + 1; z = z; z_end = z + 1 }
+box_line g a y z = record {
+  x = home a.low.x;
+  x_end = reach_end g.nx (a.high.x + 1);
+  y = y;
+  y_end = y + 1;
+  z = z;
+  z_end = z + 1;
+}
 
 -- those of a layer across z
 abbrev pub box_layer : Grid → Area → ℕ → Zone

@@ -25,10 +25,12 @@ source_value p s x y z = sample s.values.now (row_place p s y z + (x - p.x))
 
 -- each row has all its values
 abbrev pub HasRows : Part → Source → Type 0
-HasRows p s = (y z : ℕ) → p.y ≤ y → y < p.y_end → p.z ≤ z → z < p.z_end → row_place p s y z + (p.x_end - p.x) ≤ length s.values.now
+HasRows p s = (y z : ℕ) → p.y ≤ y → y < p.y_end → p.z ≤ z → z < p.z_end → row_place p s y z + (p.x_end - p.x)
+    ≤ length s.values.now
 
 -- of the values for a whole part, those of some offsets were put into the brick, and nothing else
 pub record AreRowsPut (brick : ℕ) (whole : Part) (s : Source) (p : Part) (old new : List ℤ) : Type 0 where
   pub count : length new ≡ length old
   pub put : (x y z : ℕ) → IsWithin p x y z → copy_at new brick x y z ≡ source_value whole s x y z
-  pub others : (b x y z : ℕ) → x < 9 → y < 9 → z < 9 → (IsOfPart brick p b x y z → ⊥) → copy_at new b x y z ≡ copy_at old b x y z
+  pub others : (b x y z : ℕ) → x < 9 → y < 9 → z < 9 → (IsOfPart brick p b x y z → ⊥) → copy_at new b x y z
+      ≡ copy_at old b x y z

@@ -47,12 +47,26 @@ reach_end points end = min ((end + 7) / 8) ((points + 6) / 8)
 
 -- those along x that reach a row of so many points from one on
 abbrev pub line_zone : Grid → Point → ℕ → ℕ → ℕ → Zone
-line_zone g p count y z = record { x = home p.x; x_end = reach_end g.nx (p.x + count); y = y; y_end = y + 1; z = z; z_end = z + 1 }
+line_zone g p count y z = record {
+  x = home p.x;
+  x_end = reach_end g.nx (p.x + count);
+  y = y;
+  y_end = y + 1;
+  z = z;
+  z_end = z + 1;
+}
 
 -- those of a layer across z
 abbrev pub layer_zone : Grid → Point → ℕ → ℕ → Zone
 layer_zone g p count z =
-    record { x = home p.x; x_end = reach_end g.nx (p.x + count); y = home p.y; y_end = reach_end g.ny (p.y + 1); z = z; z_end = z + 1 }
+    record {
+      x = home p.x;
+      x_end = reach_end g.nx (p.x + count);
+      y = home p.y;
+      y_end = reach_end g.ny (p.y + 1);
+      z = z;
+      z_end = z + 1;
+    }
 
 -- all of them
 abbrev pub row_zone : Grid → Point → ℕ → Zone
@@ -70,4 +84,5 @@ pub record AreRowWritten (g : Grid) (p : Point) (values : List ℤ) (a : Zone) (
   pub count : length new ≡ length old
   pub written : (b x y z : ℕ) → AreOffsets g b x y z → InZone g a b → IsOfRow g p (length values) b x y z
       → copy_at new b x y z ≡ sample values (brick_start g b 0 + x - p.x)
-  pub others : (b x y z : ℕ) → AreOffsets g b x y z → (InZone g a b → IsOfRow g p (length values) b x y z → ⊥) → copy_at new b x y z ≡ copy_at old b x y z
+  pub others : (b x y z : ℕ) → AreOffsets g b x y z → (InZone g a b → IsOfRow g p (length values) b x y z → ⊥) →
+      copy_at new b x y z ≡ copy_at old b x y z

@@ -179,7 +179,8 @@ fn write_one<C: PackedList>(
     requires brick { brick.0 < brick_count sizes.now }
     requires fits { C.Fits value }
     requires part { IsPartOf sizes.now area.now brick.0 part.now }
-    ensures { ArePartWritten sizes.now area.now (Values.One value) brick.0 part.now (C.list copies.old) (C.list copies.new) }
+    ensures { ArePartWritten sizes.now area.now (Values.One value) brick.0 part.now (C.list copies.old)
+        (C.list copies.new) }
 {
     let _ = sizes.nx();
     let row = nine(&value);
@@ -208,7 +209,8 @@ fn write_each<C: PackedList>(
     requires values { length values.now ≡ area_count area.now }
     requires fits { All C.Fits values.now }
     requires part { IsPartOf sizes.now area.now brick.0 part.now }
-    ensures { ArePartWritten sizes.now area.now (Values.Each values.entry) brick.0 part.now (C.list copies.old) (C.list copies.new) }
+    ensures { ArePartWritten sizes.now area.now (Values.Each values.entry) brick.0 part.now (C.list copies.old)
+        (C.list copies.new) }
 {
     let (low, high) = (area.low(), area.high());
     let first = first_point(sizes, brick);
@@ -281,7 +283,8 @@ fn write_line<C: PackedList>(
     requires y_to { 8 * y ≤ area.now.high.y }
     requires z_from { area.now.low.z ≤ 8 * z + 8 }
     requires z_to { 8 * z ≤ area.now.high.z }
-    ensures { AreBoxWritten sizes.now area.now values.entry (box_line sizes.now area.now y z) (C.list copies.old) (C.list copies.new) }
+    ensures { AreBoxWritten sizes.now area.now values.entry (box_line sizes.now area.now y z) (C.list copies.old)
+        (C.list copies.new) }
 {
     let first = home(area.low().x);
     let end = row_end(sizes.nx(), area.high().x + 1);
@@ -299,7 +302,8 @@ fn write_layer<C: PackedList>(sizes: &Sizes, copies: &mut C, area: &FillBox, val
     requires z { z < bricks_along sizes.now 2 }
     requires z_from { area.now.low.z ≤ 8 * z + 8 }
     requires z_to { 8 * z ≤ area.now.high.z }
-    ensures { AreBoxWritten sizes.now area.now values.entry (box_layer sizes.now area.now z) (C.list copies.old) (C.list copies.new) }
+    ensures { AreBoxWritten sizes.now area.now values.entry (box_layer sizes.now area.now z) (C.list copies.old)
+        (C.list copies.new) }
 {
     let first = home(area.low().y);
     let end = row_end(sizes.ny(), area.high().y + 1);
@@ -315,7 +319,8 @@ pub fn write_box<C: PackedList>(sizes: &Sizes, copies: &mut C, area: &FillBox, v
     requires values { AreAsMany area.now values }
     requires fits { AreFitting C.Fits values }
     ensures copies { AreCopies sizes.now (C.list copies.new) }
-    ensures samples { samples_of sizes.now (C.list copies.new) ≡ boxed sizes.now area.now values.entry (samples_of sizes.now (C.list copies.old)) }
+    ensures samples { samples_of sizes.now (C.list copies.new)
+        ≡ boxed sizes.now area.now values.entry (samples_of sizes.now (C.list copies.old)) }
 {
     let first = home(area.low().z);
     let end = row_end(sizes.nz(), area.high().z + 1);

@@ -104,7 +104,8 @@ pub fn set<C: PackedList>(sizes: &Sizes, copies: &mut C, p: Point, value: i64)
     requires point { IsPoint sizes.now p }
     requires fits { C.Fits value }
     ensures copies { AreCopies sizes.now (C.list copies.new) }
-    ensures samples { samples_of sizes.now (C.list copies.new) ≡ slice_set (samples_of sizes.now (C.list copies.old)) (index_of sizes.now p) value }
+    ensures samples { samples_of sizes.now (C.list copies.new)
+        ≡ slice_set (samples_of sizes.now (C.list copies.old)) (index_of sizes.now p) value }
 {
     let _ = sizes.nx();
     let held = numbering::bricks_holding(sizes, p);

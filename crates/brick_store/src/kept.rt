@@ -41,7 +41,8 @@ impl Kept {
         samples: &S,
     ) -> Result<Kept, AllocError>
         requires { IsVolume (record { grid = sizes.now; kind = kind; pad = pad; samples = S.list samples.now }) }
-        ensures copies { IfOk result (λ k. copies_in k ≡ first_copies sizes.now (S.list samples.now) (729 * brick_count sizes.now)) }
+        ensures copies { IfOk result (λ k. copies_in k
+            ≡ first_copies sizes.now (S.list samples.now) (729 * brick_count sizes.now)) }
         ensures width { IfOk result (λ k. kept_width k ≡ width_of kind pad) }
     {
         Ok(match Width::of(kind, pad) {
@@ -89,7 +90,8 @@ impl Kept {
         requires point { IsPoint sizes.now p }
         requires room { HasRoom (kept_width self.old) value }
         ensures copies { AreCopies sizes.now (copies_in self.new) }
-        ensures samples { samples_of sizes.now (copies_in self.new) ≡ slice_set (samples_of sizes.now (copies_in self.old)) (index_of sizes.now p) value }
+        ensures samples { samples_of sizes.now (copies_in self.new)
+            ≡ slice_set (samples_of sizes.now (copies_in self.old)) (index_of sizes.now p) value }
         ensures width { kept_width self.new ≡ kept_width self.old }
     {
         match self {
@@ -109,7 +111,8 @@ impl Kept {
         requires inside { p.x + length values.now ≤ sizes.now.nx }
         requires room { All (HasRoom (kept_width self.old)) values.now }
         ensures copies { AreCopies sizes.now (copies_in self.new) }
-        ensures samples { samples_of sizes.now (copies_in self.new) ≡ row_set (index_of sizes.now p) values.now (samples_of sizes.now (copies_in self.old)) }
+        ensures samples { samples_of sizes.now (copies_in self.new)
+            ≡ row_set (index_of sizes.now p) values.now (samples_of sizes.now (copies_in self.old)) }
         ensures width { kept_width self.new ≡ kept_width self.old }
     {
         match self {
@@ -128,7 +131,8 @@ impl Kept {
         requires count { AreAsMany area.now values }
         requires room { AreFitting (HasRoom (kept_width self.old)) values }
         ensures copies { AreCopies sizes.now (copies_in self.new) }
-        ensures samples { samples_of sizes.now (copies_in self.new) ≡ boxed sizes.now area.now values.entry (samples_of sizes.now (copies_in self.old)) }
+        ensures samples { samples_of sizes.now (copies_in self.new)
+            ≡ boxed sizes.now area.now values.entry (samples_of sizes.now (copies_in self.old)) }
         ensures width { kept_width self.new ≡ kept_width self.old }
     {
         match self {
@@ -161,7 +165,8 @@ impl Kept {
         requires copies { AreCopies sizes.now (copies_in self.now) }
         requires point { IsPoint sizes.now p }
         requires fits { p.x + length into.old ≤ sizes.now.nx }
-        ensures { into.new ≡ map (λ d. sample (samples_of sizes.now (copies_in self.now)) (index_of sizes.now p + d)) (below (length into.old)) }
+        ensures { into.new ≡ map (λ d. sample (samples_of sizes.now (copies_in self.now))
+            (index_of sizes.now p + d)) (below (length into.old)) }
     {
         match self {
             Kept::U8(copies) => taken::copy_row(sizes, copies, p, into),

@@ -65,7 +65,8 @@ fn write_line<C: PackedList>(
     requires y_to { p.y ≤ 8 * y + 8 }
     requires z_from { 8 * z ≤ p.z }
     requires z_to { p.z ≤ 8 * z + 8 }
-    ensures { AreRowWritten sizes.now p values.now (line_zone sizes.now p (length values.now) y z) (C.list copies.old) (C.list copies.new) }
+    ensures { AreRowWritten sizes.now p values.now (line_zone sizes.now p (length values.now) y z)
+        (C.list copies.old) (C.list copies.new) }
 {
     let first = home(p.x);
     let end = row_end(sizes.nx(), p.x + values.len() as u32);
@@ -84,7 +85,8 @@ fn write_layer<C: PackedList>(sizes: &Sizes, copies: &mut C, z: u32, p: Point, v
     requires fits { All C.Fits values.now }
     requires z_from { 8 * z ≤ p.z }
     requires z_to { p.z ≤ 8 * z + 8 }
-    ensures { AreRowWritten sizes.now p values.now (layer_zone sizes.now p (length values.now) z) (C.list copies.old) (C.list copies.new) }
+    ensures { AreRowWritten sizes.now p values.now (layer_zone sizes.now p (length values.now) z)
+        (C.list copies.old) (C.list copies.new) }
 {
     let (first, end) = reaching(sizes.ny(), p.y);
     for y in first..end {
@@ -100,7 +102,8 @@ pub fn write_row<C: PackedList>(sizes: &Sizes, copies: &mut C, p: Point, values:
     requires inside { p.x + length values.now ≤ sizes.now.nx }
     requires fits { All C.Fits values.now }
     ensures copies { AreCopies sizes.now (C.list copies.new) }
-    ensures samples { samples_of sizes.now (C.list copies.new) ≡ row_set (index_of sizes.now p) values.now (samples_of sizes.now (C.list copies.old)) }
+    ensures samples { samples_of sizes.now (C.list copies.new)
+        ≡ row_set (index_of sizes.now p) values.now (samples_of sizes.now (C.list copies.old)) }
 {
     let (first, end) = reaching(sizes.nz(), p.z);
     for z in first..end {

@@ -122,7 +122,8 @@ impl BrickStore {
     /// a point of the pad's layer by the pad again, any other by a sample of the kind.
     pub fn set(&mut self, p: Point, value: i64)
         requires point { IsPoint self.old.grid p }
-        requires pad { IfSome self.old.pad (λ pad. is_outer self.old.grid (index_of self.old.grid p) ≡ true → value ≡ pad) }
+        requires pad { IfSome self.old.pad (λ pad. is_outer self.old.grid (index_of self.old.grid p) ≡ true → value
+            ≡ pad) }
         requires kind { IsInner self.old (index_of self.old.grid p) → IsOfKind self.old.kind value }
         ensures { self.new ≡ record self.old { samples = slice_set self.old.samples (index_of self.old.grid p) value } }
     {
@@ -137,7 +138,10 @@ impl BrickStore {
         requires fits { p.x + length values.now ≤ self.old.grid.nx }
         requires inner { (k : ℕ) → k < length values.now → IsInner self.old (index_of self.old.grid p + k) }
         requires kind { All (IsOfKind self.old.kind) values.now }
-        ensures { self.new ≡ record self.old { samples = row_set (index_of self.old.grid p) values.now self.old.samples } }
+        ensures { self.new ≡ record self.old {
+          samples = row_set (index_of self.old.grid p) values.now
+              self.old.samples;
+        } }
     {
         self.copies.set_row(&self.sizes, p, values);
     }
@@ -179,7 +183,8 @@ impl BrickStore {
     /// The bricks that hold a copy of a point, ascending: at most two along each axis.
     pub fn bricks_holding(&self, p: Point) -> ArrayVec<BrickId, 8>
         requires { IsPoint self.now.grid p }
-        ensures { map (λ b. b.0) result.items ≡ filter (holds_point self.now.grid p) (below (brick_count self.now.grid)) }
+        ensures { map (λ b. b.0) result.items ≡ filter (holds_point self.now.grid p)
+            (below (brick_count self.now.grid)) }
     {
         numbering::bricks_holding(&self.sizes, p)
     }
@@ -240,7 +245,8 @@ impl BrickStore {
     pub fn copy_row(&self, p: Point, into: &mut [i64])
         requires point { IsPoint self.now.grid p }
         requires fits { p.x + length into.old ≤ self.now.grid.nx }
-        ensures { into.new ≡ map (λ d. sample self.now.samples (index_of self.now.grid p + d)) (below (length into.old)) }
+        ensures { into.new ≡ map (λ d. sample self.now.samples (index_of self.now.grid p + d))
+            (below (length into.old)) }
     {
         self.copies.copy_row(&self.sizes, p, into);
     }

@@ -17,7 +17,8 @@ fn copy_eights<C: PackedList>(copies: &C, place: usize, into: &mut [i64], eights
     requires room { 8 * eights ≤ length into.old }
     requires there { place + 729 * eights ≤ length (C.list copies.now) + 721 }
     ensures count { length into.new ≡ length into.old }
-    ensures taken { (k d : ℕ) → k < eights → d < 8 → sample into.new (8 * k + d) ≡ sample (C.list copies.now) (place + 729 * k + d) }
+    ensures taken { (k d : ℕ) → k < eights → d < 8 → sample into.new (8 * k + d)
+        ≡ sample (C.list copies.now) (place + 729 * k + d) }
 {
     for k in 0..eights {
         copies.copy_to(place + 729 * k, &mut into[8 * k..8 * k + 8]);
@@ -30,7 +31,8 @@ fn copy_rest<C: PackedList>(sizes: &Sizes, copies: &C, p: Point, into: &mut [i64
     requires point { IsPoint sizes.now p }
     requires second { p.x ≡ 8 * home p.x + 1 }
     requires fits { p.x + length into.old ≤ sizes.now.nx }
-    ensures { into.new ≡ map (λ d. sample (samples_of sizes.now (C.list copies.now)) (index_of sizes.now p + d)) (below (length into.old)) }
+    ensures { into.new ≡ map (λ d. sample (samples_of sizes.now (C.list copies.now)) (index_of sizes.now p + d))
+        (below (length into.old)) }
 {
     let _ = sizes.nx();
     let place = home_place(sizes, p);
@@ -48,7 +50,8 @@ pub fn copy_row<C: PackedList>(sizes: &Sizes, copies: &C, p: Point, into: &mut [
     requires copies { AreCopies sizes.now (C.list copies.now) }
     requires point { IsPoint sizes.now p }
     requires fits { p.x + length into.old ≤ sizes.now.nx }
-    ensures { into.new ≡ map (λ d. sample (samples_of sizes.now (C.list copies.now)) (index_of sizes.now p + d)) (below (length into.old)) }
+    ensures { into.new ≡ map (λ d. sample (samples_of sizes.now (C.list copies.now)) (index_of sizes.now p + d))
+        (below (length into.old)) }
 {
     let _ = sizes.nx();
     let first = (8 * home(p.x) + 9 - p.x) as usize;

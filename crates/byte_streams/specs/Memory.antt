@@ -31,8 +31,13 @@ abbrev pub feed_of : FedBytes → Feed
 feed_of m = record { left = Some m.left; reads = m.calls; faults = m.faults }
 
 abbrev pub tape_of : KeptBytes → Tape
-tape_of m = record { taken = Some m.taken; faults = m.faults; beside = record { held = []; others = Some ([], no_files) } }
+tape_of m = record {
+  taken = Some m.taken;
+  faults = m.faults;
+  beside = record { held = []; others = Some ([], no_files) };
+}
 
 -- the next write is one of those that fail, or what it takes does not fit
 abbrev pub RefusesWrite : KeptBytes → List ℕ → Type 0
-RefusesWrite m bytes = Contains m.failing (one_more m.calls) ⊎ (m.room < length m.taken + length (taken_of m.piece bytes))
+RefusesWrite m bytes = Contains m.failing (one_more m.calls)
+    ⊎ (m.room < length m.taken + length (taken_of m.piece bytes))

@@ -33,7 +33,11 @@ abbrev pub untold_feed : Counts → Feed
 untold_feed counts = record { left = None; reads = counts.reads; faults = counts.faults }
 
 abbrev pub untold_tape : ℕ → Tape
-untold_tape faults = record { taken = None; faults = faults; beside = record { held = []; others = Some ([], no_files) } }
+untold_tape faults = record {
+  taken = None;
+  faults = faults;
+  beside = record { held = []; others = Some ([], no_files) };
+}
 
 -- a front of the text was appended
 abbrev pub AppendsFront : Option (List ℕ) → Option (List ℕ) → List ℕ → Type 0
@@ -48,7 +52,8 @@ pub record Reads {E : Type 0} (old new : Feed) (result : Result ℕ E) (buffer :
 -- one write takes a front of the bytes, and at least one of them where there is one
 pub record Writes {E : Type 0} (old new : Tape) (result : Result ℕ E) (bytes : List ℕ) : Type 0 where
   pub some : IfOk result (λ n. 0 < length bytes → 0 < n)
-  pub gained : MatchResult result (λ n. Appends old.taken new.taken (take n bytes)) (λ _. AppendsFront old.taken new.taken bytes)
+  pub gained : MatchResult result (λ n. Appends old.taken new.taken (take n bytes))
+      (λ _. AppendsFront old.taken new.taken bytes)
   pub beside : new.beside ≡ old.beside
   pub cause : HasCause old.faults new.faults result
 
@@ -105,8 +110,10 @@ pub record TakesPiece (old new : Feed) (before after : List ℕ) (n : ℕ) : Typ
   pub end : n ≡ 0 → IsAtEnd new.left
 
 -- A text was put behind what waits in a buffer. What was written is a front of both, and the rest waits.
-pub record Stages {T E : Type 0} (old new : Tape) (waiting after : List ℕ) (result : Result T E) (text : List ℕ) : Type 0 where
-  pub gained : MatchResult result (λ _. (front : List ℕ) × (waiting ++ text ≡ front ++ after) × Appends old.taken new.taken front)
+pub record Stages {T E : Type 0} (old new : Tape) (waiting after : List ℕ) (result : Result T E) (text : List ℕ)
+    : Type 0 where
+  pub gained : MatchResult result (λ _. (front : List ℕ) × (waiting ++ text ≡ front ++ after)
+      × Appends old.taken new.taken front)
       (λ _. AppendsFront old.taken new.taken (waiting ++ text))
   pub beside : new.beside ≡ old.beside
   pub cause : HasCause old.faults new.faults result

@@ -25,15 +25,30 @@ impl Model for MemSink {
 
     ghost Value = { KeptBytes };
 
-    ghost view = { λ m. record { taken = m.bytes.items; room = m.room; piece = m.piece; failing = m.failing.items; calls = m.calls; faults = m.faults } };
+    ghost view = { λ m. record {
+      taken = m.bytes.items;
+      room = m.room;
+      piece = m.piece;
+      failing = m.failing.items;
+      calls = m.calls;
+      faults = m.faults;
+    } };
 
-    ghost invariant = { λ m. (vec_len m.bytes ≤ m.room) × (m.room ≤ vec_capacity m.bytes) × IfSome m.piece (λ most. 0 < most) };
+    ghost invariant = { λ m. (vec_len m.bytes ≤ m.room) × (m.room ≤ vec_capacity m.bytes)
+        × IfSome m.piece (λ most. 0 < most) };
 }
 
 impl MemSink {
     /// Reserves `room` bytes. A write takes its whole piece. The calls numbered in `failing` fail, counted from 1.
     pub fn new(alloc: Global, room: u32, failing: Vec<u64>) -> Result<MemSink, Memory>
-        ensures { IfOk result (λ m. m ≡ record { taken = []; room = room; piece = None; failing = failing.items; calls = 0; faults = 0 }) }
+        ensures { IfOk result (λ m. m ≡ record {
+          taken = [];
+          room = room;
+          piece = None;
+          failing = failing.items;
+          calls = 0;
+          faults = 0;
+        }) }
     {
         MemSink::reserved(alloc, room, None, failing)
     }
@@ -47,7 +62,14 @@ impl MemSink {
         failing: Vec<u64>,
     ) -> Result<MemSink, Memory>
         requires { 0 < piece }
-        ensures { IfOk result (λ m. m ≡ record { taken = []; room = room; piece = Some piece; failing = failing.items; calls = 0; faults = 0 }) }
+        ensures { IfOk result (λ m. m ≡ record {
+          taken = [];
+          room = room;
+          piece = Some piece;
+          failing = failing.items;
+          calls = 0;
+          faults = 0;
+        }) }
     {
         MemSink::reserved(alloc, room, Some(piece), failing)
     }
@@ -59,7 +81,14 @@ impl MemSink {
         failing: Vec<u64>,
     ) -> Result<MemSink, Memory>
         requires { IfSome piece (λ most. 0 < most) }
-        ensures { IfOk result (λ m. m ≡ record { taken = []; room = room; piece = piece; failing = failing.items; calls = 0; faults = 0 }) }
+        ensures { IfOk result (λ m. m ≡ record {
+          taken = [];
+          room = room;
+          piece = piece;
+          failing = failing.items;
+          calls = 0;
+          faults = 0;
+        }) }
     {
         let bytes = Vec::with_capacity(alloc, room as usize)?;
         Ok(MemSink {

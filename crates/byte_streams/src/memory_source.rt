@@ -22,7 +22,13 @@ impl Model for MemSource {
 
     ghost Value = { FedBytes };
 
-    ghost view = { λ m. record { left = drop m.at m.bytes.items; piece = m.piece; failing = m.failing.items; calls = m.calls; faults = m.faults } };
+    ghost view = { λ m. record {
+      left = drop m.at m.bytes.items;
+      piece = m.piece;
+      failing = m.failing.items;
+      calls = m.calls;
+      faults = m.faults;
+    } };
 
     ghost invariant = { λ m. (m.at ≤ length m.bytes.items) × (0 < m.piece) };
 }
@@ -31,7 +37,13 @@ impl MemSource {
     /// Gives the bytes, at most `piece` at a call. The calls numbered in `failing` fail, counted from 1.
     pub fn new(bytes: Vec<u8>, piece: u32, failing: Vec<u64>) -> MemSource
         requires { 0 < piece }
-        ensures { result ≡ record { left = bytes.items; piece = piece; failing = failing.items; calls = 0; faults = 0 } }
+        ensures { result ≡ record {
+          left = bytes.items;
+          piece = piece;
+          failing = failing.items;
+          calls = 0;
+          faults = 0;
+        } }
     {
         MemSource {
             bytes,

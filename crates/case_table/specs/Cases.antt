@@ -12,13 +12,15 @@ ambiguous_flags signs = map (λ f. is_ambiguous (face_signs signs f)) (below 6)
 
 -- whether each joined face is ambiguous
 abbrev pub are_ambiguous : List Bool → List Bool → Bool
-are_ambiguous signs joined = list_all (λ f. not (holds_at joined f) || is_ambiguous (face_signs signs f)) (below (length joined))
+are_ambiguous signs joined = list_all (λ f. not (holds_at joined f) || is_ambiguous (face_signs signs f))
+    (below (length joined))
 
 -- the sets of joined faces among some faces, as binary numbers go, the first face lowest
 abbrev pub joined_sets : List Bool → List ℕ → List (List Bool)
 joined_sets signs [] = [] ∷ []
 joined_sets signs (f ∷ fs) =
-    flat_map (λ set. if is_ambiguous (face_signs signs f) then (false ∷ set) ∷ (true ∷ set) ∷ [] else (false ∷ set) ∷ [])
+    flat_map (λ set. if is_ambiguous (face_signs signs f) then (false ∷ set) ∷ (true ∷ set) ∷ []
+    else (false ∷ set) ∷ [])
     (joined_sets signs fs)
 
 -- all cases in order: by sign byte, then by the set of joined faces

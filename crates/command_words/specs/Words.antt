@@ -138,7 +138,8 @@ session_by words = do
 
 unfoldable pub session_of : List (List ℕ) → Option Request
 session_of words =
-    if only_options (level_option ∷ pad_option ∷ bricks_option ∷ pages_option ∷ []) words then session_by words else None
+    if only_options (level_option ∷ pad_option ∷ bricks_option ∷ pages_option ∷ []) words then session_by words
+    else None
 
 -- `check FORMAT`
 unfoldable pub check_of : List (List ℕ) → Option Request
@@ -196,7 +197,8 @@ command_of (command ∷ words) =
 
 -- The request of a whole command line: `--help` alone or behind a command, `--version` alone, or a command with what it wants.
 unfoldable pub request_of : List (List ℕ) → Option Request
-request_of words = if asks_help commands words then Some Help else if asks_version words then Some Version else command_of words
+request_of words = if asks_help commands words then Some Help else if asks_version words then Some Version
+    else command_of words
 
 -- a pad that is asked for lies in the range of a sample
 abbrev pub HasSamplePad : Request → Type 0

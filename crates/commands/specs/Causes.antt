@@ -15,19 +15,24 @@ use Rattle.commands.specs.Volumes.{FileIs}
 
 -- the bytes that were read are no volume, or its pad is refused
 abbrev pub HasBadVolume : Request → Call → Type 0
-HasBadVolume (Points level) call = IfSome call.streams.input.left (λ bytes. (fault : VolumeFault) × (volume_of None level bytes ≡ Err fault))
-HasBadVolume (Extract level pad format) call = IfSome call.streams.input.left (λ bytes. (fault : VolumeFault) × (volume_of pad level bytes ≡ Err fault))
-HasBadVolume (Session level pad name bricks pages) call = FileIs call.store name (λ bytes. (fault : VolumeFault) × (volume_of pad level bytes ≡ Err fault))
+HasBadVolume (Points level) call = IfSome call.streams.input.left (λ bytes. (fault : VolumeFault)
+    × (volume_of None level bytes ≡ Err fault))
+HasBadVolume (Extract level pad format) call = IfSome call.streams.input.left (λ bytes. (fault : VolumeFault)
+    × (volume_of pad level bytes ≡ Err fault))
+HasBadVolume (Session level pad name bricks pages) call = FileIs call.store name (λ bytes. (fault : VolumeFault)
+    × (volume_of pad level bytes ≡ Err fault))
 HasBadVolume request call = ⊥
 
 -- the bytes that were read are no mesh text
 abbrev pub HasBadMesh : Request → Call → Type 0
-HasBadMesh (Check format) call = IfSome call.streams.input.left (λ bytes. (fault : MeshFault) × (mesh_in format bytes ≡ Err fault))
+HasBadMesh (Check format) call = IfSome call.streams.input.left (λ bytes. (fault : MeshFault)
+    × (mesh_in format bytes ≡ Err fault))
 HasBadMesh request call = ⊥
 
 -- the mesh that was read is no surface
 abbrev pub HasBrokenMesh : Request → Call → Type 0
-HasBrokenMesh (Check format) call = IfSome call.streams.input.left (λ bytes. (v : Verdict) × (is_broken v ≡ true) × HasVerdict format v bytes)
+HasBrokenMesh (Check format) call = IfSome call.streams.input.left (λ bytes. (v : Verdict) × (is_broken v ≡ true)
+    × HasVerdict format v bytes)
 HasBrokenMesh request call = ⊥
 
 -- There are more bytes than the command reads: of the input, or where a session was not opened, of its volume's file.
@@ -42,7 +47,8 @@ HasTooMany request call = ⊥
 
 -- the shelf failed, or it tells its files and has none of the session's name
 abbrev pub HasNoFile : Request → Call → Type 0
-HasNoFile (Session level pad name bricks pages) call = Rose call.store.faults call.store_after.faults ⊎ Lacks name call.store.files
+HasNoFile (Session level pad name bricks pages) call = Rose call.store.faults call.store_after.faults
+    ⊎ Lacks name call.store.files
 HasNoFile request call = ⊥
 
 -- the words ask for something of which this is true

@@ -52,15 +52,18 @@ is_broken (verdicts.SplitVertex v) = true
 
 -- the whole input was read, its verdict refuses the mesh or not, and the verdict's line was written
 abbrev pub TellsVerdict : TwoWayFormat → Bool → Streams → Type 0
-TellsVerdict format broken call = (v : Verdict) × (is_broken v ≡ broken) × HasMesh format call.input call.input_after v × Writes call (verdict_text v)
+TellsVerdict format broken call = (v : Verdict) × (is_broken v ≡ broken)
+    × HasMesh format call.input call.input_after v × Writes call (verdict_text v)
 
 -- A command that reads a mesh text from its input and says its verdict.
 abbrev pub Checks : TwoWayFormat → Streams → Answer → Type 0
 Checks format call answers.Done = TellsVerdict format false call
 Checks format call answers.MeshRefused = TellsVerdict format true call
-Checks format call answers.OutputFault = (v : Verdict) × HasMesh format call.input call.input_after v × WritesFront call (verdict_text v)
+Checks format call answers.OutputFault = (v : Verdict) × HasMesh format call.input call.input_after v
+    × WritesFront call (verdict_text v)
 Checks format call answers.InputFault = Rose call.input.faults call.input_after.faults × NothingWritten call
-Checks format call answers.InputTooLong = IfSome call.input.left (λ bytes. mesh_limit < length bytes) × NothingWritten call
+Checks format call answers.InputTooLong = IfSome call.input.left (λ bytes. mesh_limit < length bytes)
+    × NothingWritten call
 Checks format call (answers.BadMesh fault) =
     ReadWhole mesh_limit call × IfSome call.input.left (λ bytes. mesh_in format bytes ≡ Err fault) × NothingWritten call
 Checks format call answers.Memory = NothingWritten call

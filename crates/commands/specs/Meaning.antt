@@ -15,7 +15,8 @@ use Rattle.mesh_text.specs.declared.format.TwoWayFormat.TheVariants.{Ply, Obj}
 
 -- the text of the mesh of a volume at a level, from scratch: that of a bench that was opened on it
 abbrev pub text_of_volume : TwoWayFormat → ℤ → Volume → List ℕ
-text_of_volume format level v = benches.text_of_state format (record { volume = v; level = level; past = []; future = [] })
+text_of_volume format level v = benches.text_of_state format
+    (record { volume = v; level = level; past = []; future = [] })
 
 -- what `extract` gives
 abbrev pub mesh_given : ℤ → Option ℤ → TwoWayFormat → List ℕ → Result (List ℕ) VolumeFault

@@ -28,9 +28,11 @@ call_with streams store shelf shelf_after left steps steps_after = record {
 }
 
 -- a call, by how what it is given is seen, and what that is before it and after it
-abbrev pub call_between : {S K H : Type 0} → (S → Feed) → (K → Tape) → (H → Store) → S → S → K → K → H → H → Option Workbench → ℕ → ℕ → Call
+abbrev pub call_between : {S K H : Type 0} → (S → Feed) → (K → Tape) → (H → Store) → S → S → K → K → H → H →
+    Option Workbench → ℕ → ℕ → Call
 call_between feed tape store input input_after output output_after shelf shelf_after left steps steps_after =
-    call_with (streams_between feed tape input input_after output output_after) store shelf shelf_after left steps steps_after
+    call_with (streams_between feed tape input input_after output output_after) store shelf shelf_after left steps
+    steps_after
 
 -- the shelf was not touched, no bench is left, and no cell was classified
 pub record LeavesShelf (call : Call) : Type 0 where

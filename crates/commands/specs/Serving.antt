@@ -27,14 +27,21 @@ use Rattle.endings.specs.declared.answer.Status.TheVariants as statuses
 
 -- what a session is asked for
 abbrev pub asked_for : ℤ → Option ℤ → List ℕ → ℕ → ℕ → Asked
-asked_for level pad name bricks pages = record { level = level; pad = pad; name = name; limits = record { bricks = bricks; pages = pages } }
+asked_for level pad name bricks pages = record {
+  level = level;
+  pad = pad;
+  name = name;
+  limits = record { bricks = bricks; pages = pages };
+}
 
 -- what a command does
 abbrev pub Serves : Request → Call → Answer → Type 0
 Serves (requests.Points level) call answer = Converts (points_given level) call.streams answer × LeavesShelf call
 Serves (requests.Extract level pad format) call answer =
-    Converts (mesh_given level pad format) call.streams answer × LeavesShelf call × ShowsMesh level pad format call.streams answer
-Serves (requests.Session level pad name bricks pages) call answer = RunsSession (asked_for level pad name bricks pages) call answer
+    Converts (mesh_given level pad format) call.streams answer × LeavesShelf call
+    × ShowsMesh level pad format call.streams answer
+Serves (requests.Session level pad name bricks pages) call answer = RunsSession
+    (asked_for level pad name bricks pages) call answer
 Serves (requests.Check format) call answer = Checks format call.streams answer × LeavesShelf call
 Serves (requests.Gen seed sizes) call answer = Generates seed sizes call.streams answer × LeavesShelf call
 Serves (requests.Soak seed) call answer = DoesSoak seed call answer
@@ -58,12 +65,14 @@ CanServe (requests.Extract level pad format) call =
     (bytes : List ℕ) × (text : List ℕ) × Brings call volume_limit bytes × (mesh_given level pad format bytes ≡ Ok text)
 CanServe (requests.Session level pad name bricks pages) call =
     (script : List ℕ) × (files : Files) × (bytes : List ℕ) × (v : Volume) × Brings call script_limit script
-    × (call.store.files ≡ Some files) × (get files name ≡ Some bytes) × (length bytes ≤ volume_limit) × (volume_of pad level bytes ≡ Ok v)
+    × (call.store.files ≡ Some files) × (get files name ≡ Some bytes) × (length bytes ≤ volume_limit)
+    × (volume_of pad level bytes ≡ Ok v)
 CanServe (requests.Gen seed sizes) call = Unit {0}
 CanServe (requests.Soak seed) call = Unit {0}
 CanServe requests.Help call = Unit {0}
 CanServe requests.Version call = Unit {0}
-CanServe (requests.Check format) call = (bytes : List ℕ) × (m : Mesh) × Brings call mesh_limit bytes × (mesh_in format bytes ≡ Ok m)
+CanServe (requests.Check format) call = (bytes : List ℕ) × (m : Mesh) × Brings call mesh_limit bytes
+    × (mesh_in format bytes ≡ Ok m)
 
 -- It is carried out, or memory is wanting, of which help and the version take none; a session's volume may have failed to be
 -- read, where the shelf's count rose. Where it did not rise, each reply is the machine's, or says that memory was wanting.
@@ -71,10 +80,13 @@ abbrev pub IsCarriedOut : Request → Call → Status → Type 0
 IsCarriedOut (requests.Points level) call status = (status ≡ statuses.Done) ⊎ (status ≡ statuses.Memory)
 IsCarriedOut (requests.Extract level pad format) call status = (status ≡ statuses.Done) ⊎ (status ≡ statuses.Memory)
 IsCarriedOut (requests.Session level pad name bricks pages) call status =
-    ((status ≡ statuses.Done) ⊎ (status ≡ statuses.Memory) ⊎ ((status ≡ statuses.ShelfFault) × Rose call.store.faults call.store_after.faults))
+    ((status ≡ statuses.Done) ⊎ (status ≡ statuses.Memory)
+    ⊎ ((status ≡ statuses.ShelfFault) × Rose call.store.faults call.store_after.faults))
     × HasSureReplies (asked_for level pad name bricks pages) call
 IsCarriedOut (requests.Gen seed sizes) call status = (status ≡ statuses.Done) ⊎ (status ≡ statuses.Memory)
-IsCarriedOut (requests.Soak seed) call status = ((status ≡ statuses.Done) ⊎ (status ≡ statuses.Memory)) × HasSureSoak seed call
+IsCarriedOut (requests.Soak seed) call status = ((status ≡ statuses.Done) ⊎ (status ≡ statuses.Memory))
+    × HasSureSoak seed call
 IsCarriedOut requests.Help call status = status ≡ statuses.Done
 IsCarriedOut requests.Version call status = status ≡ statuses.Done
-IsCarriedOut (requests.Check format) call status = (status ≡ statuses.Done) ⊎ (status ≡ statuses.MeshRefused) ⊎ (status ≡ statuses.Memory)
+IsCarriedOut (requests.Check format) call status = (status ≡ statuses.Done) ⊎ (status ≡ statuses.MeshRefused)
+    ⊎ (status ≡ statuses.Memory)

@@ -32,14 +32,16 @@ writes_mesh formats.Obj name = commands.Obj name
 
 -- The mesh of a state was written: the reply tells its numbers, the file of the name holds its text, which is the
 -- extraction from scratch of the volume and level as they then are, and it is watertight.
-pub record WroteMesh (s : State) (files : Option Files) (format : TwoWayFormat) (name reply : List ℕ) (after : Option Files) : Type 0 where
+pub record WroteMesh (s : State) (files : Option Files) (format : TwoWayFormat) (name reply : List ℕ)
+    (after : Option Files) : Type 0 where
   pub told : reply ≡ says_of s (writes_mesh format name)
   pub file : after ≡ with_file name (text_of_state format s) files
   pub watertight : IsWatertight s.volume s.level
 
 -- A line among those that were run asked for a mesh. The lines before it, with their replies, led to a state; it wrote the
 -- mesh of that state, or was answered that the shelf failed; and the session went on from there.
-pub record MeshTurn (w v : World) (before later replies : List (List ℕ)) (format : TwoWayFormat) (name : List ℕ) : Type 0 where
+pub record MeshTurn (w v : World) (before later replies : List (List ℕ)) (format : TwoWayFormat) (name : List ℕ)
+    : Type 0 where
   pub told : List (List ℕ)
   pub reply : List ℕ
   pub rest : List (List ℕ)
@@ -60,7 +62,8 @@ WritesReplies ending old new replies = Appends old.taken new.taken (replies_text
 abbrev pub MeshTurns : World → World → List (List ℕ) → List (List ℕ) → Type 0
 MeshTurns w v lines replies =
     (before : List (List ℕ)) (asked : List ℕ) (later : List (List ℕ)) (format : TwoWayFormat) (name : List ℕ)
-    → lines ≡ before ++ asked ∷ later → read_of asked ≡ Ok (Some (writes_mesh format name)) → MeshTurn w v before later replies format name
+    → lines ≡ before ++ asked ∷ later → read_of asked ≡ Ok (Some (writes_mesh format name)) →
+    MeshTurn w v before later replies format name
 
 -- Lines were run, and their replies are what was written: so it is at each line that asked for a mesh.
 pub record ShowsMeshes (w v : World) (ending : Ending) (lines : List (List ℕ)) : Type 0 where

@@ -34,7 +34,8 @@ HoldsFile asked call volume = FileIs call.store asked.name (λ bytes. volume_of 
 
 -- what a session changes, before it and after it
 abbrev pub world_before : Asked → Call → Volume → World
-world_before asked call volume = world (first_bench volume asked.level asked.limits) call.steps call.store call.streams.output
+world_before asked call volume = world (first_bench volume asked.level asked.limits) call.steps call.store
+    call.streams.output
 
 abbrev pub world_after : Call → Workbench → World
 world_after call last = world last call.steps_after call.store_after call.streams.output_after

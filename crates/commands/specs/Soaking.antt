@@ -41,7 +41,8 @@ soak_limits = record { bricks = 4096; pages = 65536 }
 
 -- all that the script changes, before it
 abbrev pub soak_world : ℕ → Call → World
-soak_world seed call = world (first_bench (soak_volume seed) soak_level soak_limits) call.steps call.store call.streams.output
+soak_world seed call = world (first_bench (soak_volume seed) soak_level soak_limits) call.steps call.store
+    call.streams.output
 
 -- ---- lines and their replies
 
@@ -113,7 +114,8 @@ abbrev pub RunsLines : List (List ℕ) → World → World → Answer → Type 0
 RunsLines script w v answers.Done = Soaks w v script
 RunsLines script w v answers.Memory = (lines : List (List ℕ)) × (wanting : List ℕ) × (more : List (List ℕ))
     × (script ≡ lines ++ wanting ∷ more) × (is_fill (read_of wanting) ≡ true) × Soaks w v lines
-RunsLines script w v answers.OutputFault = (lines : List (List ℕ)) × (more : List (List ℕ)) × (script ≡ lines ++ more) × SoakBreaks w v lines
+RunsLines script w v answers.OutputFault = (lines : List (List ℕ)) × (more : List (List ℕ))
+    × (script ≡ lines ++ more) × SoakBreaks w v lines
 RunsLines script w v answer = ⊥
 
 -- memory was wanting before the first line
@@ -131,7 +133,8 @@ pub record RunsSoak (seed : ℕ) (call : Call) (answer : Answer) : Type 0 where
 
 -- and nothing is read
 abbrev pub DoesSoak : ℕ → Call → Answer → Type 0
-DoesSoak seed call answer = (call.streams.input_after ≡ call.streams.input) × (StaysIdle call answer ⊎ RunsSoak seed call answer)
+DoesSoak seed call answer = (call.streams.input_after ≡ call.streams.input)
+    × (StaysIdle call answer ⊎ RunsSoak seed call answer)
 
 -- ---- what it leaves of the mesh
 

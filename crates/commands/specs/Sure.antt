@@ -21,16 +21,19 @@ pub record RepliesSurely (asked : Asked) (call : Call) (last : Workbench) : Type
   pub ends : EndsAfter (session_between asked call volume last) ending lines
   pub replies : List (List ℕ)
   pub written : WritesReplies ending call.streams.output call.streams.output_after replies
-  pub sure : SurelyFollowed (first_bench volume asked.level asked.limits).state call.store.files lines replies last.state call.store_after.files
+  pub sure : SurelyFollowed (first_bench volume asked.level asked.limits).state call.store.files lines replies
+      last.state call.store_after.files
 
 -- so it is in a session that was opened, where the shelf's count did not rise
 abbrev pub HasSureReplies : Asked → Call → Type 0
-HasSureReplies asked call = (Rose call.store.faults call.store_after.faults → ⊥) → IfSome call.left (RepliesSurely asked call)
+HasSureReplies asked call = (Rose call.store.faults call.store_after.faults → ⊥) →
+    IfSome call.left (RepliesSurely asked call)
 
 -- the same of the lines of a soak, none of whose replies says that memory was wanting
 pub record SoaksSurely (seed : ℕ) (call : Call) (last : Workbench) : Type 0 where
   pub led : SoakLedTo seed call last
-  pub sure : SurelyFollowed (first_bench (soak_volume seed) soak_level soak_limits).state call.store.files led.lines led.replies last.state call.store_after.files
+  pub sure : SurelyFollowed (first_bench (soak_volume seed) soak_level soak_limits).state call.store.files led.lines
+      led.replies last.state call.store_after.files
 
 abbrev pub HasSureSoak : ℕ → Call → Type 0
 HasSureSoak seed call = (Rose call.store.faults call.store_after.faults → ⊥) → IfSome call.left (SoaksSurely seed call)

@@ -17,12 +17,15 @@ IsNotTaken pad level v reasons.Memory = Unit {0}
 
 -- told files have one of this name, of at most so many bytes, of which this is true
 abbrev pub FileIs : Store → List ℕ → (List ℕ → Type 0) → Type 0
-FileIs store name P = IfSome store.files (λ files. (bytes : List ℕ) × (get files name ≡ Some bytes) × (length bytes ≤ volume_limit) × P bytes)
+FileIs store name P = IfSome store.files (λ files. (bytes : List ℕ) × (get files name ≡ Some bytes)
+    × (length bytes ≤ volume_limit) × P bytes)
 
 -- why there is no volume in the file of a name
 abbrev pub LacksVolume : Option ℤ → ℤ → List ℕ → Store → Store → Answer → Type 0
 LacksVolume pad level name old new answers.ShelfFault = Rose old.faults new.faults ⊎ Lacks name old.files
-LacksVolume pad level name old new answers.InputTooLong = IfSome old.files (λ files. volume_limit < length (content files name))
-LacksVolume pad level name old new (answers.BadVolume fault) = FileIs old name (λ bytes. volume_of pad level bytes ≡ Err fault)
+LacksVolume pad level name old new answers.InputTooLong = IfSome old.files (λ files. volume_limit
+    < length (content files name))
+LacksVolume pad level name old new (answers.BadVolume fault) = FileIs old name (λ bytes. volume_of pad level bytes
+    ≡ Err fault)
 LacksVolume pad level name old new answers.Memory = Unit {0}
 LacksVolume pad level name old new answer = ⊥

@@ -54,7 +54,8 @@ fn put_text<S: Samples, K: Sink>(
     mesh: &mut ListMesh<'_, S>,
     asked: Asked,
 ) -> Result<Written, Failed>
-    ensures { (v : Volume) (level : ℤ) → is_some asked.pad ≡ is_some v.pad → mesh.old ≡ record { grid = v.grid; samples = v.samples; level = level }
+    ensures { (v : Volume) (level : ℤ) → is_some asked.pad ≡ is_some v.pad → mesh.old
+        ≡ record { grid = v.grid; samples = v.samples; level = level }
         → Puts (K.seen sink.old) (K.seen sink.new) result (text_of_volume asked.format level v) }
 {
     mesh.write(asked.style(), sink)
@@ -135,7 +136,8 @@ fn extract_from<S: Samples, K: Sink>(
 ) -> Answer
     requires samples { S.list samples.now ≡ volume.now.samples }
     requires range { IfSome asked.pad IsSample }
-    ensures text { WritesGiven (mesh_in asked.level asked.pad asked.format (unpadded volume.now)) (K.seen output.old) (K.seen output.new) result }
+    ensures text { WritesGiven (mesh_in asked.level asked.pad asked.format (unpadded volume.now))
+        (K.seen output.old) (K.seen output.new) result }
     ensures voxels { IsVoxels volume.now }
 {
     extract_samples(alloc, asked, volume.sizes(), samples, output)
@@ -149,7 +151,8 @@ fn extract_raw<K: Sink>(
     output: &mut K,
 ) -> Answer
     requires { IfSome asked.pad IsSample }
-    ensures text { WritesGiven (mesh_in asked.level asked.pad asked.format (unpadded volume.now)) (K.seen output.old) (K.seen output.new) result }
+    ensures text { WritesGiven (mesh_in asked.level asked.pad asked.format (unpadded volume.now))
+        (K.seen output.old) (K.seen output.new) result }
     ensures voxels { IsVoxels volume.now }
 {
     with_samples!(volume.samples(), samples => extract_from(alloc, asked, volume, &samples, output))
@@ -158,7 +161,8 @@ fn extract_raw<K: Sink>(
 /// Writes the mesh of the volume in the bytes of a file, in its pad where it is to have one.
 fn extract_bytes<K: Sink>(alloc: Global, asked: Asked, bytes: Vec<u8>, output: &mut K) -> Answer
     requires { IfSome asked.pad IsSample }
-    ensures text { WritesGiven (mesh_given asked.level asked.pad asked.format bytes.items) (K.seen output.old) (K.seen output.new) result }
+    ensures text { WritesGiven (mesh_given asked.level asked.pad asked.format bytes.items) (K.seen output.old)
+        (K.seen output.new) result }
     ensures surface { result ≡ answers.Done → IsMeshWatertight asked.level asked.pad bytes.items }
 {
     let read = match read_file_volume(alloc, &bytes) {
@@ -182,8 +186,10 @@ pub fn extract<S: Source, K: Sink>(
     output: &mut K,
 ) -> Answer
     requires { IfSome pad IsSample }
-    ensures converts { Converts (mesh_given level pad format) (streams_between S.seen K.seen input.old input.new output.old output.new) result }
-    ensures shows { ShowsMesh level pad format (streams_between S.seen K.seen input.old input.new output.old output.new) result }
+    ensures converts { Converts (mesh_given level pad format)
+        (streams_between S.seen K.seen input.old input.new output.old output.new) result }
+    ensures shows { ShowsMesh level pad format
+        (streams_between S.seen K.seen input.old input.new output.old output.new) result }
     ensures reading { ReadsWithin volume_limit (S.seen input.old) (S.seen input.new) }
 {
     match bytes_of_input(alloc, input) {

@@ -57,7 +57,8 @@ fn bricks_of<S: Samples>(
     requires voxels { IsVoxels (record { grid = sizes; kind = kind; samples = S.list samples.now }) }
     requires range { IfSome pad IsSample }
     ensures volume { IfOk result
-        (λ b. with_pad pad level (unpadded (record { grid = sizes; kind = kind; samples = S.list samples.now })) ≡ Ok b) }
+        (λ b. with_pad pad level (unpadded (record { grid = sizes; kind = kind; samples = S.list samples.now }))
+        ≡ Ok b) }
     ensures above { IfOk result (λ b. begin_fault b.pad level ≡ None) }
     ensures fault { IfErr result
         (IsNotTaken pad level (unpadded (record { grid = sizes; kind = kind; samples = S.list samples.now }))) }

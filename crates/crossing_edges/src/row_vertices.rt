@@ -102,8 +102,10 @@ impl RowVertices {
         requires points { start + length flags.now ≤ point_count leveled.now.grid }
         requires flags { flags.now ≡ flags_from leveled.now.grid (heights leveled.now) start (length flags.now) }
         requires room { at + 3 * length flags.now ≤ ROOM }
-        ensures names { PutsNames leveled.now (3 * start) (3 * length flags.now) at self.old.names result self.new.names }
-        ensures places { PutsPlaces leveled.now (3 * start) (3 * length flags.now) at self.old.places result self.new.places }
+        ensures names { PutsNames leveled.now (3 * start) (3 * length flags.now) at self.old.names result
+            self.new.names }
+        ensures places { PutsPlaces leveled.now (3 * start) (3 * length flags.now) at self.old.places result
+            self.new.places }
         ensures end { result ≤ at + 3 * length flags.now }
     {
         let _ = leveled.sizes();
@@ -127,8 +129,10 @@ impl RowVertices {
         requires points { start + length flags.now ≤ point_count leveled.now.grid }
         requires flags { flags.now ≡ flags_from leveled.now.grid (heights leveled.now) start (length flags.now) }
         requires room { at + 3 * length flags.now ≤ ROOM }
-        ensures names { PutsNames leveled.now (3 * start) (3 * length flags.now) at self.old.names result self.new.names }
-        ensures places { PutsPlaces leveled.now (3 * start) (3 * length flags.now) at self.old.places result self.new.places }
+        ensures names { PutsNames leveled.now (3 * start) (3 * length flags.now) at self.old.names result
+            self.new.names }
+        ensures places { PutsPlaces leveled.now (3 * start) (3 * length flags.now) at self.old.places result
+            self.new.places }
         ensures end { result ≤ at + 3 * length flags.now }
     {
         if begin_none(flags, 0) {
@@ -142,8 +146,10 @@ impl RowVertices {
         requires points { start + length flags.now ≤ point_count leveled.now.grid }
         requires flags { flags.now ≡ flags_from leveled.now.grid (heights leveled.now) start (length flags.now) }
         requires room { 3 * length flags.now ≤ ROOM }
-        ensures names { PutsNames leveled.now (3 * start) (3 * length flags.now) 0 self.old.names result self.new.names }
-        ensures places { PutsPlaces leveled.now (3 * start) (3 * length flags.now) 0 self.old.places result self.new.places }
+        ensures names { PutsNames leveled.now (3 * start) (3 * length flags.now) 0 self.old.names result
+            self.new.names }
+        ensures places { PutsPlaces leveled.now (3 * start) (3 * length flags.now) 0 self.old.places result
+            self.new.places }
         ensures end { result ≤ 3 * length flags.now }
     {
         let _ = leveled.sizes();

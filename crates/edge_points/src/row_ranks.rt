@@ -66,7 +66,10 @@ impl RowRanks {
         requires y { y < self.old.grid.ny }
         requires z { z < self.old.grid.nz }
         requires crossing { crossing ≤ 3 * self.old.grid.nx }
-        ensures { self.new ≡ record self.old { numbers = slice_set self.old.numbers (row_of self.old.grid y z) crossing } }
+        ensures { self.new ≡ record self.old {
+          numbers = slice_set self.old.numbers (row_of self.old.grid y z)
+              crossing;
+        } }
     {
         let row = (y + self.sizes.ny() * z) as usize;
         self.numbers[row] = crossing;

@@ -35,7 +35,10 @@ pub fn put_sample(store: &mut BrickStore, point: Point, value: &i64)
     requires point { IsPoint store.old.grid point }
     requires inner { IsInner store.old (index_of store.old.grid point) }
     requires kind { IsOfKind store.old.kind value.now }
-    ensures { store.new ≡ record store.old { samples = slice_set store.old.samples (index_of store.old.grid point) value.now } }
+    ensures { store.new ≡ record store.old {
+      samples = slice_set store.old.samples (index_of store.old.grid point)
+          value.now;
+    } }
 {
     store.set(point, *value);
 }

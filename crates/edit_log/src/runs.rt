@@ -126,7 +126,8 @@ fn equal_samples(
     area: &FillBox,
 ) -> Result<Option<Vec<Run>>, AllocError>
     requires { IsPoint store.now.grid area.now.high }
-    ensures { IfOk result (λ r. IfSome r (λ runs. values_of runs.items ≡ area_samples store.now.grid area.now store.now.samples)) }
+    ensures { IfOk result (λ r. IfSome r (λ runs. values_of runs.items
+        ≡ area_samples store.now.grid area.now store.now.samples)) }
 {
     let sizes = store.sizes();
     let count = area_count(&sizes, area);
@@ -226,7 +227,10 @@ fn write_runs(store: &mut BrickStore, area: &FillBox, runs: &[Run])
     requires inner { IsInnerArea store.old area.now }
     requires count { length (values_of runs.now) ≡ area_count area.now }
     requires kind { All (IsOfKind store.old.kind) (values_of runs.now) }
-    ensures { store.new ≡ record store.old { samples = restored store.old.grid area.now (values_of runs.now) store.old.samples } }
+    ensures { store.new ≡ record store.old {
+      samples = restored store.old.grid area.now (values_of runs.now)
+          store.old.samples;
+    } }
 {
     let sizes = store.sizes();
     let count = area_count(&sizes, area);
@@ -249,7 +253,10 @@ fn write_equal(store: &mut BrickStore, area: &FillBox, runs: &[Run])
     requires inner { IsInnerArea store.old area.now }
     requires count { length (values_of runs.now) ≡ area_count area.now }
     requires kind { All (IsOfKind store.old.kind) (values_of runs.now) }
-    ensures { store.new ≡ record store.old { samples = restored store.old.grid area.now (values_of runs.now) store.old.samples } }
+    ensures { store.new ≡ record store.old {
+      samples = restored store.old.grid area.now (values_of runs.now)
+          store.old.samples;
+    } }
 {
     if runs.len() == 1 {
         let _ = (store.sizes(), area.low());
@@ -301,7 +308,10 @@ impl Runs {
         requires inner { IsInnerArea store.old area.now }
         requires count { length self.now ≡ area_count area.now }
         requires kind { All (IsOfKind store.old.kind) self.now }
-        ensures { store.new ≡ record store.old { samples = restored store.old.grid area.now self.now store.old.samples } }
+        ensures { store.new ≡ record store.old {
+          samples = restored store.old.grid area.now self.now
+              store.old.samples;
+        } }
     {
         match &self.kept {
             Kept::Equal(runs) => write_equal(store, area, runs),

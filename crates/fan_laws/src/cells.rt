@@ -9,7 +9,8 @@ ghost use Rattle.std.specs.Prelude.{ℕ, ◌<◌, ◌≡◌, true};
 /// The segments of a face cycle with these shifted values and of the reversed cycle are each other's reverses.
 /// So two cells that share a face run its segments in opposite directions.
 pub fn face_agrees(cycle: [i64; 4])
-    ensures { (i k : ℕ) → i < 4 → k < 4 → has_pair (cycle_segments cycle) i k ≡ has_pair (reversed_segments cycle) (reversed_edge k) (reversed_edge i) }
+    ensures { (i k : ℕ) → i < 4 → k < 4 → has_pair (cycle_segments cycle) i k
+        ≡ has_pair (reversed_segments cycle) (reversed_edge k) (reversed_edge i) }
 {}
 
 /// The segments of a cell with these shifted values at its corners permute its crossing edges, and each of its

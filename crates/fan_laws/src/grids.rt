@@ -25,9 +25,11 @@ pub fn pair_determines_face(a: EdgeName, b: EdgeName, sizes: &Sizes)
 /// A lattice edge names one vertex where it is crossing, and else none; no two vertices have one name; and the number of a vertex,
 /// by which triangles speak of it, is its place in the list of vertices.
 pub fn one_vertex()
-    ensures edges { (g : Grid) (s : ℕ → ℤ) (n : ℕ) → n < name_bound g → count_by (λ m. m == n) (vertex_names g s) ≡ (if is_crossing g s n then 1 else 0) }
+    ensures edges { (g : Grid) (s : ℕ → ℤ) (n : ℕ) → n < name_bound g → count_by (λ m. m == n) (vertex_names g s)
+        ≡ (if is_crossing g s n then 1 else 0) }
     ensures all { (g : Grid) (s : ℕ → ℤ) (n : ℕ) → count_by (λ m. m == n) (vertex_names g s) ≤ 1 }
-    ensures places { (g : Grid) (s : ℕ → ℤ) (i : ℕ) → i < length (vertices g s) → number_of g s (slice_index (vertex_names g s) i) ≡ i }
+    ensures places { (g : Grid) (s : ℕ → ℤ) (i : ℕ) → i < length (vertices g s) →
+        number_of g s (slice_index (vertex_names g s) i) ≡ i }
 {}
 
 /// A mesh has at most seven times as many vertices and twelve times as many triangles as its grid has points.
@@ -43,7 +45,8 @@ pub fn plane_of_mesh()
 
 /// The contour lines of a plane together hold each of its segments exactly once, and nothing else.
 pub fn lines_hold_segments()
-    ensures { (g : Grid) (s : ℕ → ℤ) (k a b : ℕ) → k < g.nz → count_pair (flat_map line_pairs (contours g s k)) (a, b) ≡ count_pair (plane_pairs g s k) (a, b) }
+    ensures { (g : Grid) (s : ℕ → ℤ) (k a b : ℕ) → k < g.nz →
+        count_pair (flat_map line_pairs (contours g s k)) (a, b) ≡ count_pair (plane_pairs g s k) (a, b) }
 {}
 
 /// The mesh is the meshes of its rows joined end to end, and the number of a crossing edge's vertex is how many
@@ -52,7 +55,9 @@ pub fn mesh_by_rows()
     ensures edges { (g : Grid) (s : ℕ → ℤ) → crossing_edges g s ≡ flat_map (row_edges g s) (below (row_count g)) }
     ensures centres { (g : Grid) (s : ℕ → ℤ) → flat_map (cell_centres g s) (cells g)
         ≡ flat_map (λ r. flat_map (cell_centres g s) (row_cells g r)) (below (row_count g)) }
-    ensures faces { (g : Grid) (s : ℕ → ℤ) → named_triangles g s ≡ flat_map (λ r. flat_map (cell_triangles g s) (row_cells g r)) (below (row_count g)) }
-    ensures numbers { (g : Grid) (s : ℕ → ℤ) (r n : ℕ) → r < row_count g → r * (3 * g.nx) ≤ n → n < r * (3 * g.nx) + 3 * g.nx →
+    ensures faces { (g : Grid) (s : ℕ → ℤ) → named_triangles g s
+        ≡ flat_map (λ r. flat_map (cell_triangles g s) (row_cells g r)) (below (row_count g)) }
+    ensures numbers { (g : Grid) (s : ℕ → ℤ) (r n : ℕ) → r < row_count g → r * (3 * g.nx) ≤ n → n
+        < r * (3 * g.nx) + 3 * g.nx →
         number_of g s n ≡ length (flat_map (row_edges g s) (below r)) + count_by (λ u. nat_lt u n) (row_edges g s r) }
 {}

@@ -8,7 +8,8 @@ ghost use Rattle.std.specs.Prelude.{List, true, ℕ, ◌↔◌, ◌≡◌, ◌�
 
 /// Where no ordered pair is run twice, the triangles round a vertex form one fan exactly where one walk takes all its arcs.
 pub fn walk_decides_fan()
-    ensures { (ts : List Triangle) (v : ℕ) → ((a b : ℕ) → times_run ts a b ≤ 1) → (fan_walk (arcs ts v) ≡ true) ↔ IsFan ts v }
+    ensures { (ts : List Triangle) (v : ℕ) → ((a b : ℕ) → times_run ts a b ≤ 1) →
+        (fan_walk (arcs ts v) ≡ true) ↔ IsFan ts v }
 {}
 
 /// Every list of triangles has one verdict, and only one.

@@ -17,4 +17,5 @@ pub record AreEdgesOf (v : Voxels) (level : ℤ) (grid : Grid) (names places : L
 
 -- the same of the volume in a file
 abbrev pub AreEdgesOfFile : List ℕ → ℤ → Grid → List ℕ → List ℕ → Type 0
-AreEdgesOfFile bytes level grid names places = (read : Voxels × ℕ) × (nrrd_of bytes ≡ Ok read) × AreEdgesOf read.0 level grid names places
+AreEdgesOfFile bytes level grid names places = (read : Voxels × ℕ) × (nrrd_of bytes ≡ Ok read)
+    × AreEdgesOf read.0 level grid names places

@@ -41,7 +41,8 @@ fn edges_of_raw(alloc: Global, volume: &RawVolume<'_>, level: Level) -> Result<F
 
 /// The crossing edges of a volume at a level, wherever its samples lie.
 fn edges_of(alloc: Global, volume: &FileVolume<'_>, level: Level) -> Result<FileEdges, Memory>
-    ensures { IfOk result (λ e. AreEdgesOf (file_voxels volume.now) level e.sizes e.edges.names.items e.edges.places.items) }
+    ensures { IfOk result (λ e. AreEdgesOf (file_voxels volume.now) level e.sizes e.edges.names.items
+        e.edges.places.items) }
 {
     match volume {
         FileVolume::Raw(raw) => edges_of_raw(alloc, raw, level),

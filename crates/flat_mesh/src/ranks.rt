@@ -53,7 +53,8 @@ fn rank_eight(flags: &[u8], from: usize, start: u32, out: &mut [u32]) -> u32
     requires eight { from + 8 ≤ length flags.now }
     requires lengths { length out.old ≡ length flags.now + 1 }
     requires room { start + 24 < 2 ^ 32 }
-    ensures next { result + sum_by edges_in (take from flags.now) ≡ start + sum_by edges_in (take (from + 8) flags.now) }
+    ensures next { result + sum_by edges_in (take from flags.now)
+        ≡ start + sum_by edges_in (take (from + 8) flags.now) }
     ensures bound { result ≤ start + 24 }
     ensures inside { (i : ℕ) → from ≤ i → i < from + 8
         → slice_index out.new i + sum_by edges_in (take from flags.now) ≡ start + sum_by edges_in (take i flags.now) }

@@ -8,4 +8,5 @@ use Rattle.inner_volume.specs.declared.printed.Held.{Held}
 -- a block begins with the samples of these rows, at most nine
 pub record AreHeld (v : Volume) (held : Held) (block : List ℤ) : Type 0 where
   pub few : held.end ≤ held.first + 9
-  pub samples : AreSamples (inner_samples v) (held.first * (inner_grid v).nx) ((held.end - held.first) * (inner_grid v).nx) block
+  pub samples : AreSamples (inner_samples v) (held.first * (inner_grid v).nx)
+      ((held.end - held.first) * (inner_grid v).nx) block

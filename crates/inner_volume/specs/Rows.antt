@@ -30,7 +30,8 @@ pub record AreRowsOf (v : Volume) (at : BrickRows) : Type 0 where
 pub record HasColumns (v : Volume) (at : BrickRows) (columns : ℕ) (samples : List ℤ) : Type 0 where
   pub each :
       (r x : ℕ) → r < at.count → x < columns
-      → sample samples ((inner_grid v).nx * r + x) ≡ sample (inner_samples v) (at.row * (inner_grid v).nx + ((inner_grid v).nx * r + x))
+      → sample samples ((inner_grid v).nx * r + x)
+      ≡ sample (inner_samples v) (at.row * (inner_grid v).nx + ((inner_grid v).nx * r + x))
 
 -- in rows of a width so many columns from one on are copies of a brick, nine to a row, and the columns before are as they were
 pub record ArePieces (copies old new : List ℤ) (from count rows at width : ℕ) : Type 0 where

@@ -77,7 +77,8 @@ fn held_row<'a, T: Packed>(
     requires held { AreHeld store.now held (map T.value block.now) }
     requires first { held.first ≤ number }
     requires holds { number < held.end }
-    ensures value { map T.value result.now ≡ take sizes.now.nx (drop (number * sizes.now.nx) (inner_samples store.now)) }
+    ensures value { map T.value result.now ≡ take sizes.now.nx
+        (drop (number * sizes.now.nx) (inner_samples store.now)) }
     ensures each { All (IsOfKind store.now.kind) (map T.value result.now) }
 {
     let _ = store.sizes();
@@ -97,7 +98,8 @@ fn gather_row<K: Sink, D: Digits, T: Packed>(
 ) -> Result<u64, Failed>
     requires each { All (IsOfKind kind) (map T.value row.now) }
     requires few { length row.now ≤ 1026 }
-    ensures line { Stages (K.seen sink.old) (K.seen sink.new) waiting.old waiting.new result (coded_line hex kind (map T.value row.now)) }
+    ensures line { Stages (K.seen sink.old) (K.seen sink.new) waiting.old waiting.new result
+        (coded_line hex kind (map T.value row.now)) }
     ensures bytes { IfOk result (λ n. n ≡ length (coded_line hex kind (map T.value row.now))) }
     ensures bound { IfOk result (λ n. n ≤ 25000) }
 {
@@ -124,7 +126,8 @@ fn gather_rows<K: Sink, D: Digits, T: Packed>(
     requires room { length block.old ≡ 9234 }
     ensures lines { Stages (K.seen sink.old) (K.seen sink.new) waiting.old waiting.new result
         (flat_map (coded_line hex store.now.kind) (rows_of (inner_voxels store.now))) }
-    ensures bytes { IfOk result (λ n. n ≡ length (flat_map (coded_line hex store.now.kind) (rows_of (inner_voxels store.now)))) }
+    ensures bytes { IfOk result (λ n. n ≡ length
+        (flat_map (coded_line hex store.now.kind) (rows_of (inner_voxels store.now)))) }
     ensures bound { IfOk result (λ n. n ≤ 25000 * (sizes.now.ny * sizes.now.nz)) }
 {
     let kind = store.kind();
@@ -151,8 +154,10 @@ fn put_packed<K: Sink, D: Digits, T: Packed>(
     requires copies { AreAllCopies store.now.grid store.now.samples (map T.value copies.now) }
     requires sizes { sizes.now ≡ inner_grid store.now }
     requires room { length block.old ≡ 9234 }
-    ensures lines { Puts (K.seen sink.old) (K.seen sink.new) result (flat_map (coded_line hex store.now.kind) (rows_of (inner_voxels store.now))) }
-    ensures bytes { IfOk result (λ n. n ≡ length (flat_map (coded_line hex store.now.kind) (rows_of (inner_voxels store.now)))) }
+    ensures lines { Puts (K.seen sink.old) (K.seen sink.new) result
+        (flat_map (coded_line hex store.now.kind) (rows_of (inner_voxels store.now))) }
+    ensures bytes { IfOk result (λ n. n ≡ length
+        (flat_map (coded_line hex store.now.kind) (rows_of (inner_voxels store.now)))) }
     ensures bound { IfOk result (λ n. n ≤ 25000 * (sizes.now.ny * sizes.now.nz)) }
 {
     let mut waiting = SampleLines::new();
@@ -171,8 +176,10 @@ fn put_rows<K: Sink, D: Digits>(
     hex: bool,
 ) -> Result<u64, Failed>
     requires { sizes.now ≡ inner_grid store.now }
-    ensures lines { Puts (K.seen sink.old) (K.seen sink.new) result (flat_map (coded_line hex store.now.kind) (rows_of (inner_voxels store.now))) }
-    ensures bytes { IfOk result (λ n. n ≡ length (flat_map (coded_line hex store.now.kind) (rows_of (inner_voxels store.now)))) }
+    ensures lines { Puts (K.seen sink.old) (K.seen sink.new) result
+        (flat_map (coded_line hex store.now.kind) (rows_of (inner_voxels store.now))) }
+    ensures bytes { IfOk result (λ n. n ≡ length
+        (flat_map (coded_line hex store.now.kind) (rows_of (inner_voxels store.now)))) }
     ensures bound { IfOk result (λ n. n ≤ 25000 * (sizes.now.ny * sizes.now.nz)) }
 {
     match store.copies() {
@@ -202,8 +209,10 @@ fn put_coded_rows<K: Sink>(
     hex: bool,
 ) -> Result<u64, Failed>
     requires { sizes.now ≡ inner_grid store.now }
-    ensures lines { Puts (K.seen sink.old) (K.seen sink.new) result (flat_map (coded_line hex store.now.kind) (rows_of (inner_voxels store.now))) }
-    ensures bytes { IfOk result (λ n. n ≡ length (flat_map (coded_line hex store.now.kind) (rows_of (inner_voxels store.now)))) }
+    ensures lines { Puts (K.seen sink.old) (K.seen sink.new) result
+        (flat_map (coded_line hex store.now.kind) (rows_of (inner_voxels store.now))) }
+    ensures bytes { IfOk result (λ n. n ≡ length
+        (flat_map (coded_line hex store.now.kind) (rows_of (inner_voxels store.now)))) }
     ensures bound { IfOk result (λ n. n ≤ 25000 * (sizes.now.ny * sizes.now.nz)) }
 {
     if hex {
@@ -238,7 +247,8 @@ fn fill_file<H: Shelf>(
     hex: bool,
 ) -> Result<u64, Failed>
     ensures text { Puts (file_tape file.old.shelf.ghost_name (H.seen file.old.shelf.now) file.old.name.now)
-        (file_tape file.new.shelf.ghost_name (H.seen file.new.shelf.now) file.new.name.now) result (saved_in_print hex store.now) }
+        (file_tape file.new.shelf.ghost_name (H.seen file.new.shelf.now) file.new.name.now) result
+        (saved_in_print hex store.now) }
     ensures bytes { IfOk result (λ n. n ≡ length (saved_in_print hex store.now)) }
     ensures same_reference { file.new.shelf.ghost_name ≡ file.old.shelf.ghost_name }
 {

@@ -65,7 +65,8 @@ fn copy_pieces<T: Packed>(
     requires inside { from + 9 * rows + count ≤ 738 }
     requires fits { at + count ≤ width }
     requires room { width * rows ≤ length samples.old }
-    ensures { ArePieces (map T.value copies.now) (map T.value samples.old) (map T.value samples.new) from count rows at width }
+    ensures { ArePieces (map T.value copies.now) (map T.value samples.old) (map T.value samples.new) from count rows
+        at width }
 {
     for row in 0..rows {
         let source = from + 9 * row;
@@ -195,7 +196,8 @@ pub(crate) fn copy_rows<T: Packed>(
     ensures some { row < result }
     ensures within { result ≤ sizes.now.ny * sizes.now.nz }
     ensures few { result ≤ row + 9 }
-    ensures value { AreSamples (inner_samples store.now) (row * sizes.now.nx) ((result - row) * sizes.now.nx) (map T.value samples.new) }
+    ensures value { AreSamples (inner_samples store.now) (row * sizes.now.nx) ((result - row) * sizes.now.nx)
+        (map T.value samples.new) }
 {
     let _ = (store.sizes(), sizes.nx());
     let rows = brick_rows(store, sizes, row);

@@ -35,8 +35,10 @@ fn make_room<K: Sink, T: Packed>(
     requires each { All (IsOfKind kind) (map T.value (take held block.now)) }
     ensures room { IfOk result (λ n. n + more ≤ length block.now) }
     ensures held { IfOk result (λ n. (n ≡ 0) ⊎ (n ≡ held)) }
-    ensures put { IfOk result (λ n. Puts (K.seen sink.old) (K.seen sink.new) result (samples_text kind (map T.value (take (held - n) block.now)))) }
-    ensures failed { OnErr result (Puts (K.seen sink.old) (K.seen sink.new) result (samples_text kind (map T.value (take held block.now)))) }
+    ensures put { IfOk result (λ n. Puts (K.seen sink.old) (K.seen sink.new) result
+        (samples_text kind (map T.value (take (held - n) block.now)))) }
+    ensures failed { OnErr result (Puts (K.seen sink.old) (K.seen sink.new) result
+        (samples_text kind (map T.value (take held block.now)))) }
 {
     if more <= block.len() - held {
         return Ok(held);
@@ -103,7 +105,8 @@ fn put_volume<K: Sink>(sink: &mut K, store: &BrickStore, sizes: &Sizes) -> Resul
 // Apart, so that its caller learns that it is the same shelf afterwards.
 fn fill_file<H: Shelf>(file: &mut ShelfFile<H>, store: &BrickStore) -> Result<u64, Failed>
     ensures text { Puts (file_tape file.old.shelf.ghost_name (H.seen file.old.shelf.now) file.old.name.now)
-        (file_tape file.new.shelf.ghost_name (H.seen file.new.shelf.now) file.new.name.now) result (saved_text store.now) }
+        (file_tape file.new.shelf.ghost_name (H.seen file.new.shelf.now) file.new.name.now) result
+        (saved_text store.now) }
     ensures bytes { IfOk result (λ n. n ≡ length (saved_text store.now)) }
     ensures same_reference { file.new.shelf.ghost_name ≡ file.old.shelf.ghost_name }
 {

@@ -28,7 +28,8 @@ pub fn edge_of(sizes: &Sizes, name: EdgeName) -> (Point, u8)
     ensures point { result.0 ≡ point_at sizes.now (name.0 / 3) }
     ensures axis { result.1 ≡ name.0 % 3 }
     ensures inverse { name_of sizes.now result.0 result.1 ≡ name.0 }
-    ensures only { (p : Point) (axis : ℕ) → IsEdge sizes.now p axis → name_of sizes.now p axis ≡ name.0 → (p ≡ result.0) × (axis ≡ result.1) }
+    ensures only { (p : Point) (axis : ℕ) → IsEdge sizes.now p axis → name_of sizes.now p axis ≡ name.0 →
+        (p ≡ result.0) × (axis ≡ result.1) }
 {
     (point_of(sizes, name.0 / 3), (name.0 % 3) as u8)
 }

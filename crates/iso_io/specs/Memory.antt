@@ -18,7 +18,13 @@ pub record KeptFiles : Type 0 where
 -- none yet
 abbrev pub empty_shelf : ℕ → ℕ → ℕ → List ℕ → KeptFiles
 empty_shelf files room cut failing =
-    record { places = record { files = no_files; free = files; room = room }; cut = cut; failing = failing; calls = 0; faults = 0 }
+    record {
+      places = record { files = no_files; free = files; room = room };
+      cut = cut;
+      failing = failing;
+      calls = 0;
+      faults = 0;
+    }
 
 abbrev pub store_of : KeptFiles → Store
 store_of m = record { files = Some m.places.files; faults = m.faults }
@@ -50,6 +56,7 @@ cut_short m name bytes = record (missed m) { places = placed_behind m.places nam
 
 -- as its fields, one in another
 abbrev pub kept_files_code : Coded KeptFiles
-kept_files_code = code_by (Places × (ℕ × (List ℕ × (ℕ × ℕ)))) (coded× places_code (coded× coded_ℕ (coded× (coded_list coded_ℕ) (coded× coded_ℕ coded_ℕ))))
+kept_files_code = code_by (Places × (ℕ × (List ℕ × (ℕ × ℕ))))
+    (coded× places_code (coded× coded_ℕ (coded× (coded_list coded_ℕ) (coded× coded_ℕ coded_ℕ))))
     (λ m. (m.places, (m.cut, (m.failing, (m.calls, m.faults)))))
     (λ c. record { places = c.0; cut = c.1.0; failing = c.1.1.0; calls = c.1.1.1.0; faults = c.1.1.1.1 }) (λ _. refl)

@@ -37,7 +37,8 @@ with_appended name bytes told = option_map (λ (files : Files). insert files nam
 
 -- the files are as before, or this file is now a front of the text
 abbrev pub FilesCut : List ℕ → List ℕ → Option Files → Option Files → Type 0
-FilesCut name text old new = (new ≡ old) ⊎ ((front : List ℕ) × (back : List ℕ) × (text ≡ front ++ back) × (new ≡ with_file name front old))
+FilesCut name text old new = (new ≡ old) ⊎ ((front : List ℕ) × (back : List ℕ) × (text ≡ front ++ back)
+    × (new ≡ with_file name front old))
 
 -- told files have none of that name
 abbrev pub Lacks : List ℕ → Option Files → Type 0
@@ -51,18 +52,21 @@ Has name (Some files) = get files name ≡ Some (content files name)
 
 -- the name was made an empty file
 pub record Starts {T E : Type 0} (old new : Store) (result : Result T E) (name : List ℕ) : Type 0 where
-  pub changed : MatchResult result (λ _. new.files ≡ with_file name [] old.files) (λ _. (new.files ≡ old.files) ⊎ (new.files ≡ with_file name [] old.files))
+  pub changed : MatchResult result (λ _. new.files ≡ with_file name [] old.files) (λ _. (new.files ≡ old.files)
+      ⊎ (new.files ≡ with_file name [] old.files))
   pub cause : HasCause old.faults new.faults result
 
 -- the bytes were put behind the file's, or a front of them, or nothing was changed
 pub record Grows {T E : Type 0} (old new : Store) (result : Result T E) (name bytes : List ℕ) : Type 0 where
   pub changed : MatchResult result (λ _. new.files ≡ with_appended name bytes old.files)
-      (λ _. (new.files ≡ old.files) ⊎ ((front : List ℕ) × (back : List ℕ) × (bytes ≡ front ++ back) × (new.files ≡ with_appended name front old.files)))
+      (λ _. (new.files ≡ old.files) ⊎ ((front : List ℕ) × (back : List ℕ) × (bytes ≡ front ++ back)
+      × (new.files ≡ with_appended name front old.files)))
   pub cause : HasCause old.faults new.faults result
 
 -- the file is now this text; after a failure it is as before or a front of it
 pub record Stores {T E : Type 0} (old new : Store) (result : Result T E) (name text : List ℕ) : Type 0 where
-  pub changed : MatchResult result (λ _. new.files ≡ with_file name text old.files) (λ _. FilesCut name text old.files new.files)
+  pub changed : MatchResult result (λ _. new.files
+      ≡ with_file name text old.files) (λ _. FilesCut name text old.files new.files)
   pub cause : HasCause old.faults new.faults result
 
 -- a name, and the files of other names

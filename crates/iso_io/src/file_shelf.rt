@@ -105,7 +105,8 @@ impl<'a> Shelf for FileShelf<'a> {
     fn read(&mut self, alloc: Global, name: &str, limit: u64) -> Result<Vec<u8>, ShelfError>
         ensures later { self.old ≤ self.new }
         ensures within { IfOk result (λ v. length v.items ≤ limit) }
-        ensures limit { IfErr result (λ e. e ≡ ShelfError.Failed ⊎ e ≡ ShelfError.TooLong limit ⊎ e ≡ ShelfError.Memory) }
+        ensures limit { IfErr result (λ e. e ≡ ShelfError.Failed ⊎ e ≡ ShelfError.TooLong limit ⊎ e
+            ≡ ShelfError.Memory) }
         ensures faults { self.new ≡ (if is_failed result then one_more self.old else self.old) }
     {
         self.open = None;

@@ -32,7 +32,13 @@ impl Model for MemShelf {
 
     ghost coded = { kept_files_code };
 
-    ghost view = { λ m. record { places = m.places; cut = m.cut; failing = m.failing.items; calls = m.calls; faults = m.faults } };
+    ghost view = { λ m. record {
+      places = m.places;
+      cut = m.cut;
+      failing = m.failing.items;
+      calls = m.calls;
+      faults = m.faults;
+    } };
 }
 
 impl MemShelf {
@@ -102,10 +108,14 @@ impl Shelf for MemShelf {
         ensures later { self.old.faults ≤ self.new.faults }
         ensures bytes { IfOk result (λ v. get self.old.places.files name.now ≡ Some v.items) }
         ensures within { IfOk result (λ v. length v.items ≤ limit) }
-        ensures failed { IsErrOf result ShelfError.Failed → Rose self.old.faults self.new.faults ⊎ (get self.old.places.files name.now ≡ None) }
-        ensures too_long { IsErrOf result (ShelfError.TooLong limit) → limit < length (content_in self.old.places name.now) }
-        ensures limit { IfErr result (λ e. e ≡ ShelfError.Failed ⊎ e ≡ ShelfError.TooLong limit ⊎ e ≡ ShelfError.Memory) }
-        ensures fails { IsErrOf result ShelfError.Failed ↔ (IsFailing self.old ⊎ (get self.old.places.files name.now ≡ None)) }
+        ensures failed { IsErrOf result ShelfError.Failed → Rose self.old.faults self.new.faults
+            ⊎ (get self.old.places.files name.now ≡ None) }
+        ensures too_long { IsErrOf result (ShelfError.TooLong limit) → limit
+            < length (content_in self.old.places name.now) }
+        ensures limit { IfErr result (λ e. e ≡ ShelfError.Failed ⊎ e ≡ ShelfError.TooLong limit ⊎ e
+            ≡ ShelfError.Memory) }
+        ensures fails { IsErrOf result ShelfError.Failed ↔ (IsFailing self.old
+            ⊎ (get self.old.places.files name.now ≡ None)) }
         ensures counted { IsFailing self.old → self.new ≡ missed self.old }
         ensures uncounted { (IsFailing self.old → ⊥) → self.new ≡ called self.old }
     {
@@ -141,7 +151,8 @@ impl Shelf for MemShelf {
     fn append(&mut self, name: &str, bytes: &[u8]) -> Result<(), Failed>
         ensures grows { Grows (store_of self.old) (store_of self.new) result name.now bytes.now }
         ensures fails { IsErr result ↔ RefusesAppend self.old name.now bytes.now }
-        ensures appended { OnOk result (self.new ≡ stored (called self.old) name.now (content_in self.old.places name.now ++ bytes.now)) }
+        ensures appended { OnOk result (self.new ≡ stored (called self.old) name.now
+            (content_in self.old.places name.now ++ bytes.now)) }
         ensures cut { IsFailing self.old → self.new ≡ cut_short self.old name.now bytes.now }
         ensures kept { (IsFailing self.old → ⊥) → OnErr result (self.new ≡ missed self.old) }
     {

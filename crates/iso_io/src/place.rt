@@ -55,7 +55,11 @@ impl Place {
     /// Takes these bytes in place of its own.
     pub(crate) fn replace(&mut self, bytes: &[u8]) -> Result<(), Failed>
         ensures fails { IsErr result ↔ (self.old.room < length bytes.now) }
-        ensures replaced { OnOk result (self.new ≡ record { name = self.old.name; bytes = bytes.now; room = self.old.room }) }
+        ensures replaced { OnOk result (self.new ≡ record {
+          name = self.old.name;
+          bytes = bytes.now;
+          room = self.old.room;
+        }) }
         ensures kept { OnErr result (self.new ≡ self.old) }
     {
         if (self.room as usize) < bytes.len() {
@@ -86,7 +90,11 @@ impl Place {
     /// Puts bytes behind its own.
     pub(crate) fn append(&mut self, bytes: &[u8]) -> Result<(), Failed>
         ensures fails { IsErr result ↔ (self.old.room < length self.old.bytes + length bytes.now) }
-        ensures appended { OnOk result (self.new ≡ record { name = self.old.name; bytes = self.old.bytes ++ bytes.now; room = self.old.room }) }
+        ensures appended { OnOk result (self.new ≡ record {
+          name = self.old.name;
+          bytes = self.old.bytes ++ bytes.now;
+          room = self.old.room;
+        }) }
         ensures kept { OnErr result (self.new ≡ self.old) }
     {
         if (self.room as usize) - self.bytes.len() < bytes.len() {

@@ -47,7 +47,8 @@ fn reserved(alloc: Global, files: u32, room: u32) -> Result<Vec<Place>, Memory>
 
 /// Which place has the file of that name.
 fn place_of(places: &[Place], name: &str) -> Option<usize>
-    ensures { MatchOption result (IsLacking (entries_of places.now) name.now) (λ i. IsFound (entries_of places.now) name.now i) }
+    ensures { MatchOption result (IsLacking (entries_of places.now) name.now)
+        (λ i. IsFound (entries_of places.now) name.now i) }
 {
     for i in 0..places.len() {
         if places[i].is_named(name) {
@@ -96,7 +97,8 @@ impl Places {
 
     /// Puts bytes behind those of the name's file; a name without a file counts as an empty one.
     pub(crate) fn append(&mut self, name: &str, bytes: &[u8]) -> Result<(), Failed>
-        ensures fails { IsErr result ↔ ((has_place self.old name.now ≡ false) ⊎ (self.old.room < length (content_in self.old name.now) + length bytes.now)) }
+        ensures fails { IsErr result ↔ ((has_place self.old name.now ≡ false)
+            ⊎ (self.old.room < length (content_in self.old name.now) + length bytes.now)) }
         ensures placed { OnOk result (self.new ≡ placed self.old name.now (content_in self.old name.now ++ bytes.now)) }
         ensures kept { OnErr result (self.new ≡ self.old) }
     {

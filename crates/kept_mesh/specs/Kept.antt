@@ -28,7 +28,8 @@ looped_cases g s brick y z = map (λ x. looped_case g s (brick_point g brick x y
 abbrev pub named_by : Kept → Named
 named_by k = record {
   grid = k.volume.grid;
-  cases = λ brick y z. if is_fresh brick k.level k.cache.items then looped_cases k.volume.grid (field k.volume.samples k.level) brick y z
+  cases = λ brick y z. if is_fresh brick k.level k.cache.items
+      then looped_cases k.volume.grid (field k.volume.samples k.level) brick y z
       else row_cases k.volume.grid (field k.volume.samples k.level) brick y z;
   counts = λ brick. counts_of_entries (entries k.volume.grid (field k.volume.samples k.level) brick);
   kept = λ brick. is_fresh brick k.level k.cache.items;

@@ -87,7 +87,8 @@ pub fn count_anew<L: Ledger>(
     steps: &mut Steps<L>,
 ) -> Counts
     requires { brick.0 < brick_count store.now.grid }
-    ensures counts { result ≡ counts_of_entries (entries_of_brick store.now.grid (field store.now.samples level) brick.0) }
+    ensures counts { result ≡ counts_of_entries
+        (entries_of_brick store.now.grid (field store.now.samples level) brick.0) }
     ensures least { steps.old ≤ steps.new }
     ensures most { steps.new ≤ steps.old + 512 }
 {

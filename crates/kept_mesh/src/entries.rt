@@ -20,7 +20,8 @@ fn plane_of_entry(entry: u32) -> u32
 /// Writes the case of an entry in the place of its cell, if that lies in a plane across z.
 #[inline(always)]
 fn put_case(entry: u32, z: u8, cases: &mut [u16; CELLS])
-    ensures { (k : ℕ) → k < 64 → slice_index cases.new k ≡ last_case (slice_index cases.old k) (entry ∷ []) (64 * z + k) }
+    ensures { (k : ℕ) → k < 64 → slice_index cases.new k
+        ≡ last_case (slice_index cases.old k) (entry ∷ []) (64 * z + k) }
 {
     if plane_of_entry(entry) == u32::from(z) {
         cases[(entry / 1024 % 64) as usize] = (entry % 1024) as u16;
@@ -46,7 +47,8 @@ fn put_run(entries: &[u32], z: u8, cases: &mut [u16; CELLS])
     requires run { IsRun entries.now }
     requires first { 64 * z ≤ slice_index entries.now 0 / 1024 }
     requires last { slice_index entries.now 0 / 1024 + length entries.now ≤ 64 * z + 64 }
-    ensures { (k : ℕ) → k < 64 → slice_index cases.new k ≡ last_case (slice_index cases.old k) entries.now (64 * z + k) }
+    ensures { (k : ℕ) → k < 64 → slice_index cases.new k
+        ≡ last_case (slice_index cases.old k) entries.now (64 * z + k) }
 {
     let _ = z;
     let first = (entries[0] / 1024 % 64) as usize;
@@ -58,7 +60,8 @@ fn put_run(entries: &[u32], z: u8, cases: &mut [u16; CELLS])
 /// Writes the cases of those of some entries whose cells lie in a plane across z.
 #[inline(always)]
 fn put_each(entries: &[u32], z: u8, cases: &mut [u16; CELLS])
-    ensures { (k : ℕ) → k < 64 → slice_index cases.new k ≡ last_case (slice_index cases.old k) entries.now (64 * z + k) }
+    ensures { (k : ℕ) → k < 64 → slice_index cases.new k
+        ≡ last_case (slice_index cases.old k) entries.now (64 * z + k) }
 {
     for entry in entries {
         put_case(*entry, z, cases);
@@ -71,7 +74,8 @@ fn put_part(entries: &[u32], z: u8, cases: &mut [u16; CELLS])
     requires few { length entries.now ≤ 32 }
     requires ascending { AreAscending entries.now }
     requires inside { (i : ℕ) → i < length entries.now → slice_index entries.now i / 65536 ≡ z }
-    ensures { (k : ℕ) → k < 64 → slice_index cases.new k ≡ last_case (slice_index cases.old k) entries.now (64 * z + k) }
+    ensures { (k : ℕ) → k < 64 → slice_index cases.new k
+        ≡ last_case (slice_index cases.old k) entries.now (64 * z + k) }
 {
     if !entries.is_empty() && are_run(entries) {
         put_run(entries, z, cases);

@@ -41,9 +41,11 @@ fn put_mesh<K: Sink, L: Ledger>(
     requires tree { IsRightFor volume.now.tree.now volume.now.store.now }
     requires items { IsRight volume.now.store.now.grid volume.now.store.now.samples volume.now.cache.now.items }
     requires ranks { ranks.old.grid ≡ volume.now.store.now.grid }
-    ensures text { Puts (K.seen sink.old) (K.seen sink.new) result (scratch_text format volume.now.store.now volume.now.level) }
+    ensures text { Puts (K.seen sink.old) (K.seen sink.new) result
+        (scratch_text format volume.now.store.now volume.now.level) }
     ensures written { let v = volume.now.store.now in
-        IfOk result (λ w. w ≡ two_way_written format (is_some v.pad) (mesh_of v.grid (field v.samples volume.now.level))) }
+        IfOk result (λ w. w ≡ two_way_written format (is_some v.pad)
+        (mesh_of v.grid (field v.samples volume.now.level))) }
     ensures ranks { ranks.new.grid ≡ ranks.old.grid }
     ensures least { steps.old ≤ steps.new }
     ensures most { let v = volume.now.store.now in
@@ -74,7 +76,8 @@ fn fill_file<H: Shelf, L: Ledger>(
         (file_tape file.new.shelf.ghost_name (H.seen file.new.shelf.now) file.new.name.now)
         result (scratch_text format volume.now.store.now volume.now.level) }
     ensures written { let v = volume.now.store.now in
-        IfOk result (λ w. w ≡ two_way_written format (is_some v.pad) (mesh_of v.grid (field v.samples volume.now.level))) }
+        IfOk result (λ w. w ≡ two_way_written format (is_some v.pad)
+        (mesh_of v.grid (field v.samples volume.now.level))) }
     ensures same_reference { file.new.shelf.ghost_name ≡ file.old.shelf.ghost_name }
     ensures ranks { ranks.new.grid ≡ ranks.old.grid }
     ensures least { steps.old ≤ steps.new }
@@ -99,9 +102,11 @@ pub fn write_mesh<H: Shelf, L: Ledger>(
     requires tree { IsRightFor volume.now.tree.now volume.now.store.now }
     requires items { IsRight volume.now.store.now.grid volume.now.store.now.samples volume.now.cache.now.items }
     requires ranks { ranks.old.grid ≡ volume.now.store.now.grid }
-    ensures file { Stores (H.seen shelf.old) (H.seen shelf.new) result name.now (scratch_text format volume.now.store.now volume.now.level) }
+    ensures file { Stores (H.seen shelf.old) (H.seen shelf.new) result name.now
+        (scratch_text format volume.now.store.now volume.now.level) }
     ensures written { let v = volume.now.store.now in
-        IfOk result (λ w. w ≡ two_way_written format (is_some v.pad) (mesh_of v.grid (field v.samples volume.now.level))) }
+        IfOk result (λ w. w ≡ two_way_written format (is_some v.pad)
+        (mesh_of v.grid (field v.samples volume.now.level))) }
     ensures ranks { ranks.new.grid ≡ ranks.old.grid }
     ensures least { steps.old ≤ steps.new }
     ensures most { let v = volume.now.store.now in

@@ -128,7 +128,8 @@ impl<'a> Model for KeptRows<'a> {
 
     ghost view = { λ r. record { volume = r.store.now; level = r.level; cache = r.cache.now } };
 
-    ghost invariant = { λ r. IsRight r.store.now.grid r.store.now.samples r.cache.now.items × All (IsPlane r.store.now r.level r.cache.now.items) r.planes };
+    ghost invariant = { λ r. IsRight r.store.now.grid r.store.now.samples r.cache.now.items
+        × All (IsPlane r.store.now r.level r.cache.now.items) r.planes };
 }
 
 impl<'a> KeptRows<'a> {

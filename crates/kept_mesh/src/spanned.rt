@@ -77,7 +77,8 @@ pub fn refresh_bricks<L: Ledger>(
     ensures refresh { Refresh store.now.grid store.now.samples level cache.old
         (take n (waiting store.now.grid store.now.samples level cache.old.items)) cache.new }
     ensures least { steps.old ≤ steps.new }
-    ensures bound { steps.new ≤ steps.old + 512 * min n (length (waiting store.now.grid store.now.samples level cache.old.items)) }
+    ensures bound { steps.new ≤ steps.old + 512 * min n
+        (length (waiting store.now.grid store.now.samples level cache.old.items)) }
 {
     let bricks = Spanned::new(store, tree);
     refresh(cache, &bricks, level, n, steps);

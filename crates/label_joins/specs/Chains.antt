@@ -16,7 +16,8 @@ BeginsBelow n p = p.0 < n
 pub record ArePaired (n : ℕ) (ps : List (ℕ × ℕ)) : Type 0 where
   pub begins : (i : ℕ) → i < length ps → begins_at ps i < n
   pub ends : (i : ℕ) → i < length ps → ends_at ps i < n
-  pub back : (i : ℕ) → i < length ps → (j : ℕ) × (j < length ps) × (begins_at ps j ≡ ends_at ps i) × (ends_at ps j ≡ begins_at ps i)
+  pub back : (i : ℕ) → i < length ps → (j : ℕ) × (j < length ps) × (begins_at ps j ≡ ends_at ps i)
+      × (ends_at ps j ≡ begins_at ps i)
 
 -- the number of the last of the first n pairs that begins at a label: one more than its place, or 0 where there is none
 pub record IsLast (ps : List (ℕ × ℕ)) (a n k : ℕ) : Type 0 where

@@ -18,7 +18,8 @@ fn see(least: &mut [u32], queue: &mut Vec<u32>, label: u32, start: u32) -> Resul
     requires start { start < none }
     ensures seen { OnOk result (slice_index least.new label ≢ none) }
     ensures kept { OnOk result (Keeps start least.old queue.old.items least.new queue.new.items) }
-    ensures spread { OnOk result ((ps : List (ℕ × ℕ)) → IsSpread ps start least.old queue.old.items → joined ps label ≡ joined ps start
+    ensures spread { OnOk result ((ps : List (ℕ × ℕ)) → IsSpread ps start least.old queue.old.items →
+        joined ps label ≡ joined ps start
         → IsSpread ps start least.new queue.new.items) }
 {
     if least[label as usize] == UNSEEN {
@@ -47,7 +48,8 @@ fn see_ends(
     requires same { joined pairs.now label ≡ joined pairs.now start }
     ensures spread { OnOk result (IsSpread pairs.now start least.new queue.new.items) }
     ensures kept { OnOk result (Keeps start least.old queue.old.items least.new queue.new.items) }
-    ensures ends { OnOk result ((i : ℕ) → i < length pairs.now → begins_at pairs.now i ≡ label → slice_index least.new (ends_at pairs.now i) ≢ none) }
+    ensures ends { OnOk result ((i : ℕ) → i < length pairs.now → begins_at pairs.now i ≡ label →
+        slice_index least.new (ends_at pairs.now i) ≢ none) }
 {
     let mut left = chains.last[label as usize];
     while left > 0 {
@@ -76,7 +78,8 @@ fn walk_on(
     requires older { AreClosed pairs.now start least.old queue.old.items before }
     ensures spread { OnOk result (IsSpread pairs.now start least.new queue.new.items) }
     ensures kept { OnOk result (Keeps start least.old queue.old.items least.new queue.new.items) }
-    ensures closed { IfOk result (λ walked. AreClosed pairs.now start least.new queue.new.items walked × (walked ≡ length queue.new.items)) }
+    ensures closed { IfOk result (λ walked. AreClosed pairs.now start least.new queue.new.items walked
+        × (walked ≡ length queue.new.items)) }
 {
     let mut walked = before;
     while walked < queue.len() {

@@ -17,7 +17,8 @@ pub record HaveCases (v : Leveled) (rows : ℕ) (cases : CellCases) : Type 0 whe
   pub count : length cases.starts.items ≡ rows
   pub within : (row : ℕ) → row < rows → slice_index cases.starts.items row + v.grid.nx ≤ length cases.list.items
   pub each : (x y z : ℕ) → x + 1 < v.grid.nx → y + 1 < v.grid.ny → z + 1 < v.grid.nz → y + v.grid.ny * z < rows
-      → IsCaseOf v (index v.grid x y z) (slice_index cases.list.items (slice_index cases.starts.items (y + v.grid.ny * z) + x))
+      → IsCaseOf v (index v.grid x y z) (slice_index cases.list.items
+      (slice_index cases.starts.items (y + v.grid.ny * z) + x))
 
 -- likewise, with a row of zeros in front and no more than one row of numbers for each row of points
 pub record HaveFirstCases (v : Leveled) (rows : ℕ) (cases : CellCases) : Type 0 where

@@ -178,7 +178,8 @@ impl<'a, S: Samples> ListField<'a, S> {
         requires y { y < self.now.grid.ny }
         requires z { z < self.now.grid.nz }
         requires edge { edge < 3 * self.now.grid.nx }
-        requires crossing { is_crossing self.now.grid (heights self.now) (3 * row_start self.now.grid y z + edge) ≡ true }
+        requires crossing { is_crossing self.now.grid (heights self.now) (3 * row_start self.now.grid y z + edge)
+            ≡ true }
         ensures { result ≡ edge_place self.now.grid (heights self.now) (3 * row_start self.now.grid y z + edge) }
     {
         // Reading the sizes brings in that the coordinates of the next points fit.

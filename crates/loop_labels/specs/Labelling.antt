@@ -60,7 +60,10 @@ pub record IsAdded (old new : Known) (slot : ℕ → ℕ) (n label : ℕ) : Type
   pub count : old.count ≤ new.count
   pub low : label < new.count
   pub pairs : Adds (Stands (λ i. slice_index old.marks.labels (slot i)) n) old.pairs new.pairs
-  pub joined : (i : ℕ) → i < n → slice_index old.marks.labels (slot i) ≢ none → least_joined new.pairs (slice_index old.marks.labels (slot i)) ≡ least_joined new.pairs label
-  pub own : Stands (λ i. slice_index old.marks.labels (slot i)) n label ⊎ (((i : ℕ) → i < n → slice_index old.marks.labels (slot i) ≡ none) × (label ≡ old.count))
+  pub joined : (i : ℕ) → i < n → slice_index old.marks.labels (slot i) ≢ none →
+      least_joined new.pairs (slice_index old.marks.labels (slot i)) ≡ least_joined new.pairs label
+  pub own : Stands (λ i. slice_index old.marks.labels (slot i)) n label
+      ⊎ (((i : ℕ) → i < n → slice_index old.marks.labels (slot i) ≡ none) × (label ≡ old.count))
   pub set : (i : ℕ) → i < n → slice_index new.marks.labels (slot i) ≡ label
-  pub others : (k : ℕ) → ((i : ℕ) → i < n → slot i ≢ k) → slice_index new.marks.labels k ≡ slice_index old.marks.labels k
+  pub others : (k : ℕ) → ((i : ℕ) → i < n → slot i ≢ k) → slice_index new.marks.labels k
+      ≡ slice_index old.marks.labels k

@@ -132,9 +132,11 @@ pub(crate) fn label_range(front: &Front, places: &[u32; 12], shift: u32, edges: 
     requires edges { All (λ e. e < 12) edges.now }
     requires inside { (e : ℕ) → e < 12 → slice_index places.now e + shift < room front.now.grid }
     ensures low { (i : ℕ) → i < length edges.now → result.0 ≤ stand_of front.now places.now shift edges.now i }
-    ensures empty { result.0 ≡ none → (i : ℕ) → i < length edges.now → stand_of front.now places.now shift edges.now i ≡ none }
+    ensures empty { result.0 ≡ none → (i : ℕ) → i < length edges.now →
+        stand_of front.now places.now shift edges.now i ≡ none }
     ensures own { result.0 ≢ none → Stands (stand_of front.now places.now shift edges.now) (length edges.now) result.0 }
-    ensures end { (i : ℕ) → i < length edges.now → stand_of front.now places.now shift edges.now i ≢ none → stand_of front.now places.now shift edges.now i < result.1 }
+    ensures end { (i : ℕ) → i < length edges.now → stand_of front.now places.now shift edges.now i ≢ none →
+        stand_of front.now places.now shift edges.now i < result.1 }
 {
     let labels: &[u32] = &front.labels[shift as usize..];
     let mut low = NONE;
@@ -153,9 +155,12 @@ fn set_each(labels: &mut [u32], places: &[u32; 12], edges: &[u8], label: u32)
     requires edges { All (λ e. e < 12) edges.now }
     requires inside { (e : ℕ) → e < 12 → slice_index places.now e < length labels.old }
     ensures size { length labels.new ≡ length labels.old }
-    ensures set { (i : ℕ) → i < length edges.now → slice_index labels.new (slice_index places.now (slice_index edges.now i)) ≡ label }
-    ensures others { (k : ℕ) → ((i : ℕ) → i < length edges.now → slice_index places.now (slice_index edges.now i) ≢ k) → slice_index labels.new k ≡ slice_index labels.old k }
-    ensures either { (k : ℕ) → (slice_index labels.new k ≡ label) ⊎ (slice_index labels.new k ≡ slice_index labels.old k) }
+    ensures set { (i : ℕ) → i < length edges.now →
+        slice_index labels.new (slice_index places.now (slice_index edges.now i)) ≡ label }
+    ensures others { (k : ℕ) → ((i : ℕ) → i < length edges.now → slice_index places.now (slice_index edges.now i)
+        ≢ k) → slice_index labels.new k ≡ slice_index labels.old k }
+    ensures either { (k : ℕ) → (slice_index labels.new k ≡ label)
+        ⊎ (slice_index labels.new k ≡ slice_index labels.old k) }
 {
     for edge in edges {
         labels[places[*edge as usize] as usize] = label;
@@ -169,9 +174,12 @@ pub(crate) fn set_all(front: &mut Front, places: &[u32; 12], shift: u32, edges: 
     requires fits { (e : ℕ) → e < 12 → slice_index places.now e + shift < 4294967296 }
     ensures grid { front.new.grid ≡ front.old.grid }
     ensures size { length front.new.labels ≡ room front.new.grid }
-    ensures set { (i : ℕ) → i < length edges.now → slice_index front.new.labels (slot_of places.now shift edges.now i) ≡ label }
-    ensures others { (k : ℕ) → ((i : ℕ) → i < length edges.now → slot_of places.now shift edges.now i ≢ k) → slice_index front.new.labels k ≡ slice_index front.old.labels k }
-    ensures either { (k : ℕ) → (slice_index front.new.labels k ≡ label) ⊎ (slice_index front.new.labels k ≡ slice_index front.old.labels k) }
+    ensures set { (i : ℕ) → i < length edges.now →
+        slice_index front.new.labels (slot_of places.now shift edges.now i) ≡ label }
+    ensures others { (k : ℕ) → ((i : ℕ) → i < length edges.now → slot_of places.now shift edges.now i ≢ k) →
+        slice_index front.new.labels k ≡ slice_index front.old.labels k }
+    ensures either { (k : ℕ) → (slice_index front.new.labels k ≡ label)
+        ⊎ (slice_index front.new.labels k ≡ slice_index front.old.labels k) }
 {
     let _ = front.sizes();
     set_each(&mut front.labels[shift as usize..], places, edges, label);

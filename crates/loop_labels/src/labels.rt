@@ -155,9 +155,11 @@ impl Labels {
         requires inside { (e : ℕ) → e < 12 → slice_index places.now e + shift < room self.old.marks.grid }
         requires fits { (e : ℕ) → e < 12 → slice_index places.now e + shift < 4294967296 }
         requires low { low < self.old.count }
-        requires smallest { (i : ℕ) → i < length edges.now → low ≤ stand_of self.old.marks places.now shift edges.now i }
+        requires smallest { (i : ℕ) → i < length edges.now → low
+            ≤ stand_of self.old.marks places.now shift edges.now i }
         requires own { Stands (stand_of self.old.marks places.now shift edges.now) (length edges.now) low }
-        ensures { OnOk result (IsLabelFor self.old self.new (stand_of self.old.marks places.now shift edges.now) (length edges.now) low) }
+        ensures { OnOk result (IsLabelFor self.old self.new (stand_of self.old.marks places.now shift edges.now)
+            (length edges.now) low) }
     {
         let _ = self.count();
         for edge in edges {
@@ -174,7 +176,8 @@ impl Labels {
         requires edges { All (λ e. e < 12) edges.now }
         requires inside { (e : ℕ) → e < 12 → slice_index places.now e + shift < room self.old.marks.grid }
         requires fits { (e : ℕ) → e < 12 → slice_index places.now e + shift < 4294967296 }
-        ensures { IfOk result (λ label. IsLabelFor self.old self.new (stand_of self.old.marks places.now shift edges.now) (length edges.now) label) }
+        ensures { IfOk result (λ label. IsLabelFor self.old self.new
+            (stand_of self.old.marks places.now shift edges.now) (length edges.now) label) }
     {
         let (low, end) = label_range(&self.front, places, shift, edges);
         if low == NONE {
@@ -192,7 +195,8 @@ impl Labels {
         requires edges { All (λ e. e < 12) edges.now }
         requires inside { (e : ℕ) → e < 12 → slice_index places.now e + shift < room self.old.marks.grid }
         requires fits { (e : ℕ) → e < 12 → slice_index places.now e + shift < 4294967296 }
-        ensures { IfOk result (λ label. IsAdded self.old self.new (slot_of places.now shift edges.now) (length edges.now) label) }
+        ensures { IfOk result (λ label. IsAdded self.old self.new (slot_of places.now shift edges.now)
+            (length edges.now) label) }
     {
         let label = self.label_of(places, shift, edges)?;
         set_all(&mut self.front, places, shift, edges, label);
@@ -203,7 +207,8 @@ impl Labels {
     pub fn places(&self, row: u32) -> [u32; 12]
         requires { row < 1026 * 1026 }
         ensures { (e x : ℕ) → e < 12 → x + 1 < self.now.marks.grid.nx →
-            slice_index result e + 3 * x ≡ cell_edge self.now.marks.grid (self.now.marks.grid.nx * row + x) e % room self.now.marks.grid }
+            slice_index result e + 3 * x ≡ cell_edge self.now.marks.grid (self.now.marks.grid.nx * row + x) e % room
+            self.now.marks.grid }
     {
         self.front.places(row)
     }

@@ -43,7 +43,8 @@ measures_of n ts at = map (share_of n ts at) (components n ts)
 -- of triangles as the code holds them: the shares of the components before any triangle
 abbrev pub begun_in : Mesh → (ℕ → Vector) → List Share
 begun_in m at =
-    map (λ k. share_by at k (border_in m.vertex_count (triangles_of m.triangles) k) []) (components m.vertex_count (triangles_of m.triangles))
+    map (λ k. share_by at k (border_in m.vertex_count (triangles_of m.triangles) k) [])
+    (components m.vertex_count (triangles_of m.triangles))
 
 -- the share of a part before any of its triangles
 abbrev pub unmeasured : Part → Share
@@ -67,7 +68,8 @@ AreasCancel ts shares = IsManifold ts → All HasNoArea shares
 
 -- and the determinants of its triangles have the same sum from every point
 abbrev pub HasOneVolume : ℕ → List Triangle → (ℕ → Vector) → Share → Type 0
-HasOneVolume n ts at s = s.border ≡ 0 → (o : Vector) → total (det_of (λ v. minus (at v) o)) (triangles_in n ts s.least) ≡ s.six
+HasOneVolume n ts at s = s.border ≡ 0 → (o : Vector) →
+    total (det_of (λ v. minus (at v) o)) (triangles_in n ts s.least) ≡ s.six
 
 abbrev pub VolumesStay : ℕ → List Triangle → (ℕ → Vector) → List Share → Type 0
 VolumesStay n ts at shares = IsManifold ts → All (HasOneVolume n ts at) shares

@@ -23,9 +23,11 @@ pub fn measure(alloc: Global, mesh: &TriangleList, at: &[[i64; 3]]) -> Result<Me
     requires different { All (λ t. HasThreeCorners (triangle_of t)) mesh.now.triangles }
     requires positions { length at.now ≡ mesh.now.vertex_count }
     requires small { All (λ p. IsWithin (2 ^ 21) (vector_of p)) at.now }
-    ensures shares { IfOk result (λ m. m ≡ measures_of mesh.now.vertex_count (triangles_of mesh.now.triangles) (position at.now)) }
+    ensures shares { IfOk result (λ m. m ≡ measures_of mesh.now.vertex_count (triangles_of mesh.now.triangles)
+        (position at.now)) }
     ensures areas { IfOk result (λ m. AreasCancel (triangles_of mesh.now.triangles) m) }
-    ensures volumes { IfOk result (λ m. VolumesStay mesh.now.vertex_count (triangles_of mesh.now.triangles) (position at.now) m) }
+    ensures volumes { IfOk result (λ m. VolumesStay mesh.now.vertex_count (triangles_of mesh.now.triangles)
+        (position at.now) m) }
 {
     let Survey { report, components } = surveyed(alloc, mesh)?;
     let mut shares = begun_all(alloc, report.parts())?;

@@ -20,7 +20,8 @@ pub trait Bricks {
 
     /// The least active brick numbered `from` or more.
     fn next_active(&self, from: u32, level: Level) -> Option<BrickId>
-        ensures next { IsNext (is_active (grid self.now) (field (samples self.now) level)) from (brick_count (grid self.now)) result }
+        ensures next { IsNext (is_active (grid self.now) (field (samples self.now) level)) from
+            (brick_count (grid self.now)) result }
         ensures few { IfSome result (λ brick. brick.0 < 2 ^ 22) };
 
     /// Replaces the entries by those of a brick, by ascending cell. The counter is raised by at most 512.
@@ -32,7 +33,8 @@ pub trait Bricks {
         steps: &mut Steps<L>,
     )
         requires { brick.0 < brick_count (grid self.now) }
-        ensures entries { entries.new.items ≡ entries_of_brick (grid self.now) (field (samples self.now) level) brick.0 }
+        ensures entries { entries.new.items ≡ entries_of_brick (grid self.now) (field (samples self.now) level)
+            brick.0 }
         ensures least { steps.old ≤ steps.new }
         ensures bound { steps.new ≤ steps.old + 512 };
 }

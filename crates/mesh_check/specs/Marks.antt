@@ -19,7 +19,8 @@ pub record IsMarked (marks : List Mark) (stamp : ℕ) (arcs : List (ℕ × ℕ))
 
 -- no mark is by this stamp or a later one
 abbrev pub IsUnmarked : List Mark → ℕ → Type 0
-IsUnmarked marks stamp = (k : ℕ) → k < length marks → ((mark_at marks k).owner < stamp) × ((mark_at marks k).ended < stamp)
+IsUnmarked marks stamp = (k : ℕ) → k < length marks → ((mark_at marks k).owner < stamp)
+    × ((mark_at marks k).ended < stamp)
 
 -- one arc was marked
 pub record IsPut (old new : List Mark) (begin end stamp : ℕ) : Type 0 where

@@ -22,7 +22,8 @@ origin_coordinate (Window at) axis n = pos (1000 * slice_index (at.x ∷ at.y �
 
 -- a position as its numbers are printed
 abbrev pub origin_text : Origin → Position → List ℕ
-origin_text origin p = coordinates_text (origin_coordinate origin 0 p.0) (origin_coordinate origin 1 p.1) (origin_coordinate origin 2 p.2)
+origin_text origin p = coordinates_text (origin_coordinate origin 0 p.0) (origin_coordinate origin 1 p.1)
+    (origin_coordinate origin 2 p.2)
 
 -- what stands before these numbers: OBJ names the line
 abbrev pub vertex_letter : MeshFormat → List ℕ
@@ -65,4 +66,8 @@ text_of style m =
 
 -- its numbers of vertices, faces and bytes
 abbrev pub written_of : Style → FlatMesh → Written
-written_of style m = record { vertices = length m.vertex_list; faces = length m.triangle_list; bytes = length (text_of style m) }
+written_of style m = record {
+  vertices = length m.vertex_list;
+  faces = length m.triangle_list;
+  bytes = length (text_of style m);
+}

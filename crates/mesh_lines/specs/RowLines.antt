@@ -19,8 +19,11 @@ pub record RowPlace : Type 0 where
 
 -- the position of the vertex on an edge of the row, by the edge's offset, three times how far its point is along x and its axis
 abbrev pub edge_at : RowPlace → ℕ → ℕ → Position
-edge_at row e p =
-    (1000 * (e / 3) + (if 0 == e % 3 then p else 0), 1000 * row.y + (if 1 == e % 3 then p else 0), 1000 * row.z + (if 2 == e % 3 then p else 0))
+edge_at row e p = (
+  1000 * (e / 3) + (if 0 == e % 3 then p else 0),
+  1000 * row.y + (if 1 == e % 3 then p else 0),
+  1000 * row.z + (if 2 == e % 3 then p else 0),
+)
 
 -- the position in the cell x of the row that begins at these points
 abbrev pub centre_at : RowPlace → ℕ → List ℕ → Position
@@ -72,12 +75,14 @@ zeros = 48 ∷ 48 ∷ 48 ∷ []
 -- what stands between the first number's point and the decimals of a place along an axis
 abbrev pub middle_text : Origin → ℕ → ℕ → ℕ → List ℕ
 middle_text origin axis y z =
-    if axis == 0 then [] else (if axis == 1 then zeros ++ y_text origin y else zeros ++ (y_text origin y ++ (zeros ++ z_text origin z)))
+    if axis == 0 then [] else (if axis == 1 then zeros ++ y_text origin y
+    else zeros ++ (y_text origin y ++ (zeros ++ z_text origin z)))
 
 -- and behind these decimals
 abbrev pub tail_text : Origin → ℕ → ℕ → ℕ → List ℕ
 tail_text origin axis y z =
-    if axis == 0 then y_text origin y ++ (zeros ++ (z_text origin z ++ line zeros)) else (if axis == 1 then z_text origin z ++ line zeros else line [])
+    if axis == 0 then y_text origin y ++ (zeros ++ (z_text origin z ++ line zeros))
+    else (if axis == 1 then z_text origin z ++ line zeros else line [])
 
 -- the whole coordinate along an axis of the points of a row
 abbrev pub whole_at : ℕ → ℕ → ℕ → ℕ → ℕ
@@ -85,17 +90,21 @@ whole_at axis x y z = if axis == 0 then x else (if axis == 1 then y else z)
 
 -- the edges along an axis from an offset on do not lie in a pad's layer
 abbrev pub AreLeast : Origin → ℕ → ℕ → List ℕ → Type 0
-AreLeast origin y z least = (axis e : ℕ) → axis < 3 → e < 3078 → slice_index least axis ≤ e → is_layer origin (whole_at axis (e / 3) y z) ≡ false
+AreLeast origin y z least = (axis e : ℕ) → axis < 3 → e < 3078 → slice_index least axis ≤ e →
+    is_layer origin (whole_at axis (e / 3) y z) ≡ false
 
 -- no edge from an offset on has a whole coordinate in a pad's layer
 abbrev pub IsFirstInside : Origin → ℕ → ℕ → ℕ → Type 0
-IsFirstInside origin y z first = (axis e : ℕ) → axis < 3 → e < 3078 → first ≤ e → is_layer origin (whole_at axis (e / 3) y z) ≡ false
+IsFirstInside origin y z first = (axis e : ℕ) → axis < 3 → e < 3078 → first ≤ e →
+    is_layer origin (whole_at axis (e / 3) y z) ≡ false
 
 -- the parts of the lines of a row
 pub record AreParts (origin : Origin) (y z : ℕ) (parts : RowParts) : Type 0 where
-  pub middles : (axis : ℕ) → axis < 3 → IsPiece (slice_index_or parts.middles axis no_piece) (middle_text origin axis y z) 32
+  pub middles : (axis : ℕ) → axis < 3 → IsPiece (slice_index_or parts.middles axis no_piece)
+      (middle_text origin axis y z) 32
   pub tails : (axis : ℕ) → axis < 3 → IsPiece (slice_index_or parts.tails axis no_piece) (tail_text origin axis y z) 32
-  pub fits : (axis : ℕ) → axis < 3 → (slice_index_or parts.middles axis no_piece).len + (slice_index_or parts.tails axis no_piece).len ≤ 31
+  pub fits : (axis : ℕ) → axis < 3 → (slice_index_or parts.middles axis no_piece).len
+      + (slice_index_or parts.tails axis no_piece).len ≤ 31
   pub least : AreLeast origin y z parts.least
 
 -- what a row's lines are put together from
@@ -107,7 +116,8 @@ pub record AreTexts (row : RowPlace) (fronts : List (Piece 16)) (parts : RowPart
   pub parts_are : AreParts row.style.origin row.y row.z parts
 
 -- and those of the centres in a row of cells, with what stands behind the decimals of the first and the second number
-pub record AreCentreTexts (row : RowPlace) (fronts : List (Piece 16)) (behind_x behind_y : Piece 16) (inside : ℕ) : Type 0 where
+pub record AreCentreTexts (row : RowPlace) (fronts : List (Piece 16)) (behind_x behind_y : Piece 16) (inside : ℕ)
+    : Type 0 where
   pub count : row.count ≤ 1026
   pub y : row.y ≤ 1026
   pub z : row.z ≤ 1026

@@ -39,7 +39,8 @@ impl Model for CentreTexts {
 
     ghost view = { λ t. record { style = t.style; count = t.count; y = t.y; z = t.z } };
 
-    ghost invariant = { λ t. AreCentreTexts (record { style = t.style; count = t.count; y = t.y; z = t.z }) t.fronts t.behind_x t.behind_y t.inside };
+    ghost invariant = { λ t. AreCentreTexts (record { style = t.style; count = t.count; y = t.y; z = t.z }) t.fronts
+        t.behind_x t.behind_y t.inside };
 }
 
 impl CentreTexts {

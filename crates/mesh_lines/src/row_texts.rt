@@ -228,7 +228,8 @@ impl Model for RowTexts {
 
     ghost view = { λ t. record { style = t.style; count = t.count; y = t.y; z = t.z } };
 
-    ghost invariant = { λ t. AreTexts (record { style = t.style; count = t.count; y = t.y; z = t.z }) t.fronts t.parts };
+    ghost invariant = { λ t. AreTexts (record { style = t.style; count = t.count; y = t.y; z = t.z }) t.fronts
+        t.parts };
 }
 
 impl RowTexts {

@@ -11,5 +11,6 @@ ghost use Rattle.std.specs.Prelude.{All, ℤ};
 pub fn parts_without_border()
     ensures areas { (v : Volume) (level : ℤ) → All HasNoArea (measures_at v level) }
     ensures volumes { (v : Volume) (level : ℤ) → All (HasOneVolumeIn v level) (measures_at v level) }
-    ensures closed { (v : Volume) (level : ℤ) → IsVolume v → HasPadBelow v level → All HasNoBorder (measures_at v level) }
+    ensures closed { (v : Volume) (level : ℤ) → IsVolume v → HasPadBelow v level →
+        All HasNoBorder (measures_at v level) }
 {}

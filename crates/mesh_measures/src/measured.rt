@@ -23,9 +23,12 @@ fn placed_triangles(
     volume: &VoxelList,
     level: Level,
 ) -> Result<(TriangleList, Vec<[i64; 3]>), Memory>
-    ensures count { IfOk result (λ r. r.0.vertex_count ≡ length (vertices volume.now.grid (field volume.now.samples level))) }
-    ensures triangles { IfOk result (λ r. triangles_of r.0.triangles ≡ triangles volume.now.grid (field volume.now.samples level)) }
-    ensures positions { IfOk result (λ r. r.1.items ≡ positions_of (is_some volume.now.pad) (vertices volume.now.grid (field volume.now.samples level))) }
+    ensures count { IfOk result (λ r. r.0.vertex_count
+        ≡ length (vertices volume.now.grid (field volume.now.samples level))) }
+    ensures triangles { IfOk result (λ r. triangles_of r.0.triangles
+        ≡ triangles volume.now.grid (field volume.now.samples level)) }
+    ensures positions { IfOk result (λ r. r.1.items
+        ≡ positions_of (is_some volume.now.pad) (vertices volume.now.grid (field volume.now.samples level))) }
 {
     let mesh = extract_flat(alloc, volume, level)?;
     let at = printed_positions(alloc, &mesh, volume.pad().is_some())?;

@@ -40,7 +40,8 @@ version_alone _ = false
 -- behind the word format
 abbrev pub format_line : List (List ℕ) → Heading
 format_line [] = IsOther
-format_line (word ∷ words) = if is_binary word then IsBinary else if is_ascii word && version_alone words then IsAscii else IsOther
+format_line (word ∷ words) = if is_binary word then IsBinary else if is_ascii word && version_alone words
+    then IsAscii else IsOther
 
 -- an element with the count that its word gives
 abbrev pub counted : List ℕ → Option ℕ → Heading
@@ -118,7 +119,8 @@ abbrev pub fault_of : List Heading → ℕ → Heading → Option MeshFault
 fault_of before line IsUnread = None
 fault_of before line IsAscii = bad_if line (list_any is_format before)
 fault_of before line IsBinary = Some BinaryPly
-fault_of before line (IsElement name n) = bad_if line (not (list_any is_format before) || has_name name (elements before))
+fault_of before line (IsElement name n) = bad_if line
+    (not (list_any is_format before) || has_name name (elements before))
 fault_of before line (IsProperty corners) = bad_if line (length (elements before) == 0)
 fault_of before line IsEnd = bad_if line (not (list_any is_format before))
 fault_of before line IsOther = Some (BadHeader line)
@@ -243,7 +245,8 @@ face_of n (line, word ∷ words) = with_three n line words (ok_or (digits_value 
 abbrev pub body_of : ℕ → ℕ → ℕ → ℕ → List (ℕ × List (List ℕ)) → Result Mesh MeshFault
 body_of n before count all lines = do
   triangles ← all_or_first (map (face_of n) (take count (drop before lines)))
-  if nat_lt (length lines) all then Err (ShortMesh all (length lines)) else Ok (record { vertex_count = n; triangles = triangles })
+  if nat_lt (length lines) all then Err (ShortMesh all (length lines))
+      else Ok (record { vertex_count = n; triangles = triangles })
 
 -- the mesh of these elements and of the numbered lines behind the header
 abbrev pub mesh_of : List (List ℕ × ℕ) → List (ℕ × List (List ℕ)) → Result Mesh MeshFault
@@ -253,7 +256,8 @@ mesh_of es lines = body_of (count_of is_vertex es) (before_faces es) (count_of i
 abbrev pub lines_mesh : List (List (List ℕ)) → List Heading → Result Mesh MeshFault
 lines_mesh lines heads =
     unless_fault (header_fault heads)
-    (mesh_of (elements (up_to_end heads)) (with_words (numbered (length (up_to_end heads) + 2) (drop (length (up_to_end heads)) lines))))
+    (mesh_of (elements (up_to_end heads)) (with_words
+    (numbered (length (up_to_end heads) + 2) (drop (length (up_to_end heads)) lines))))
 
 -- the words of each line
 abbrev pub ply_words : List ℕ → List (List (List ℕ))
@@ -270,7 +274,8 @@ is_ply text = bytes_eq text (codes "ply")
 -- the mesh of all lines
 abbrev pub by_texts : List (List ℕ) → Result Mesh MeshFault
 by_texts [] = Err NotMesh
-by_texts (first ∷ texts) = if is_ply first then lines_mesh (map words_of texts) (map heading_of (map words_of texts)) else Err NotMesh
+by_texts (first ∷ texts) = if is_ply first
+    then lines_mesh (map words_of texts) (map heading_of (map words_of texts)) else Err NotMesh
 
 -- the mesh that a PLY text gives, or the first refusal
 abbrev pub ply_of : List ℕ → Result Mesh MeshFault

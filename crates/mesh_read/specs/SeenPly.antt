@@ -34,7 +34,14 @@ start = record { format = false; elements = []; open_face = None; bad_face = Non
 
 -- what the code holds while no line had a fault
 abbrev pub told : Header → Told
-told h = record { format = h.format; elements = h.elements; open_face = h.open_face; bad_face = h.bad_face; fault = None; number = h.number }
+told h = record {
+  format = h.format;
+  elements = h.elements;
+  open_face = h.open_face;
+  bad_face = h.bad_face;
+  fault = None;
+  number = h.number;
+}
 
 -- the fault of the line by what was seen
 abbrev pub fault_now : Told → ply.Heading → Option MeshFault

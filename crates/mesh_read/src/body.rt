@@ -95,7 +95,8 @@ pub fn read_body(
 ) -> Result<TriangleList, MeshFault>
     requires parts { before + faces ≤ needed }
     requires lines { first + length bytes.now < 2 ^ 32 }
-    ensures { Answers result (body_of vertices before faces needed (with_words (numbered first (ply_words bytes.now)))) }
+    ensures { Answers result (body_of vertices before faces needed
+        (with_words (numbered first (ply_words bytes.now)))) }
 {
     let mut triangles = Vec::new(alloc);
     let mut number = first;

@@ -105,7 +105,8 @@ pub fn read_header(alloc: Global, bytes: &[u8]) -> Result<(Header<'_>, &[u8]), M
     requires { length bytes.now ≤ 2 ^ 30 }
     ensures told { IfOk result (λ x. told x.0 ≡ all_told start (up_to_end (ply_heads bytes.now))) }
     ensures ended { IfOk result (λ _. list_any is_end (ply_heads bytes.now) ≡ true) }
-    ensures body { IfOk result (λ x. ply_words x.1.now ≡ drop (length (up_to_end (ply_heads bytes.now))) (ply_words bytes.now)) }
+    ensures body { IfOk result (λ x. ply_words x.1.now
+        ≡ drop (length (up_to_end (ply_heads bytes.now))) (ply_words bytes.now)) }
     ensures number { IfOk result (λ x. x.0.number + length x.1.now ≤ 2 + length bytes.now) }
     ensures refused { IfErr result (λ e. (e ≡ Memory) ⊎ (header_fault (ply_heads bytes.now) ≡ Some e)) }
 {

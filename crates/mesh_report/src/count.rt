@@ -66,8 +66,10 @@ fn begun_all(
     requires rings { rings.now ≡ map (arcs (triangles_of mesh.now.triangles)) (below mesh.now.vertex_count) }
     requires names { names.now ≡ component_of_each mesh.now }
     requires size { length places.old ≡ mesh.now.vertex_count }
-    ensures tallies { IfOk result (λ ts. ts.items ≡ map nothing_of (components mesh.now.vertex_count (triangles_of mesh.now.triangles))) }
-    ensures places { OnOk result (ArePlaces (components mesh.now.vertex_count (triangles_of mesh.now.triangles)) places.new) }
+    ensures tallies { IfOk result (λ ts. ts.items
+        ≡ map nothing_of (components mesh.now.vertex_count (triangles_of mesh.now.triangles))) }
+    ensures places { OnOk result (ArePlaces (components mesh.now.vertex_count (triangles_of mesh.now.triangles))
+        places.new) }
 {
     let mut tallies = Vec::new(alloc);
     for v in 0..mesh.vertex_count() {
@@ -84,7 +86,8 @@ fn is_smallest(mesh: &TriangleList, rings: &Rings, names: &[u32], v: u32) -> boo
     requires rings { rings.now ≡ map (arcs (triangles_of mesh.now.triangles)) (below mesh.now.vertex_count) }
     requires names { names.now ≡ component_of_each mesh.now }
     requires vertex { v < mesh.now.vertex_count }
-    ensures { result ≡ (list_any (uses v) (triangles_of mesh.now.triangles) && component mesh.now.vertex_count (triangles_of mesh.now.triangles) v == v) }
+    ensures { result ≡ (list_any (uses v) (triangles_of mesh.now.triangles)
+        && component mesh.now.vertex_count (triangles_of mesh.now.triangles) v == v) }
 {
     !rings.arcs_round(v).is_empty() && names[v as usize] == v
 }
@@ -106,9 +109,12 @@ fn count_all(
     requires places { ArePlaces (components mesh.now.vertex_count (triangles_of mesh.now.triangles)) places.now }
     requires marks { length marks.old ≡ mesh.now.vertex_count }
     requires clear { AreClear marks.old }
-    requires tallies { tallies.old ≡ map nothing_of (components mesh.now.vertex_count (triangles_of mesh.now.triangles)) }
-    ensures total { result ≡ tally_of_all mesh.now.vertex_count (triangles_of mesh.now.triangles) mesh.now.vertex_count }
-    ensures each { tallies.new ≡ map (tally_of mesh.now.vertex_count (triangles_of mesh.now.triangles) mesh.now.vertex_count)
+    requires tallies { tallies.old ≡ map nothing_of
+        (components mesh.now.vertex_count (triangles_of mesh.now.triangles)) }
+    ensures total { result ≡ tally_of_all mesh.now.vertex_count (triangles_of mesh.now.triangles)
+        mesh.now.vertex_count }
+    ensures each { tallies.new ≡ map (tally_of mesh.now.vertex_count (triangles_of mesh.now.triangles)
+        mesh.now.vertex_count)
         (components mesh.now.vertex_count (triangles_of mesh.now.triangles)) }
 {
     let mut total = Tally::new(0);

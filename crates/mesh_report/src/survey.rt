@@ -58,7 +58,10 @@ fn report_on(alloc: Global, counts: &Counts) -> Result<Report, Memory>
     requires total { IsSmall counts.now.total }
     requires each { All IsSmall counts.now.each.items }
     requires ascending { IsAscending counts.now.each.items }
-    ensures { IfOk result (λ r. r ≡ record { total = part_with counts.now.total; parts = map part_with counts.now.each.items }) }
+    ensures { IfOk result (λ r. r ≡ record {
+      total = part_with counts.now.total;
+      parts = map part_with counts.now.each.items;
+    }) }
 {
     let mut parts = IndexMap::new(alloc);
     for tally in counts.each.as_slice() {

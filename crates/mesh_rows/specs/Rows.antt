@@ -14,7 +14,8 @@ pub record IsCaseOf (v : Leveled) (q case : ℕ) : Type 0 where
 
 -- numbers of cases that have the loops of the first cells of a row
 abbrev pub AreCasesTo : Leveled → ℕ → ℕ → ℕ → List ℕ → Type 0
-AreCasesTo v y z count cases = (x : ℕ) → x + 1 < v.grid.nx → x < count → IsCaseOf v (index v.grid x y z) (slice_index cases x)
+AreCasesTo v y z count cases = (x : ℕ) → x + 1 < v.grid.nx → x < count →
+    IsCaseOf v (index v.grid x y z) (slice_index cases x)
 
 -- those of all its cells
 abbrev pub AreCases : Leveled → ℕ → ℕ → List ℕ → Type 0
@@ -22,11 +23,13 @@ AreCases v y z cases = AreCasesTo v y z v.grid.nx cases
 
 -- the flags of the first points of a row
 abbrev pub AreFlagsTo : Leveled → ℕ → ℕ → ℕ → List ℕ → Type 0
-AreFlagsTo v y z count flags = (x : ℕ) → x < v.grid.nx → x < count → slice_index flags x ≡ flags_at v.grid (heights v) (row_start v.grid y z + x)
+AreFlagsTo v y z count flags = (x : ℕ) → x < v.grid.nx → x < count → slice_index flags x
+    ≡ flags_at v.grid (heights v) (row_start v.grid y z + x)
 
 -- and of all
 abbrev pub AreFlags : Leveled → ℕ → ℕ → List ℕ → Type 0
-AreFlags v y z flags = (x : ℕ) → x < v.grid.nx → slice_index flags x ≡ flags_at v.grid (heights v) (row_start v.grid y z + x)
+AreFlags v y z flags = (x : ℕ) → x < v.grid.nx → slice_index flags x
+    ≡ flags_at v.grid (heights v) (row_start v.grid y z + x)
 
 -- no crossing edge begins at a point of a row
 pub record IsStill (v : Leveled) (y z : ℕ) : Type 0 where
@@ -34,7 +37,8 @@ pub record IsStill (v : Leveled) (y z : ℕ) : Type 0 where
 
 -- the numbers of the first crossing edges of the points of a row, and behind them that of the next row
 abbrev pub AreFirst : Leveled → ℕ → ℕ → List ℕ → Type 0
-AreFirst v y z first = (x : ℕ) → x ≤ v.grid.nx → slice_index first x ≡ rank v.grid (heights v) (3 * (row_start v.grid y z + x))
+AreFirst v y z first = (x : ℕ) → x ≤ v.grid.nx → slice_index first x
+    ≡ rank v.grid (heights v) (3 * (row_start v.grid y z + x))
 
 -- the names of the crossing edges that begin in a row, ascending
 abbrev pub row_names : Leveled → ℕ → ℕ → List ℕ

@@ -53,7 +53,8 @@ pub trait MeshRows: Heights {
         ensures volume { Self.leveled self.new ≡ Self.leveled self.old }
         ensures kept { kept self.new ≡ kept self.old }
         ensures least { spent self.old ≤ spent self.new }
-        ensures most { spent self.new ≤ spent self.old + row_cost (kept self.old) (y + (Self.leveled self.old).grid.ny * z) };
+        ensures most { spent self.new ≤ spent self.old
+            + row_cost (kept self.old) (y + (Self.leveled self.old).grid.ny * z) };
 
     /// How many centres and triangles all cells have.
     fn count_cells(&mut self) -> Counts

@@ -14,4 +14,5 @@ parts_line front middle n tail = piece_text front ++ (piece_text middle ++ (thre
 -- a line of three pieces, and three digits behind each
 abbrev pub thirds_line : {N : ℕ} → Piece N → Piece N → Piece N → List ℕ → List ℕ
 thirds_line x y z at =
-    line ((piece_text x ++ three_digits (slice_index at 0)) ++ ((piece_text y ++ three_digits (slice_index at 1)) ++ (piece_text z ++ three_digits (slice_index at 2))))
+    line ((piece_text x ++ three_digits (slice_index at 0))
+    ++ ((piece_text y ++ three_digits (slice_index at 1)) ++ (piece_text z ++ three_digits (slice_index at 2))))

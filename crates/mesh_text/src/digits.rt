@@ -120,7 +120,8 @@ fn put_three<D: Digits>(digits: &D, a: u64, b: u64, c: u64, room: &mut [u8], at:
     requires space { at + 39 ≤ length room.old }
     ensures end { result ≤ at + 39 }
     ensures behind { at ≤ result }
-    ensures written { take result room.new ≡ take at room.old ++ line (decimal a ++ 32 ∷ (decimal b ++ 32 ∷ decimal c)) }
+    ensures written { take result room.new ≡ take at room.old
+        ++ line (decimal a ++ 32 ∷ (decimal b ++ 32 ∷ decimal c)) }
 {
     let at = digits.put_number(a, room, at);
     let at = put_byte(b' ', room, at);

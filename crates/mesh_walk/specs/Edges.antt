@@ -8,7 +8,8 @@ use Rattle.mesh_walk.specs.declared.edges.RowEdges.{RowEdges}
 -- those that begin at a point, by its flags
 abbrev pub edges_at : ℕ → ℕ → List ℕ
 edges_at flags x =
-    cond (flags % 2 == 1) ((3 * x) ∷ []) [] ++ (cond (flags / 2 % 2 == 1) ((3 * x + 1) ∷ []) [] ++ cond (flags / 4 == 1) ((3 * x + 2) ∷ []) [])
+    cond (flags % 2 == 1) ((3 * x) ∷ []) [] ++ (cond (flags / 2 % 2 == 1) ((3 * x + 1) ∷ []) []
+    ++ cond (flags / 4 == 1) ((3 * x + 2) ∷ []) [])
 
 -- and at n points from one on
 unfoldable pub edges_among : List ℕ → ℕ → ℕ → List ℕ

@@ -30,9 +30,11 @@ slot_place places slots at e = slice_index places (slice_index slots e + at)
 pub record AreCellPlaces (v : Leveled) (q : ℕ) (places slots : List ℕ) (at : ℕ) : Type 0 where
   pub column : at ≤ 3072
   pub bound : (e : ℕ) → e < 12 → slice_index slots e ≤ 9239
-  pub each : (e : ℕ) → e < 12 → crosses (cell_signs v.grid (heights v) q) e ≡ true → slot_place places slots at e ≡ cell_place v q e
+  pub each : (e : ℕ) → e < 12 → crosses (cell_signs v.grid (heights v) q) e ≡ true → slot_place places slots at e
+      ≡ cell_place v q e
   pub low : (e : ℕ) → e < 12 → crosses (cell_signs v.grid (heights v) q) e ≡ true → cell_place v q e ≤ 1000
 
 -- the three coordinates of the vertex on a cell edge as one number
 abbrev pub lanes_of : (ℕ → ℕ) → ℕ → ℕ
-lanes_of place e = local_coordinate place 0 e + (65536 * local_coordinate place 1 e + 4294967296 * local_coordinate place 2 e)
+lanes_of place e = local_coordinate place 0 e
+    + (65536 * local_coordinate place 1 e + 4294967296 * local_coordinate place 2 e)

@@ -12,11 +12,13 @@ row_slot y z = 3078 * (y % 2 + 2 * (z % 2))
 
 -- the slot of an edge of the first cell of a row of cells
 abbrev pub edge_slot : ℕ → ℕ → ℕ → ℕ
-edge_slot y z e = row_slot (y + corner_offset (edge_corner e) 1) (z + corner_offset (edge_corner e) 2) + (3 * corner_offset (edge_corner e) 0 + e / 4)
+edge_slot y z e = row_slot (y + corner_offset (edge_corner e) 1) (z + corner_offset (edge_corner e) 2)
+    + (3 * corner_offset (edge_corner e) 0 + e / 4)
 
 -- the slots of a row of points have what is due to its crossing edges, by their names
 pub record AreLaid (at due : ℕ → List ℕ) (v : Leveled) (y z : ℕ) : Type 0 where
-  pub each : (e : ℕ) → e < 3 * v.grid.nx → is_crossing v.grid (heights v) (3 * row_start v.grid y z + e) ≡ true → at (row_slot y z + e) ≡ due (3 * row_start v.grid y z + e)
+  pub each : (e : ℕ) → e < 3 * v.grid.nx → is_crossing v.grid (heights v) (3 * row_start v.grid y z + e) ≡ true →
+      at (row_slot y z + e) ≡ due (3 * row_start v.grid y z + e)
 
 -- so have those of two rows of points of two slices, one behind the other
 pub record AreLaidInBoth (at due : ℕ → List ℕ) (v : Leveled) (y z : ℕ) : Type 0 where

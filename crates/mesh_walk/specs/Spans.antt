@@ -24,7 +24,10 @@ edge_line style v n = vertex_line style (n, edge_position v.grid (heights v) n)
 
 -- the line of the centre of a loop of a cell, under any name
 abbrev pub centre_line : Style → Leveled → ℕ → List ℕ → ℕ → List ℕ
-centre_line style v q edges n = vertex_line style (n, centre_position v.grid (heights v) (map (cell_edge v.grid q) edges))
+centre_line style v q edges n = vertex_line style (
+  n,
+  centre_position v.grid (heights v) (map (cell_edge v.grid q) edges),
+)
 
 -- the lines of the centres of a cell
 unfoldable pub centre_lines : Style → Leveled → ℕ → List ℕ
@@ -81,4 +84,5 @@ loop_lines style centres = flat_map (λ c. vertex_line style (at_centre c)) cent
 
 -- the lines of all vertices, what stands behind them, and the lines of all triangles, so many as there are
 abbrev pub lines_text : Style → Leveled → ℕ → List ℕ
-lines_text style v faces = all_edges_text style v ++ (all_centres_text style v ++ (middle_of style.format faces ++ all_faces_text style.format v))
+lines_text style v faces = all_edges_text style v
+    ++ (all_centres_text style v ++ (middle_of style.format faces ++ all_faces_text style.format v))

@@ -112,7 +112,8 @@ impl<'a> CentreRow<'a> {
     #[inline(always)]
     fn cell_places<H: Heights>(self, field: &H, cell: Cell) -> CellPlaces<'a>
         requires cell { IsCellAt (H.leveled field.now).grid cell }
-        requires places { AreRowPlaces (H.leveled field.now) cell.low.y cell.low.z self.places.now.places self.slots.now }
+        requires places { AreRowPlaces (H.leveled field.now) cell.low.y cell.low.z self.places.now.places
+            self.slots.now }
         ensures { AreCellPlaces (H.leveled field.now) cell.index result.places.now result.slots.now result.at }
     {
         let _ = field;

@@ -83,7 +83,12 @@ impl RowEdges {
         requires z { z < (R.leveled rows.old).grid.nz }
         requires width { self.old.texts.count ≡ (R.leveled rows.old).grid.nx }
         ensures edges { AreRowEdges (R.leveled rows.old) self.new }
-        ensures texts { self.new.texts ≡ record { style = self.old.texts.style; count = self.old.texts.count; y = y; z = z } }
+        ensures texts { self.new.texts ≡ record {
+          style = self.old.texts.style;
+          count = self.old.texts.count;
+          y = y;
+          z = z;
+        } }
         ensures volume { R.leveled rows.new ≡ R.leveled rows.old }
         ensures kept { R.kept rows.new ≡ R.kept rows.old }
         ensures spent { R.spent rows.new ≡ R.spent rows.old }

@@ -31,12 +31,14 @@ is_first text =
 abbrev pub header_of : ℕ → List Line → Result (Fields × List ℕ) NrrdFault
 header_of bytes lines =
     if nat_lt 65536 bytes then Err (HeaderTooLong bytes) else
-    unless_fault (first_fault (meanings (header_texts lines))) (Ok (fields_in (meanings (header_texts lines)), sample_bytes lines))
+    unless_fault (first_fault (meanings (header_texts lines)))
+    (Ok (fields_in (meanings (header_texts lines)), sample_bytes lines))
 
 -- the fields and the bytes of the samples, by all lines
 abbrev pub by_lines : ℕ → List Line → Result (Fields × List ℕ) NrrdFault
 by_lines bytes [] = Err NotNrrd
-by_lines bytes (first ∷ lines) = if is_first first.text then header_of (bytes - length (sample_bytes lines)) lines else Err NotNrrd
+by_lines bytes (first ∷ lines) = if is_first first.text then header_of (bytes - length (sample_bytes lines)) lines
+    else Err NotNrrd
 
 -- the fields and the bytes of the samples
 unfoldable pub split_of : List ℕ → Result (Fields × List ℕ) NrrdFault

@@ -51,7 +51,15 @@ put_field h ByteSkip v = record h { byte_skip = Some v }
 
 -- before the first line
 abbrev pub no_fields : Fields
-no_fields = record { dimension = None; kind = None; sizes = None; encoding = None; endian = None; line_skip = None; byte_skip = None }
+no_fields = record {
+  dimension = None;
+  kind = None;
+  sizes = None;
+  encoding = None;
+  endian = None;
+  line_skip = None;
+  byte_skip = None;
+}
 
 -- the values behind line n too, or its fault
 abbrev pub after_line : Fields → ℕ → Saying → Result Fields NrrdFault

@@ -167,7 +167,8 @@ pub fn ask_skip(value: Option<&[u8]>, field: Field) -> Result<(), NrrdFault>
 
 /// Exactly three numbers that are not negative.
 fn three_numbers(text: &[u8]) -> Option<(u64, u64, u64)>
-    ensures { option_map (λ x. record { nx = x.0; ny = x.1; nz = x.2 }) result ≡ checks.three_numbers (three_in (words_of text.now)) }
+    ensures { option_map (λ x. record { nx = x.0; ny = x.1; nz = x.2 }) result
+        ≡ checks.three_numbers (three_in (words_of text.now)) }
 {
     let (x, y, z) = three_words(text)?;
     let nx = whole(x)?;

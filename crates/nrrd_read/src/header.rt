@@ -72,7 +72,8 @@ impl<'a> Header<'a> {
 
     /// Takes one more line in, or gives its fault.
     fn add(&mut self, number: u32, text: &'a [u8]) -> Result<(), NrrdFault>
-        ensures { map_ok (λ _. seen_fields self.new) result ≡ after_line (seen_fields self.old) number (meaning_of text.now) }
+        ensures { map_ok (λ _. seen_fields self.new) result
+            ≡ after_line (seen_fields self.old) number (meaning_of text.now) }
     {
         match line_meaning(text) {
             Meaning::Unread => Ok(()),
@@ -123,7 +124,8 @@ fn header_line(bytes: &[u8]) -> Option<(&[u8], &[u8])>
 pub fn read_fields(bytes: &[u8]) -> Result<Header<'_>, NrrdFault>
     requires { length bytes.now ≤ 65536 + length (sample_bytes (lines_of bytes.now)) }
     ensures { map_ok seen_fields result
-        ≡ unless_fault (first_fault (meanings (header_texts (lines_of bytes.now)))) (Ok (fields_in (meanings (header_texts (lines_of bytes.now))))) }
+        ≡ unless_fault (first_fault (meanings (header_texts (lines_of bytes.now))))
+        (Ok (fields_in (meanings (header_texts (lines_of bytes.now))))) }
 {
     let mut header = Header::empty();
     let mut number = 2u32;

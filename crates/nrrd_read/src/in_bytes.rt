@@ -50,8 +50,10 @@ impl<'a, K: Lies> InBytes<'a, K> {
 fn read_each<K: Lies, T: Packed>(bytes: &[u8], start: usize, into: &mut [T])
     requires room { width_of K.kind * (start + length into.old) ≤ length bytes.now }
     requires few { start + length into.old < 2 ^ 32 }
-    requires fits { All T.Fits (map (λ k. sample_of K.kind K.big bytes.now (start + k)) (range_with_len 0 (length into.old))) }
-    ensures { map T.value into.new ≡ map (λ k. sample_of K.kind K.big bytes.now (start + k)) (range_with_len 0 (length into.old)) }
+    requires fits { All T.Fits (map (λ k. sample_of K.kind K.big bytes.now (start + k))
+        (range_with_len 0 (length into.old))) }
+    ensures { map T.value into.new ≡ map (λ k. sample_of K.kind K.big bytes.now (start + k))
+        (range_with_len 0 (length into.old)) }
 {
     for k in 0..into.len() {
         into[k] = converted(K::read(bytes, start + k));
@@ -65,8 +67,10 @@ fn read_known<const N: usize, K: Lies, T: Packed>(bytes: &[u8], start: usize, in
     requires known { length into.old ≡ N }
     requires room { width_of K.kind * (start + length into.old) ≤ length bytes.now }
     requires few { start + length into.old < 2 ^ 32 }
-    requires fits { All T.Fits (map (λ k. sample_of K.kind K.big bytes.now (start + k)) (range_with_len 0 (length into.old))) }
-    ensures { map T.value into.new ≡ map (λ k. sample_of K.kind K.big bytes.now (start + k)) (range_with_len 0 (length into.old)) }
+    requires fits { All T.Fits (map (λ k. sample_of K.kind K.big bytes.now (start + k))
+        (range_with_len 0 (length into.old))) }
+    ensures { map T.value into.new ≡ map (λ k. sample_of K.kind K.big bytes.now (start + k))
+        (range_with_len 0 (length into.old)) }
 {
     let (_, run) = bytes.split_at(K::width() * start);
     let mut known = [0; N];
@@ -82,8 +86,10 @@ fn read_known<const N: usize, K: Lies, T: Packed>(bytes: &[u8], start: usize, in
 fn read_run<K: Lies, T: Packed>(bytes: &[u8], start: usize, into: &mut [T])
     requires room { width_of K.kind * (start + length into.old) ≤ length bytes.now }
     requires few { start + length into.old < 2 ^ 32 }
-    requires fits { All T.Fits (map (λ k. sample_of K.kind K.big bytes.now (start + k)) (range_with_len 0 (length into.old))) }
-    ensures { map T.value into.new ≡ map (λ k. sample_of K.kind K.big bytes.now (start + k)) (range_with_len 0 (length into.old)) }
+    requires fits { All T.Fits (map (λ k. sample_of K.kind K.big bytes.now (start + k))
+        (range_with_len 0 (length into.old))) }
+    ensures { map T.value into.new ≡ map (λ k. sample_of K.kind K.big bytes.now (start + k))
+        (range_with_len 0 (length into.old)) }
 {
     match into.len() {
         9 => read_known::<9, K, T>(bytes, start, into),
@@ -99,7 +105,8 @@ fn put_by_bound<K: Lies>(bytes: &[u8], start: usize, bound: Option<K::Number>, i
     requires room { width_of K.kind * (start + length into.old) ≤ length bytes.now }
     requires few { start + length into.old < 2 ^ 32 }
     ensures { (least : ℤ) → IsBound K.Number.Fits K.Number.value least bound
-        → into.new ≡ map (λ k. cond (int_le least (sample_of K.kind K.big bytes.now (start + k))) 1 0) (range_with_len 0 (length into.old)) }
+        → into.new ≡ map (λ k. cond (int_le least (sample_of K.kind K.big bytes.now (start + k))) 1 0)
+        (range_with_len 0 (length into.old)) }
 {
     for k in 0..into.len() {
         into[k] = sign(K::read(bytes, start + k), bound);
@@ -110,7 +117,8 @@ fn put_by_bound<K: Lies>(bytes: &[u8], start: usize, bound: Option<K::Number>, i
 fn put_run_signs<K: Lies>(bytes: &[u8], start: usize, level: Level, into: &mut [u8])
     requires room { width_of K.kind * (start + length into.old) ≤ length bytes.now }
     requires few { start + length into.old < 2 ^ 32 }
-    ensures { into.new ≡ map (λ k. sign_of level (sample_of K.kind K.big bytes.now (start + k))) (range_with_len 0 (length into.old)) }
+    ensures { into.new ≡ map (λ k. sign_of level (sample_of K.kind K.big bytes.now (start + k)))
+        (range_with_len 0 (length into.old)) }
 {
     let bound = K::Number::at_least(level.least_above());
     // Each case has its own loop, so that none asks of each number again whether there is a bound.

@@ -70,7 +70,8 @@ fn short_samples(needed: usize, body: &[u8]) -> NrrdFault
 
 /// The volume whose raw samples these bytes begin with, and the number of bytes after them.
 fn raw_volume(layout: Layout, body: &[u8]) -> Result<(RawVolume<'_>, u64), NrrdFault>
-    ensures { result ≡ volume_of layout.sizes layout.kind (raw_samples layout.kind layout.big (point_count layout.sizes) body.now) }
+    ensures { result ≡ volume_of layout.sizes layout.kind
+        (raw_samples layout.kind layout.big (point_count layout.sizes) body.now) }
 {
     let needed = layout.kind.width() as usize * layout.sizes.count() as usize;
     if body.len() < needed {
@@ -83,7 +84,8 @@ fn raw_volume(layout: Layout, body: &[u8]) -> Result<(RawVolume<'_>, u64), NrrdF
 
 /// The volume whose samples these bytes say as numbers, and the number of bytes after them.
 fn text_volume(alloc: Global, layout: Layout, body: &[u8]) -> Result<(ReadVolume, u64), NrrdFault>
-    ensures { Answers result (volume_of layout.sizes layout.kind (text_samples layout.kind (point_count layout.sizes) body.now)) }
+    ensures { Answers result (volume_of layout.sizes layout.kind
+        (text_samples layout.kind (point_count layout.sizes) body.now)) }
 {
     let count = u64::from(layout.sizes.count());
     let (bytes, surplus) = read_text_bytes(alloc, body, layout.kind, count)?;
@@ -92,7 +94,8 @@ fn text_volume(alloc: Global, layout: Layout, body: &[u8]) -> Result<(ReadVolume
 
 /// The volume whose samples stand in these bytes as hex digits, and the number of bytes after them.
 fn hex_volume(alloc: Global, layout: Layout, body: &[u8]) -> Result<(ReadVolume, u64), NrrdFault>
-    ensures { Answers result (volume_of layout.sizes layout.kind (hex_samples layout.kind layout.big (point_count layout.sizes) body.now)) }
+    ensures { Answers result (volume_of layout.sizes layout.kind
+        (hex_samples layout.kind layout.big (point_count layout.sizes) body.now)) }
 {
     let count = u64::from(layout.sizes.count());
     let (bytes, surplus) = read_hex_bytes(alloc, body, layout.kind, layout.big, count)?;

@@ -81,7 +81,8 @@ fn gather_piece<K: Sink, D: Digits, T: Packed>(
 ) -> Result<u64, Failed>
     requires form { All (IsOfForm form) (map T.value values.now) }
     requires room { length values.now ≤ 256 }
-    ensures staged { Stages (K.seen sink.old) (K.seen sink.new) waiting.old waiting.new result (flat_map (printed form) (map T.value values.now)) }
+    ensures staged { Stages (K.seen sink.old) (K.seen sink.new) waiting.old waiting.new result
+        (flat_map (printed form) (map T.value values.now)) }
     ensures bytes { IfOk result (λ n. n ≡ length (flat_map (printed form) (map T.value values.now))) }
     ensures few { IfOk result (λ n. n ≤ 24 * length values.now) }
 {
@@ -100,7 +101,8 @@ pub(crate) fn gather_samples<K: Sink, D: Digits, T: Packed>(
     values: &[T],
 ) -> Result<(), Failed>
     requires { All (IsOfForm form) (map T.value values.now) }
-    ensures { Stages (K.seen sink.old) (K.seen sink.new) waiting.old waiting.new result (flat_map (printed form) (map T.value values.now)) }
+    ensures { Stages (K.seen sink.old) (K.seen sink.new) waiting.old waiting.new result
+        (flat_map (printed form) (map T.value values.now)) }
 {
     let mut rest = values;
     while !rest.is_empty() {
@@ -121,7 +123,8 @@ pub(crate) fn gather_counted<K: Sink, D: Digits, T: Packed>(
 ) -> Result<u64, Failed>
     requires form { All (IsOfForm form) (map T.value values.now) }
     requires few { length values.now ≤ 2 ^ 32 }
-    ensures samples { Stages (K.seen sink.old) (K.seen sink.new) waiting.old waiting.new result (flat_map (printed form) (map T.value values.now)) }
+    ensures samples { Stages (K.seen sink.old) (K.seen sink.new) waiting.old waiting.new result
+        (flat_map (printed form) (map T.value values.now)) }
     ensures bytes { IfOk result (λ n. n ≡ length (flat_map (printed form) (map T.value values.now))) }
     ensures bound { IfOk result (λ n. n ≤ 24 * length values.now) }
 {

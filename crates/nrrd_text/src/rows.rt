@@ -24,7 +24,8 @@ pub fn gather_text<K: Sink, D: Digits, T: Packed>(
 ) -> Result<u64, Failed>
     requires each { All (IsOfKind kind) (map T.value values.now) }
     requires few { length values.now ≤ 2 ^ 32 }
-    ensures line { Stages (K.seen sink.old) (K.seen sink.new) waiting.old waiting.new result (text_line (map T.value values.now)) }
+    ensures line { Stages (K.seen sink.old) (K.seen sink.new) waiting.old waiting.new result
+        (text_line (map T.value values.now)) }
     ensures bytes { IfOk result (λ n. n ≡ length (text_line (map T.value values.now))) }
     ensures bound { IfOk result (λ n. n ≤ 24 * length values.now + 1) }
 {
@@ -48,7 +49,8 @@ pub fn gather_hex<K: Sink, T: Packed>(
 ) -> Result<u64, Failed>
     requires each { All (IsOfKind kind) (map T.value values.now) }
     requires few { length values.now ≤ 2 ^ 32 }
-    ensures line { Stages (K.seen sink.old) (K.seen sink.new) waiting.old waiting.new result (hex_line kind (map T.value values.now)) }
+    ensures line { Stages (K.seen sink.old) (K.seen sink.new) waiting.old waiting.new result
+        (hex_line kind (map T.value values.now)) }
     ensures bytes { IfOk result (λ n. n ≡ length (hex_line kind (map T.value values.now))) }
     ensures bound { IfOk result (λ n. n ≤ 24 * length values.now + 1) }
 {

@@ -58,7 +58,8 @@ pub trait PackedList {
         requires point { IsPoint sizes.now point }
         requires row { point.x + count ≤ sizes.now.nx }
         requires fits { All Fits (S.list samples.now) }
-        ensures { list self.new ≡ row_set place (take count (drop (index_of sizes.now point) (S.list samples.now))) (list self.old) };
+        ensures { list self.new ≡ row_set place (take count (drop (index_of sizes.now point) (S.list samples.now)))
+            (list self.old) };
 }
 
 // Nine samples, as many as a whole row of a brick has, are copied without a loop or a call, since their number is known; so are

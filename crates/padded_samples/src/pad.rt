@@ -37,7 +37,8 @@ impl<'a, S: Samples> Model for Padded<'a, S> {
 
     ghost view = { λ p. record { grid = p.sizes; samples = S.list p.inner.now; pad = p.pad } };
 
-    ghost invariant = { λ p. IsInPad (record { grid = p.sizes; samples = S.list p.inner.now; pad = p.pad }) × (p.stored ≡ grown p.sizes) };
+    ghost invariant = { λ p. IsInPad (record { grid = p.sizes; samples = S.list p.inner.now; pad = p.pad })
+        × (p.stored ≡ grown p.sizes) };
 }
 
 /// Whether two grids have the same sizes.
@@ -132,7 +133,8 @@ impl<'a, S: Samples> Padded<'a, S> {
         requires begun { IsPoint self.now.grid row × (row.x ≡ 0) }
         requires inner { IsInnerRow self.now (point.y + (self.now.grid.ny + 2) * point.z) (index_of self.now.grid row) }
         requires row { point.x + length into.old ≤ self.now.grid.nx + 2 }
-        requires fits { (i : ℕ) → i < length into.old → T.Fits (padded_at self.now (index_of (grown self.now.grid) point + i)) }
+        requires fits { (i : ℕ) → i < length into.old →
+            T.Fits (padded_at self.now (index_of (grown self.now.grid) point + i)) }
         ensures { (i : ℕ) → i < length into.old
             → sample (map T.value into.new) i ≡ padded_at self.now (index_of (grown self.now.grid) point + i) }
     {
@@ -153,7 +155,8 @@ impl<'a, S: Samples> Padded<'a, S> {
     fn copy_part<T: Packed>(&self, point: Point, into: &mut [T])
         requires point { IsPoint (grown self.now.grid) point }
         requires row { point.x + length into.old ≤ self.now.grid.nx + 2 }
-        requires fits { (i : ℕ) → i < length into.old → T.Fits (padded_at self.now (index_of (grown self.now.grid) point + i)) }
+        requires fits { (i : ℕ) → i < length into.old →
+            T.Fits (padded_at self.now (index_of (grown self.now.grid) point + i)) }
         ensures { (i : ℕ) → i < length into.old
             → sample (map T.value into.new) i ≡ padded_at self.now (index_of (grown self.now.grid) point + i) }
     {
@@ -234,7 +237,8 @@ impl<'a, S: Samples> Padded<'a, S> {
     /// Writes the signs of samples from an index on, one by one.
     fn put_each(&self, start: u32, level: Level, into: &mut [u8])
         requires { start + length into.old ≤ point_count (grown self.now.grid) }
-        ensures { (i : ℕ) → i < length into.old → slice_index into.new i ≡ sign_of level (padded_at self.now (start + i)) }
+        ensures { (i : ℕ) → i < length into.old → slice_index into.new i
+            ≡ sign_of level (padded_at self.now (start + i)) }
     {
         // Reading the sizes brings in that the samples are so few that their indices fit.
         let _ = self.sizes();

@@ -95,8 +95,10 @@ pub fn copy_inside<S: Samples, T: Packed>(
     requires point { IsPoint sizes.now point }
     requires row { point.x + count ≤ sizes.now.nx }
     requires fits { (i : ℕ) → i < count → T.Fits (sample (S.list samples.now) (index_of sizes.now point + i)) }
-    ensures inside { (i : ℕ) → i < count → sample (map T.value into.new) (from + i) ≡ sample (S.list samples.now) (index_of sizes.now point + i) }
-    ensures others { (i : ℕ) → (i < from) ⊎ (from + count ≤ i) → sample (map T.value into.new) i ≡ sample (map T.value into.old) i }
+    ensures inside { (i : ℕ) → i < count → sample (map T.value into.new) (from + i)
+        ≡ sample (S.list samples.now) (index_of sizes.now point + i) }
+    ensures others { (i : ℕ) → (i < from) ⊎ (from + count ≤ i) → sample (map T.value into.new) i
+        ≡ sample (map T.value into.old) i }
 {
     samples.copy_row(sizes, point, &mut into[from..from + count]);
 }
@@ -108,7 +110,8 @@ pub fn put_pad<T: Packed>(pad: i64, from: usize, to: usize, into: &mut [T])
     requires room { to ≤ length into.old }
     requires fits { from < to → T.Fits pad }
     ensures inside { (i : ℕ) → from ≤ i → i < to → sample (map T.value into.new) i ≡ pad }
-    ensures others { (i : ℕ) → (i < from) ⊎ (to ≤ i) → sample (map T.value into.new) i ≡ sample (map T.value into.old) i }
+    ensures others { (i : ℕ) → (i < from) ⊎ (to ≤ i) → sample (map T.value into.new) i
+        ≡ sample (map T.value into.old) i }
 {
     for k in from..to {
         into[k] = T::of(pad);
@@ -127,7 +130,8 @@ pub fn put_inside<S: Samples>(
 )
     requires room { from + count ≤ length into.old }
     requires there { start + count ≤ length (S.list samples.now) }
-    ensures inside { (i : ℕ) → i < count → slice_index into.new (from + i) ≡ sign_of level (sample (S.list samples.now) (start + i)) }
+    ensures inside { (i : ℕ) → i < count → slice_index into.new (from + i)
+        ≡ sign_of level (sample (S.list samples.now) (start + i)) }
     ensures before { (i : ℕ) → i < from → slice_index into.new i ≡ slice_index into.old i }
     ensures after { (i : ℕ) → from + count ≤ i → slice_index into.new i ≡ slice_index into.old i }
 {

@@ -54,7 +54,8 @@ pub(crate) fn write_over(pages: &mut Pages, links: &Links, first: u32, entries: 
     ensures next { result ≡ follow links.now (need (length entries.now)) first }
     ensures count { length pages.new ≡ length pages.old }
     ensures whole { All (λ page. length page ≡ 32) pages.new }
-    ensures written { take (length entries.now) (content pages.new links.now (need (length entries.now)) first) ≡ entries.now }
+    ensures written { take (length entries.now) (content pages.new links.now (need (length entries.now)) first)
+        ≡ entries.now }
     ensures others { (page : ℕ) → ((k : ℕ) → k < need (length entries.now) → follow links.now k first ≢ page)
         → slice_index_or pages.new page [] ≡ slice_index_or pages.old page [] }
 {

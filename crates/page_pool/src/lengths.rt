@@ -28,7 +28,8 @@ impl Model for Lengths {
 #[tactic(auto, using(crate::proofs::Written::lengths_reached))]
 fn reach(written: &mut Vec<Option<u16>>, page: usize)
     requires { page < vec_capacity written.old }
-    ensures lengths { (total : ℕ) → page < total → all_lengths written.new.items total ≡ all_lengths written.old.items total }
+    ensures lengths { (total : ℕ) → page < total → all_lengths written.new.items total
+        ≡ all_lengths written.old.items total }
     ensures inside { page < length written.new.items }
     ensures within { (total : ℕ) → page < total → length written.old.items ≤ total → length written.new.items ≤ total }
     ensures capacity { vec_capacity written.old ≤ vec_capacity written.new }

@@ -21,7 +21,8 @@ impl Model for Links {
 
     ghost view = { λ l. all_links l.written.items l.total };
 
-    ghost invariant = { λ l. (length l.written.items ≤ l.total) × ((l.total ≤ vec_capacity l.written) × (l.total < 2 ^ 32)) };
+    ghost invariant = { λ l. (length l.written.items ≤ l.total)
+        × ((l.total ≤ vec_capacity l.written) × (l.total < 2 ^ 32)) };
 }
 
 /// Writes links to the next page as far as that of one page.

@@ -58,7 +58,11 @@ impl Model for Pool {
 
     ghost Value = { Chains };
 
-    ghost view = { λ p. record { by_name = chains_of p.pages p.links p.lengths; free = p.free; total = length p.pages } };
+    ghost view = { λ p. record {
+      by_name = chains_of p.pages p.links p.lengths;
+      free = p.free;
+      total = length p.pages;
+    } };
 
     ghost invariant = { λ p. IsLaidOut p.pages p.links p.lengths p.next_free p.free };
 }
@@ -87,7 +91,8 @@ impl Pool {
     pub fn store(&mut self, entries: &[u32]) -> Result<Chain, Full>
         requires { length entries.now ≤ 512 }
         ensures full { IsErr result ↔ (self.old.free < need (length entries.now)) }
-        ensures numbers { IfErr result (λ full. full ≡ record { needed = need (length entries.now); free = self.old.free }) }
+        ensures numbers { IfErr result (λ full. full
+            ≡ record { needed = need (length entries.now); free = self.old.free }) }
         ensures unchanged { OnErr result (self.new ≡ self.old) }
         ensures new_name { IfOk result (λ chain. chain_at self.old chain ≡ None) }
         ensures stored { IfOk result (λ chain. chain_at self.new chain ≡ Some entries.now) }

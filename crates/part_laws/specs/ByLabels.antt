@@ -26,11 +26,14 @@ abbrev pub named_summary : Grid → (ℕ → ℤ) → List (ℕ × Loop) → (�
 named_summary g s xs name label = record {
   total = part_by (is_border g) 0 (length (crossing_edges g s)) (unlabelled xs);
   parts = map
-      (λ k. part_by (is_border g) (number_of g s k) (count_by (λ e. name (label e) == name (label k)) (crossing_edges g s)) (loops_named xs name (name (label k))))
+      (λ k. part_by (is_border g) (number_of g s k)
+      (count_by (λ e. name (label e) == name (label k)) (crossing_edges g s))
+      (loops_named xs name (name (label k))))
       (firsts (λ e. name (label e)) (crossing_edges g s));
 }
 
 -- and what is measured of them
 abbrev pub named_shares : Grid → (ℕ → ℤ) → List (ℕ × Loop) → (ℕ → ℕ) → (ℕ → ℕ) → (ℕ → Vector) → List Share
 named_shares g s xs name label at =
-    map (λ k. share_round (is_border g) (λ v. at (number_of g s v)) (number_of g s k) (loops_named xs name (name (label k)))) (firsts (λ e. name (label e)) (crossing_edges g s))
+    map (λ k. share_round (is_border g) (λ v. at (number_of g s v)) (number_of g s k)
+    (loops_named xs name (name (label k)))) (firsts (λ e. name (label e)) (crossing_edges g s))

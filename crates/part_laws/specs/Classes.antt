@@ -7,7 +7,8 @@ use Rattle.part_laws.specs.Loops.{Loop}
 -- The class of a vertex, named by its least vertex. Without loops each vertex is a class; each loop more makes one class of those of its vertices.
 unfoldable pub class_of : List Loop → ℕ → ℕ
 class_of [] v = v
-class_of (l ∷ ls) v = if is_in (class_of ls v) (map (class_of ls) l.1) then least_of (map (class_of ls) l.1) else class_of ls v
+class_of (l ∷ ls) v = if is_in (class_of ls v) (map (class_of ls) l.1) then least_of (map (class_of ls) l.1)
+    else class_of ls v
 
 -- whether a loop is of the class: its vertices are of one class, so its first tells
 abbrev pub is_of_class : List Loop → ℕ → Loop → Bool

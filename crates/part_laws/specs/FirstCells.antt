@@ -8,7 +8,8 @@ use Rattle.iso_defs.specs.Scratch.{cell_loops}
 
 -- how far along an axis the lower corner of an edge of a cell lies
 abbrev pub offset : ℕ → ℕ → ℕ
-offset axis e = if axis == 0 then edge_corner e % 2 else (if axis == 1 then edge_corner e / 2 % 2 else edge_corner e / 4)
+offset axis e = if axis == 0 then edge_corner e % 2
+    else (if axis == 1 then edge_corner e / 2 % 2 else edge_corner e / 4)
 
 -- whether no cell before has the edge: along each axis but its own it lies on the far side of the cell, or the cell on the near side of the grid
 abbrev pub is_first_at : Grid → ℕ → ℕ → Bool
@@ -16,4 +17,5 @@ is_first_at g q e = list_all (λ axis. e / 4 == axis || (offset axis e == 1 || c
 
 -- the vertices of the loops of a cell on edges that no cell before has
 abbrev pub first_edges : Grid → (ℕ → ℤ) → ℕ → List ℕ
-first_edges g s q = map (cell_edge g q) (filter (is_first_at g q) (flat_map (λ (l : ℕ × List ℕ). l.1) (cell_loops g s q)))
+first_edges g s q = map (cell_edge g q) (filter (is_first_at g q)
+    (flat_map (λ (l : ℕ × List ℕ). l.1) (cell_loops g s q)))

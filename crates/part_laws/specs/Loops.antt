@@ -29,7 +29,8 @@ AreLong ls = AllByRecursion (λ (l : Loop). 3 ≤ length l.1) ls
 -- the vertices that loops meet, in order and each once, but for those of earlier loops
 abbrev pub met_after : List Loop → List Loop → List ℕ
 met_after earlier [] = []
-met_after earlier (l ∷ ls) = filter (λ v. not (list_any (λ (k : Loop). is_in v k.1) earlier)) l.1 ++ met_after (l ∷ earlier) ls
+met_after earlier (l ∷ ls) = filter (λ v. not (list_any (λ (k : Loop). is_in v k.1) earlier)) l.1
+    ++ met_after (l ∷ earlier) ls
 
 -- the triangles of a loop
 abbrev pub triangles_round : Loop → List Triangle

@@ -18,9 +18,12 @@ least_joined ps a = class_of (map pair_loop ps) a
 -- class with the vertex that its label began at, and so are the vertices that the two labels of a pair began at.
 pub record IsLabelling (xs : List (ℕ × Loop)) (ps : List (ℕ × ℕ)) (label : ℕ → ℕ) : Type 0 where
   pub began : ℕ → ℕ
-  pub joined : AllByRecursion (λ (x : ℕ × Loop). AllByRecursion (λ v. least_joined ps (label v) ≡ least_joined ps x.0) x.1.1) xs
-  pub own : AllByRecursion (λ (x : ℕ × Loop). AllByRecursion (λ v. class_of (unlabelled xs) v ≡ class_of (unlabelled xs) (began (label v))) x.1.1) xs
-  pub meets : AllByRecursion (λ (p : ℕ × ℕ). class_of (unlabelled xs) (began p.0) ≡ class_of (unlabelled xs) (began p.1)) ps
+  pub joined : AllByRecursion (λ (x : ℕ × Loop). AllByRecursion (λ v. least_joined ps (label v)
+      ≡ least_joined ps x.0) x.1.1) xs
+  pub own : AllByRecursion (λ (x : ℕ × Loop). AllByRecursion (λ v. class_of (unlabelled xs) v
+      ≡ class_of (unlabelled xs) (began (label v))) x.1.1) xs
+  pub meets : AllByRecursion (λ (p : ℕ × ℕ). class_of (unlabelled xs) (began p.0)
+      ≡ class_of (unlabelled xs) (began p.1)) ps
 
 -- whether a loop has the vertex
 abbrev pub is_met : List (ℕ × Loop) → ℕ → Bool
@@ -46,6 +49,7 @@ pub record IsNew (xs : List (ℕ × Loop)) (ps : List (ℕ × ℕ)) (label : ℕ
 -- A label for a loop behind others: pairs join it with the labels that the loop's vertices have, it is one of these or new, and the pairs that were
 -- noted meanwhile are of these.
 pub record IsNext (xs : List (ℕ × Loop)) (ps qs : List (ℕ × ℕ)) (label : ℕ → ℕ) (l : Loop) (a : ℕ) : Type 0 where
-  pub joined : (v : ℕ) → is_in v l.1 ≡ true → is_met xs v ≡ true → least_joined (ps ++ qs) (label v) ≡ least_joined (ps ++ qs) a
+  pub joined : (v : ℕ) → is_in v l.1 ≡ true → is_met xs v ≡ true → least_joined (ps ++ qs) (label v)
+      ≡ least_joined (ps ++ qs) a
   pub own : HasLabel xs label l a ⊎ IsNew xs ps label l a
   pub pairs : AllByRecursion (λ (p : ℕ × ℕ). HasLabel xs label l p.0 × HasLabel xs label l p.1) qs

@@ -34,7 +34,8 @@ class_loops ls k = filter (is_of_class ls k) ls
 
 -- its numbers
 abbrev pub class_part : (ℕ → ℕ) → List ℕ → (ℕ → ℕ → Bool) → List Loop → ℕ → Part
-class_part number edges on_border ls k = part_by on_border (number k) (count_by (λ e. class_of ls e == k) edges) (class_loops ls k)
+class_part number edges on_border ls k = part_by on_border (number k) (count_by (λ e. class_of ls e == k) edges)
+    (class_loops ls k)
 
 -- the report on loops whose crossing edges are these, each with a number
 abbrev pub loop_summary : (ℕ → ℕ) → List ℕ → (ℕ → ℕ → Bool) → List Loop → Summary

@@ -46,8 +46,10 @@ share_round on_border at least ls = record {
 
 -- the shares of the classes of loops whose crossing edges are these, each with a number
 abbrev pub loop_measures : (ℕ → ℕ) → List ℕ → (ℕ → ℕ → Bool) → List Loop → (ℕ → Vector) → List Share
-loop_measures number edges on_border ls at = map (λ k. share_round on_border at (number k) (class_loops ls k)) (classes edges ls)
+loop_measures number edges on_border ls at = map (λ k. share_round on_border at (number k) (class_loops ls k))
+    (classes edges ls)
 
 -- those of the loops of a field on a grid, with positions by numbers of vertices
 abbrev pub mesh_shares : Grid → (ℕ → ℤ) → (ℕ → Vector) → List Share
-mesh_shares g s at = loop_measures (number_of g s) (crossing_edges g s) (is_border g) (mesh_loops g s) (λ v. at (number_of g s v))
+mesh_shares g s at = loop_measures (number_of g s) (crossing_edges g s) (is_border g) (mesh_loops g s)
+    (λ v. at (number_of g s v))

@@ -18,7 +18,8 @@ pub fn faces_by_steps()
 
 /// One loop more meets those of its vertices that none of the loops before it has.
 pub fn loops_meet()
-    ensures { (ls : List Loop) (l : Loop) → met_after [] (ls ++ l ∷ []) ≡ met_after [] ls ++ filter (λ v. not (list_any (λ k. is_in v k.1) ls)) l.1 }
+    ensures { (ls : List Loop) (l : Loop) → met_after [] (ls ++ l ∷ [])
+        ≡ met_after [] ls ++ filter (λ v. not (list_any (λ k. is_in v k.1) ls)) l.1 }
 {}
 
 /// The class of a vertex is the least vertex to which chains of loops lead, and nothing else is. Two vertices are of one
@@ -26,21 +27,25 @@ pub fn loops_meet()
 pub fn classes_by_chains()
     ensures least { (ls : List Loop) (v : ℕ) → IsLeastChained ls v (class_of ls v) }
     ensures unique { (ls : List Loop) (v k : ℕ) → IsLeastChained ls v k → class_of ls v ≡ k }
-    ensures joined { (ls : List Loop) (v : ℕ) (us : List ℕ) (w : ℕ) → IsChain ls v us w → class_of ls v ≡ class_of ls w }
+    ensures joined { (ls : List Loop) (v : ℕ) (us : List ℕ) (w : ℕ) → IsChain ls v us w → class_of ls v
+        ≡ class_of ls w }
     ensures chained { (ls : List Loop) (v w : ℕ) → class_of ls v ≡ class_of ls w → (us : List ℕ) × IsChain ls v us w }
-    ensures grows { (ls ks : List Loop) (v w : ℕ) → class_of ls v ≡ class_of ls w → class_of (ls ++ ks) v ≡ class_of (ls ++ ks) w }
+    ensures grows { (ls ks : List Loop) (v w : ℕ) → class_of ls v ≡ class_of ls w → class_of (ls ++ ks) v
+        ≡ class_of (ls ++ ks) w }
 {}
 
 /// A number of each vertex is its class where it is the same for the vertices of a loop, and names a vertex of the class
 /// that is not greater.
 pub fn classes_told()
-    ensures { (ls : List Loop) (f : ℕ → ℕ) → IsShared ls f → ((v : ℕ) → f v ≤ v) → ((v : ℕ) → class_of ls (f v) ≡ class_of ls v) → (v : ℕ) → class_of ls v ≡ f v }
+    ensures { (ls : List Loop) (f : ℕ → ℕ) → IsShared ls f → ((v : ℕ) → f v ≤ v) →
+        ((v : ℕ) → class_of ls (f v) ≡ class_of ls v) → (v : ℕ) → class_of ls v ≡ f v }
 {}
 
 /// Where loops have labels below n, the loops of a class are those whose labels belong to it, and a sum over the loops of
 /// some labels is the sum over these labels. So it is with crossing edges.
 pub fn sums_by_labels()
-    ensures classes { (xs : List (ℕ × Loop)) (root : ℕ → ℕ) (k : ℕ) → IsRooted xs root → class_loops (unlabelled xs) k ≡ labelled xs (λ a. root a == k) }
+    ensures classes { (xs : List (ℕ × Loop)) (root : ℕ → ℕ) (k : ℕ) → IsRooted xs root →
+        class_loops (unlabelled xs) k ≡ labelled xs (λ a. root a == k) }
     ensures sums { (n : ℕ) (xs : List (ℕ × Loop)) (p : ℕ → Bool) (f : Loop → ℕ) → AreLabelled n xs →
         sum_by f (labelled xs p) ≡ sum_by (λ a. if p a then sum_by f (labelled xs (λ b. b == a)) else 0) (below n) }
     ensures totals { (n : ℕ) (xs : List (ℕ × Loop)) (p : ℕ → Bool) (f : Loop → ℤ) → AreLabelled n xs →
@@ -52,5 +57,6 @@ pub fn sums_by_labels()
 /// Loops may be measured from any point: what a loop spans is the same, and its volume is less by that of the point over it.
 pub fn loops_moved()
     ensures area { (at : ℕ → Vector) (o : Vector) (vs : List ℕ) → swept (λ v. minus (at v) o) vs ≡ swept at vs }
-    ensures six { (at : ℕ → Vector) (o : Vector) (l : Loop) → six_of (λ v. minus (at v) o) l ≡ six_of at l -ℤ dot o (swept at l.1) }
+    ensures six { (at : ℕ → Vector) (o : Vector) (l : Loop) → six_of (λ v. minus (at v) o) l
+        ≡ six_of at l -ℤ dot o (swept at l.1) }
 {}

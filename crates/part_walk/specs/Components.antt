@@ -21,19 +21,23 @@ abbrev pub edges_of : Leveled → List ℕ
 edges_of v = crossing_edges v.grid (heights v)
 
 -- All loops of the mesh have labels, and all crossing edges were left behind.
-pub record IsWhole {T : Type 0} (value : T → ℕ → ℤ) (fits : ℕ → T → Type 0) (of_loop : Leveled → ℕ → Loop → ℤ) (v : Leveled)
+pub record IsWhole {T : Type 0} (value : T → ℕ → ℤ) (fits : ℕ → T → Type 0) (of_loop : Leveled → ℕ → Loop →
+    ℤ) (v : Leveled)
     (labels : Known) (tallies : List T) (edges : Passed) : Type 0 where
   pub thick : IsThick v.grid
   pub walked : IsWalked value fits of_loop v (v.grid.ny * v.grid.nz) (loops_of v) labels tallies edges
 
 -- the component of a class, which its first crossing edge names
-pub record IsComponent {T : Type 0} (value : T → ℕ → ℤ) (fits : ℕ → T → Type 0) (of_loop : Leveled → ℕ → Loop → ℤ) (v : Leveled) (k : ℕ) (c : Component T) : Type 0 where
+pub record IsComponent {T : Type 0} (value : T → ℕ → ℤ) (fits : ℕ → T → Type 0) (of_loop : Leveled → ℕ → Loop →
+    ℤ) (v : Leveled) (k : ℕ) (c : Component T) : Type 0 where
   pub least : c.least ≡ number_of v.grid (heights v) k
   pub crossings : c.crossings ≡ count_by (λ e. class_of (loops_of v) e == k) (edges_of v)
   pub values : (i : ℕ) → value c.tally i ≡ total (of_loop v i) (class_loops (loops_of v) k)
   pub fit : fits (rims (class_loops (loops_of v) k)) c.tally
 
 -- those of all classes, in order
-pub record AreComponents {T : Type 0} (value : T → ℕ → ℤ) (fits : ℕ → T → Type 0) (of_loop : Leveled → ℕ → Loop → ℤ) (v : Leveled) (cs : List (Component T)) : Type 0 where
+pub record AreComponents {T : Type 0} (value : T → ℕ → ℤ) (fits : ℕ → T → Type 0) (of_loop : Leveled → ℕ → Loop →
+    ℤ) (v : Leveled) (cs : List (Component T)) : Type 0 where
   pub count : length cs ≡ length (classes (edges_of v) (loops_of v))
-  pub each : (i : ℕ) (d : Component T) → i < length cs → IsComponent value fits of_loop v (slice_index_or (classes (edges_of v) (loops_of v)) i 0) (slice_index_or cs i d)
+  pub each : (i : ℕ) (d : Component T) → i < length cs →
+      IsComponent value fits of_loop v (slice_index_or (classes (edges_of v) (loops_of v)) i 0) (slice_index_or cs i d)

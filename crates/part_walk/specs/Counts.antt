@@ -40,7 +40,8 @@ part_with least crossings c = record {
   edges = (3 * c.threes + c.spokes + c.border) / 2 + c.spokes;
   faces = c.threes + c.spokes;
   border = c.border;
-  euler = (pos (crossings + c.centres) -ℤ pos ((3 * c.threes + c.spokes + c.border) / 2 + c.spokes)) +ℤ pos (c.threes + c.spokes);
+  euler = (pos (crossings + c.centres) -ℤ pos ((3 * c.threes + c.spokes + c.border) / 2 + c.spokes)) +ℤ pos
+      (c.threes + c.spokes);
 }
 
 -- they are small

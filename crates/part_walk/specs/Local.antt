@@ -34,7 +34,11 @@ local_place values e = place (lower_value values e) (upper_value values e)
 
 -- where the vertex on an edge is
 unfoldable pub local_vertex : List ℤ → ℕ → Position
-local_vertex values e = (local_coordinate (local_place values) 0 e, local_coordinate (local_place values) 1 e, local_coordinate (local_place values) 2 e)
+local_vertex values e = (
+  local_coordinate (local_place values) 0 e,
+  local_coordinate (local_place values) 1 e,
+  local_coordinate (local_place values) 2 e,
+)
 
 -- the sum of the positions of vertices
 abbrev pub position_sum : (ℕ → Position) → List ℕ → Position

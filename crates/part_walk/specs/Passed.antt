@@ -38,11 +38,15 @@ pub record IsLeft (k : Leaving) (n : ℕ) (labels : Known) (edges : Passed) : Ty
   pub grid : labels.marks.grid ≡ k.volume.grid
   pub count : labels.count ≡ k.base.count
   pub pairs : labels.pairs ≡ k.base.pairs
-  pub gone : (m : ℕ) → row_name k.volume.grid k.row ≤ m → m < n → slice_index labels.marks.labels (m % room k.volume.grid) ≡ none
-  pub still : (m : ℕ) → n ≤ m → m < row_name k.volume.grid k.row + room k.volume.grid → slice_index labels.marks.labels (m % room k.volume.grid) ≡ k.label m
-  pub told : (m : ℕ) → row_name k.volume.grid k.row ≤ m → m < row_end k → is_crossing k.volume.grid (heights k.volume) m ≡ not (k.label m == none)
+  pub gone : (m : ℕ) → row_name k.volume.grid k.row ≤ m → m < n →
+      slice_index labels.marks.labels (m % room k.volume.grid) ≡ none
+  pub still : (m : ℕ) → n ≤ m → m < row_name k.volume.grid k.row + room k.volume.grid →
+      slice_index labels.marks.labels (m % room k.volume.grid) ≡ k.label m
+  pub told : (m : ℕ) → row_name k.volume.grid k.row ≤ m → m < row_end k →
+      is_crossing k.volume.grid (heights k.volume) m ≡ not (k.label m == none)
   pub size : length edges.crossings.items ≡ labels.count
-  pub edges_are : AreEdges k.label (rank k.volume.grid (heights k.volume)) (edges_before k.volume n) edges.crossings.items edges.order.items
+  pub edges_are : AreEdges k.label (rank k.volume.grid (heights k.volume)) (edges_before k.volume n)
+      edges.crossings.items edges.order.items
   pub passed : edges.count ≡ rank k.volume.grid (heights k.volume) n
 
 -- the state from which so many edges are left behind, from the one at a place on
@@ -56,4 +60,5 @@ pub record CanLeave (place count : ℕ) (labels : Known) (edges : Passed) : Type
 -- and the one behind them
 abbrev pub HasLeft : ℕ → ℕ → Known → Passed → Known → Passed → Type 0
 HasLeft place count labels edges labels' edges' =
-    (k : Leaving) (n : ℕ) → n + count ≤ row_end k → place ≡ n % room k.volume.grid → IsLeft k n labels edges → IsLeft k (n + count) labels' edges'
+    (k : Leaving) (n : ℕ) → n + count ≤ row_end k → place ≡ n % room k.volume.grid → IsLeft k n labels edges →
+    IsLeft k (n + count) labels' edges'

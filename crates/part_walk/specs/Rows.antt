@@ -9,11 +9,13 @@ use Rattle.part_walk.specs.Walks.{IsWalked, loops_before}
 use Rattle.part_walk.specs.declared.rows.RowWalk.{RowWalk}
 
 -- It walks over this volume, all edges before a row were left behind, and the loops of the cells before a point have labels.
-pub record IsAt {T : Type 0} (value : T → ℕ → ℤ) (fits : ℕ → T → Type 0) (of_loop : Leveled → ℕ → Loop → ℤ) (v : Leveled) (row point : ℕ) (w : RowWalk T) : Type 0 where
+pub record IsAt {T : Type 0} (value : T → ℕ → ℤ) (fits : ℕ → T → Type 0) (of_loop : Leveled → ℕ → Loop →
+    ℤ) (v : Leveled) (row point : ℕ) (w : RowWalk T) : Type 0 where
   pub field : w.field ≡ v
   pub active : AreMarked v w.active
   pub count : length w.cases.items ≡ v.grid.nx
-  pub walked : IsWalked value fits of_loop v row (loops_before v point) w.walked.labels w.walked.tallies.items w.walked.edges
+  pub walked : IsWalked value fits of_loop v row (loops_before v point) w.walked.labels w.walked.tallies.items
+      w.walked.edges
 
 -- The first point of a row that the brick at a place of it holds, or the one behind the row: the last brick holds all points that are left.
 abbrev pub first_point : Grid → ℕ → ℕ

@@ -19,7 +19,8 @@ lies_at axis plane from e = not (e / 4 == axis) && from + corner_offset (edge_co
 -- whether two edges of a cell lie in one outer plane across an axis
 abbrev pub share_side : ℕ → ℕ → ℕ → ℕ → ℕ → Bool
 share_side axis size from a b =
-    (lies_at axis 0 from a && lies_at axis 0 from b) || (lies_at axis (size - 1) from a && lies_at axis (size - 1) from b)
+    (lies_at axis 0 from a && lies_at axis 0 from b)
+    || (lies_at axis (size - 1) from a && lies_at axis (size - 1) from b)
 
 -- how many steps round a loop of a cell lie in the border
 unfoldable pub steps_on : Grid → ℕ → List ℕ → ℕ

@@ -19,11 +19,13 @@ vector_at p = (pos p.0, pos p.1, pos p.2)
 
 -- the centre of the loop of a name that is so much above those of the lattice edges
 abbrev pub centre_at : Leveled → ℕ → Position
-centre_at v n = centre_position v.grid (heights v) (map (cell_edge v.grid (n / 4)) (slice_index_or (loops_at v (n / 4)) (n % 4) []))
+centre_at v n = centre_position v.grid (heights v)
+    (map (cell_edge v.grid (n / 4)) (slice_index_or (loops_at v (n / 4)) (n % 4) []))
 
 -- where a vertex is, by its name
 unfoldable pub named_position : Leveled → ℕ → Vector
-named_position v n = vector_at (if nat_lt n (name_bound v.grid) then edge_position v.grid (heights v) n else centre_at v (n - name_bound v.grid))
+named_position v n = vector_at (if nat_lt n (name_bound v.grid) then edge_position v.grid (heights v) n
+    else centre_at v (n - name_bound v.grid))
 
 -- the numbers, in order
 abbrev pub measure_at : Swept → ℕ → ℤ

@@ -16,13 +16,16 @@ use Rattle.part_walk.specs.Passed.{AreEdges, edges_before}
 use Rattle.part_walk.specs.declared.passed.Passed.{Passed}
 
 -- for each label what is added up of its loops
-pub record AreTallies {T : Type 0} (value : T → ℕ → ℤ) (fits : ℕ → T → Type 0) (of_loop : ℕ → Loop → ℤ) (xs : List (ℕ × Loop)) (count : ℕ) (tallies : List T) : Type 0 where
+pub record AreTallies {T : Type 0} (value : T → ℕ → ℤ) (fits : ℕ → T → Type 0) (of_loop : ℕ → Loop →
+    ℤ) (xs : List (ℕ × Loop)) (count : ℕ) (tallies : List T) : Type 0 where
   pub size : length tallies ≡ count
-  pub values : (a : ℕ) (d : T) (i : ℕ) → a < count → value (slice_index_or tallies a d) i ≡ total (of_loop i) (labelled xs (λ b. b == a))
+  pub values : (a : ℕ) (d : T) (i : ℕ) → a < count → value (slice_index_or tallies a d) i
+      ≡ total (of_loop i) (labelled xs (λ b. b == a))
   pub fit : (a : ℕ) (d : T) → a < count → fits (rims (labelled xs (λ b. b == a))) (slice_index_or tallies a d)
 
 -- More labels are known, of which no loop and no edge has one: those from one number on to before another.
-pub record IsLonger {T : Type 0} (value : T → ℕ → ℤ) (fits : ℕ → T → Type 0) (old new : ℕ) (tallies tallies' : List T) (crossings crossings' : List ℕ) : Type 0 where
+pub record IsLonger {T : Type 0} (value : T → ℕ → ℤ) (fits : ℕ → T →
+    Type 0) (old new : ℕ) (tallies tallies' : List T) (crossings crossings' : List ℕ) : Type 0 where
   pub size : length tallies' ≡ new
   pub edge_size : length crossings' ≡ new
   pub same : (a : ℕ) (d : T) → a < old → slice_index_or tallies' a d ≡ slice_index_or tallies a d
@@ -32,7 +35,8 @@ pub record IsLonger {T : Type 0} (value : T → ℕ → ℤ) (fits : ℕ → T �
   pub zeros : (a : ℕ) → old ≤ a → a < new → slice_index crossings' a ≡ 0
 
 -- These loops have labels, and so have their edges, where a row of points is at hand. The edges that begin in the rows before it were left behind.
-pub record IsWalked {T : Type 0} (value : T → ℕ → ℤ) (fits : ℕ → T → Type 0) (of_loop : Leveled → ℕ → Loop → ℤ) (v : Leveled) (row : ℕ) (loops : List Loop)
+pub record IsWalked {T : Type 0} (value : T → ℕ → ℤ) (fits : ℕ → T → Type 0) (of_loop : Leveled → ℕ → Loop →
+    ℤ) (v : Leveled) (row : ℕ) (loops : List Loop)
     (labels : Known) (tallies : List T) (edges : Passed) : Type 0 where
   pub xs : List (ℕ × Loop)
   pub label : ℕ → ℕ
@@ -40,11 +44,13 @@ pub record IsWalked {T : Type 0} (value : T → ℕ → ℤ) (fits : ℕ → T �
   pub labelled_are : IsLabelled v.grid row xs label labels
   pub size : length edges.crossings.items ≡ labels.count
   pub tallies_are : AreTallies value fits (of_loop v) xs labels.count tallies
-  pub edges_are : AreEdges label (rank v.grid (heights v)) (edges_before v (row_name v.grid row)) edges.crossings.items edges.order.items
+  pub edges_are : AreEdges label (rank v.grid (heights v)) (edges_before v (row_name v.grid row))
+      edges.crossings.items edges.order.items
   pub passed : edges.count ≡ rank v.grid (heights v) (row_name v.grid row)
 
 -- they have few steps
-pub record CanAdd {T : Type 0} (value : T → ℕ → ℤ) (fits : ℕ → T → Type 0) (of_loop : Leveled → ℕ → Loop → ℤ) (v : Leveled) (row : ℕ)
+pub record CanAdd {T : Type 0} (value : T → ℕ → ℤ) (fits : ℕ → T → Type 0) (of_loop : Leveled → ℕ → Loop →
+    ℤ) (v : Leveled) (row : ℕ)
     (labels : Known) (tallies : List T) (edges : Passed) : Type 0 where
   pub loops : List Loop
   pub few : rims loops < 2000000000

@@ -78,7 +78,8 @@ fn outer_step(sizes: &Sizes, cell: Cell, a: u8, b: u8) -> u32
     requires cell { IsCellAt sizes.now cell }
     requires a { a < 12 }
     requires b { b < 12 }
-    ensures value { result ≡ cond (is_border sizes.now (cell_edge sizes.now cell.index a) (cell_edge sizes.now cell.index b)) 1 0 }
+    ensures value { result ≡ cond (is_border sizes.now (cell_edge sizes.now cell.index a)
+        (cell_edge sizes.now cell.index b)) 1 0 }
     ensures bound { result ≤ 1 }
 {
     if is_outer(sizes, cell, a, b) {
@@ -91,7 +92,8 @@ fn outer_step(sizes: &Sizes, cell: Cell, a: u8, b: u8) -> u32
 #[inline(always)]
 fn is_inside(sizes: &Sizes, cell: Cell) -> bool
     requires cell { IsCellAt sizes.now cell }
-    ensures { IsTrue result → (a b : ℕ) → a < 12 → b < 12 → is_border sizes.now (cell_edge sizes.now cell.index a) (cell_edge sizes.now cell.index b) ≡ false }
+    ensures { IsTrue result → (a b : ℕ) → a < 12 → b < 12 →
+        is_border sizes.now (cell_edge sizes.now cell.index a) (cell_edge sizes.now cell.index b) ≡ false }
 {
     let low = cell.low;
     if low.x == 0 || low.y == 0 || low.z == 0 {

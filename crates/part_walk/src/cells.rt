@@ -27,10 +27,13 @@ fn add_cell<T: Tally, H: Heights>(
 ) -> Result<(), Memory>
     requires cell { IsCellAt (H.leveled field.now).grid cell }
     requires case { IsCaseOf (H.leveled field.now) cell.index case }
-    requires places { ArePlaces (H.leveled field.now).grid (cell.low.y + (H.leveled field.now).grid.ny * cell.low.z) places.now }
-    requires state { IsWalked T.value T.fits T.of_loop (H.leveled field.now) (cell.low.y + (H.leveled field.now).grid.ny * cell.low.z) (loops_before (H.leveled field.now) cell.index)
+    requires places { ArePlaces (H.leveled field.now).grid (cell.low.y + (H.leveled field.now).grid.ny * cell.low.z)
+        places.now }
+    requires state { IsWalked T.value T.fits T.of_loop (H.leveled field.now)
+        (cell.low.y + (H.leveled field.now).grid.ny * cell.low.z) (loops_before (H.leveled field.now) cell.index)
         walked.old.labels walked.old.tallies.items walked.old.edges }
-    ensures { OnOk result (IsWalked T.value T.fits T.of_loop (H.leveled field.now) (cell.low.y + (H.leveled field.now).grid.ny * cell.low.z) (loops_before (H.leveled field.now) (cell.index + 1))
+    ensures { OnOk result (IsWalked T.value T.fits T.of_loop (H.leveled field.now)
+        (cell.low.y + (H.leveled field.now).grid.ny * cell.low.z) (loops_before (H.leveled field.now) (cell.index + 1))
         walked.new.labels walked.new.tallies.items walked.new.edges) }
 {
     let _ = field.sizes();
@@ -79,10 +82,15 @@ pub fn add_cells<T: Tally, H: Heights>(
     requires end { end < (H.leveled field.now).grid.nx }
     requires count { length row.now.cases.now ≡ (H.leveled field.now).grid.nx }
     requires cases { AreCases (H.leveled field.now) row.now.y row.now.z row.now.cases.now }
-    requires places { ArePlaces (H.leveled field.now).grid (row.now.y + (H.leveled field.now).grid.ny * row.now.z) row.now.places }
-    requires state { IsWalked T.value T.fits T.of_loop (H.leveled field.now) (row.now.y + (H.leveled field.now).grid.ny * row.now.z) (loops_before (H.leveled field.now) (row_start (H.leveled field.now).grid row.now.y row.now.z + from))
+    requires places { ArePlaces (H.leveled field.now).grid (row.now.y + (H.leveled field.now).grid.ny * row.now.z)
+        row.now.places }
+    requires state { IsWalked T.value T.fits T.of_loop (H.leveled field.now)
+        (row.now.y + (H.leveled field.now).grid.ny * row.now.z)
+        (loops_before (H.leveled field.now) (row_start (H.leveled field.now).grid row.now.y row.now.z + from))
         walked.old.labels walked.old.tallies.items walked.old.edges }
-    ensures { OnOk result (IsWalked T.value T.fits T.of_loop (H.leveled field.now) (row.now.y + (H.leveled field.now).grid.ny * row.now.z) (loops_before (H.leveled field.now) (row_start (H.leveled field.now).grid row.now.y row.now.z + end))
+    ensures { OnOk result (IsWalked T.value T.fits T.of_loop (H.leveled field.now)
+        (row.now.y + (H.leveled field.now).grid.ny * row.now.z)
+        (loops_before (H.leveled field.now) (row_start (H.leveled field.now).grid row.now.y row.now.z + end))
         walked.new.labels walked.new.tallies.items walked.new.edges) }
 {
     let sizes = field.sizes();

@@ -64,7 +64,8 @@ fn begin_all<T: Tally>(
     requires joined { (a : ℕ) → a < length joined.now → slice_index joined.now a < length places.old }
     requires none { (a : ℕ) → a < length places.old → slice_index places.old a ≡ none }
     ensures size { length places.new ≡ length places.old }
-    ensures begun { IfOk result (λ cs. (label number : ℕ → ℕ) (es : List ℕ) → order.now ≡ map (λ e. (label e, number e)) es
+    ensures begun { IfOk result (λ cs. (label number : ℕ → ℕ) (es : List ℕ) → order.now
+        ≡ map (λ e. (label e, number e)) es
         → AreBegun T.value T.fits (λ e. slice_index joined.now (label e)) number es places.new cs.items) }
 {
     let mut components = Vec::new(alloc);
@@ -89,10 +90,12 @@ fn add_all<T: Tally>(
     requires joined { (a : ℕ) → a < length joined.now → slice_index joined.now a < length places.now }
     requires crossings { length crossings.now ≡ length joined.now }
     requires tallies { length tallies.now ≡ length joined.now }
-    requires empty { (i : ℕ) (d : Component T) → i < length components.old → IsEmpty T.value T.fits (slice_index_or components.old i d) }
+    requires empty { (i : ℕ) (d : Component T) → i < length components.old →
+        IsEmpty T.value T.fits (slice_index_or components.old i d) }
     requires few_edges { sum_by (slice_index crossings.now) (below (length joined.now)) < 2 ^ 32 }
     requires few_steps { AreFew T.fits (length joined.now) tallies.now }
-    ensures { AreAdded T.value T.fits (λ a. slice_index places.now (slice_index joined.now a)) (length joined.now) crossings.now tallies.now components.old components.new }
+    ensures { AreAdded T.value T.fits (λ a. slice_index places.now (slice_index joined.now a)) (length joined.now)
+        crossings.now tallies.now components.old components.new }
 {
     for label in 0..joined.len() {
         let place = places[joined[label] as usize] as usize;
@@ -112,8 +115,11 @@ fn joined_labels(alloc: Global, labels: Labels) -> Result<Vec<u32>, Memory>
 
 /// The components in the order of their smallest vertices. What the walk left is given up, so that its memory is free.
 pub fn components<T: Tally>(alloc: Global, walked: Walked<T>) -> Result<Vec<Component<T>>, Memory>
-    requires whole { (v : Leveled) × IsWhole T.value T.fits T.of_loop v walked.labels walked.tallies.items walked.edges }
-    ensures { IfOk result (λ cs. (v : Leveled) → IsWhole T.value T.fits T.of_loop v walked.labels walked.tallies.items walked.edges → AreComponents T.value T.fits T.of_loop v cs.items) }
+    requires whole { (v : Leveled) × IsWhole T.value T.fits T.of_loop v walked.labels walked.tallies.items
+        walked.edges }
+    ensures { IfOk result (λ cs. (v : Leveled) →
+        IsWhole T.value T.fits T.of_loop v walked.labels walked.tallies.items walked.edges →
+        AreComponents T.value T.fits T.of_loop v cs.items) }
 {
     let Walked {
         labels,

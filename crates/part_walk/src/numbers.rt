@@ -46,7 +46,8 @@ fn part_of(least: u32, crossings: u32, counts: &Counts) -> Part
 /// The numbers of components whose smallest vertices ascend.
 fn parts_of(alloc: Global, components: &[Component<Counts>]) -> Result<IndexMap<u32, Part>, Memory>
     requires few { All (λ c. AreFew c.crossings c.tally) components.now }
-    requires ascending { (i j : ℕ) (d : ComponentOf CountsOf) → i < j → j < length components.now → (slice_index_or components.now i d).least < (slice_index_or components.now j d).least }
+    requires ascending { (i j : ℕ) (d : ComponentOf CountsOf) → i < j → j < length components.now →
+        (slice_index_or components.now i d).least < (slice_index_or components.now j d).least }
     ensures { IfOk result (λ parts. values parts ≡ map (λ c. part_with c.least c.crossings c.tally) components.now) }
 {
     let mut parts = IndexMap::new(alloc);
@@ -69,7 +70,8 @@ pub fn numbered<R: CellRows, L: Ledger>(
     requires tree { IsRightFor tree.now store.now }
     requires named { NamesCases (R.named rows.old) store.now.grid (field store.now.samples level) }
     ensures { IfOk result (λ r. r ≡ summary_of
-        (length (vertices store.now.grid (field store.now.samples level))) (triangles store.now.grid (field store.now.samples level))) }
+        (length (vertices store.now.grid (field store.now.samples level)))
+        (triangles store.now.grid (field store.now.samples level))) }
 {
     let _ = store.sizes();
     let walked = walk::<Counts, R, L>(alloc, store, tree, level, rows, steps)?;

@@ -23,7 +23,8 @@ fn note_first(
     label: u32,
     number: u32,
 ) -> Result<(), Memory>
-    ensures { OnOk result (order.new.items ≡ (if before == 0 then order.old.items ++ (label, number) ∷ [] else order.old.items)) }
+    ensures { OnOk result (order.new.items ≡ (if before == 0 then order.old.items ++ (label, number) ∷ []
+        else order.old.items)) }
 {
     if before == 0 {
         order.push((label, number))?;
@@ -52,7 +53,8 @@ impl Passed {
         requires small { slice_index self.old.crossings.items label ≤ self.old.count }
         ensures count { OnOk result (self.new.count ≡ self.old.count + 1) }
         ensures size { OnOk result (length self.new.crossings.items ≡ length self.old.crossings.items) }
-        ensures edges { OnOk result ((f number : ℕ → ℕ) (es : List ℕ) (e : ℕ) → AreEdges f number es self.old.crossings.items self.old.order.items → f e ≡ label → number e ≡ self.old.count
+        ensures edges { OnOk result ((f number : ℕ → ℕ) (es : List ℕ) (e : ℕ) →
+            AreEdges f number es self.old.crossings.items self.old.order.items → f e ≡ label → number e ≡ self.old.count
             → AreEdges f number (es ++ e ∷ []) self.new.crossings.items self.new.order.items) }
     {
         let before = self.crossings[label as usize];

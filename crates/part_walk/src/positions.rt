@@ -83,7 +83,8 @@ pub fn tip_of(sum: &[u32; 3], first: &[u32; 3], count: u32) -> [u32; 3]
     requires sum { All (λ s. s ≤ 1000 * count) sum.now }
     requires first { All (λ c. c ≤ 1000) first.now }
     ensures value { result ≡ if nat_lt 3 count
-        then rounded count (slice_index sum.now 0) ∷ rounded count (slice_index sum.now 1) ∷ rounded count (slice_index sum.now 2) ∷ []
+        then rounded count (slice_index sum.now 0) ∷ rounded count (slice_index sum.now 1)
+        ∷ rounded count (slice_index sum.now 2) ∷ []
         else first.now }
     ensures bound { All (λ c. c ≤ 1000) result }
 {

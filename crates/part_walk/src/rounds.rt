@@ -39,7 +39,8 @@ fn with_cross(swept: &[i64; 3], a: &[u32; 3], b: &[u32; 3]) -> [i64; 3]
     requires room { IsWithin (2 ^ 40) (vector_of swept.now) }
     requires a { All (λ c. c ≤ 1000) a.now }
     requires b { All (λ c. c ≤ 1000) b.now }
-    ensures value { result ≡ coordinates (plus (vector_of swept.now) (cross (vector_at (position_of a.now)) (vector_at (position_of b.now)))) }
+    ensures value { result ≡ coordinates (plus (vector_of swept.now)
+        (cross (vector_at (position_of a.now)) (vector_at (position_of b.now)))) }
     ensures within { (m : ℕ) → IsWithin m (vector_of swept.now) → IsWithin (m + 1000000) (vector_of result) }
 {
     [

@@ -38,7 +38,8 @@ fn add_row<T: Tally>(
     requires count { length cases.now ≡ field.now.grid.nx }
     requires cases { AreCases field.now active.now.y active.now.z cases.now }
     requires state { let row = active.now.y + field.now.grid.ny * active.now.z in
-        IsWalked T.value T.fits T.of_loop field.now row (loops_before field.now (row_start field.now.grid active.now.y active.now.z))
+        IsWalked T.value T.fits T.of_loop field.now row
+        (loops_before field.now (row_start field.now.grid active.now.y active.now.z))
         walked.old.labels walked.old.tallies.items walked.old.edges }
     ensures { let row = active.now.y + field.now.grid.ny * active.now.z in
         let end = row_start field.now.grid active.now.y active.now.z + field.now.grid.nx in
@@ -134,7 +135,8 @@ impl<'a, T: Tally> RowWalk<'a, T> {
         ensures same { R.named rows.new ≡ R.named rows.old }
         ensures active { self.new.active ≡ self.old.active }
         ensures state { let v = self.old.field in let at = self.old.active in
-            OnOk result (IsAt T.value T.fits T.of_loop v (at.y + v.grid.ny * at.z) (row_start v.grid at.y at.z + v.grid.nx) self.new) }
+            OnOk result (IsAt T.value T.fits T.of_loop v (at.y + v.grid.ny * at.z)
+            (row_start v.grid at.y at.z + v.grid.nx) self.new) }
     {
         let sizes = self.field.sizes();
         let (y, z) = (self.active.y, self.active.z);
@@ -159,9 +161,12 @@ impl<'a, T: Tally> RowWalk<'a, T> {
         requires y { y < self.old.field.grid.ny }
         requires z { z < self.old.field.grid.nz }
         requires named { NamesCases (R.named rows.old) self.old.field.grid (heights self.old.field) }
-        requires state { IsAt T.value T.fits T.of_loop self.old.field (y + self.old.field.grid.ny * z) (row_start self.old.field.grid y z) self.old }
+        requires state { IsAt T.value T.fits T.of_loop self.old.field (y + self.old.field.grid.ny * z)
+            (row_start self.old.field.grid y z) self.old }
         ensures same { R.named rows.new ≡ R.named rows.old }
-        ensures state { OnOk result (IsAt T.value T.fits T.of_loop self.old.field (y + self.old.field.grid.ny * z + 1) (row_start self.old.field.grid y z + self.old.field.grid.nx) self.new) }
+        ensures state { OnOk result (IsAt T.value T.fits T.of_loop self.old.field
+            (y + self.old.field.grid.ny * z + 1) (row_start self.old.field.grid y z + self.old.field.grid.nx)
+            self.new) }
     {
         let sizes = self.field.sizes();
         self.active.mark(&self.field, y, z);
@@ -182,9 +187,11 @@ impl<'a, T: Tally> RowWalk<'a, T> {
     ) -> Result<(), Memory>
         requires z { z < self.old.field.grid.nz }
         requires named { NamesCases (R.named rows.old) self.old.field.grid (heights self.old.field) }
-        requires state { IsAt T.value T.fits T.of_loop self.old.field (self.old.field.grid.ny * z) (row_start self.old.field.grid 0 z) self.old }
+        requires state { IsAt T.value T.fits T.of_loop self.old.field (self.old.field.grid.ny * z)
+            (row_start self.old.field.grid 0 z) self.old }
         ensures same { OnOk result (R.named rows.new ≡ R.named rows.old) }
-        ensures state { OnOk result (IsAt T.value T.fits T.of_loop self.old.field (self.old.field.grid.ny * (z + 1)) (row_start self.old.field.grid 0 (z + 1)) self.new) }
+        ensures state { OnOk result (IsAt T.value T.fits T.of_loop self.old.field (self.old.field.grid.ny * (z + 1))
+            (row_start self.old.field.grid 0 (z + 1)) self.new) }
     {
         let sizes = self.field.sizes();
         for y in 0..sizes.ny() {
@@ -205,7 +212,8 @@ pub fn walk<T: Tally, R: CellRows, L: Ledger>(
 ) -> Result<Walked<T>, Memory>
     requires tree { IsRightFor tree.now store.now }
     requires named { NamesCases (R.named rows.old) store.now.grid (field_of store.now.samples level) }
-    ensures { IfOk result (λ w. IsWhole T.value T.fits T.of_loop (at_level store.now level) w.labels w.tallies.items w.edges) }
+    ensures { IfOk result (λ w. IsWhole T.value T.fits T.of_loop (at_level store.now level) w.labels w.tallies.items
+        w.edges) }
 {
     let sizes = store.sizes();
     let walked = Walked::new(alloc, sizes)?;

@@ -59,7 +59,8 @@ fn of_one<H: Heights>(field: &H, cell: Cell, edges: &[u8]) -> Swept
     requires cell { IsCellAt (H.leveled field.now).grid cell }
     requires edges { IsLoop edges.now }
     requires there { IsOneLoop (H.leveled field.now) cell.index edges.now }
-    ensures values { (l : Loop) → IsLoopIn (H.leveled field.now) cell.index edges.now l → (i : ℕ) → measure_at result i ≡ measured_of (H.leveled field.now) i l }
+    ensures values { (l : Loop) → IsLoopIn (H.leveled field.now) cell.index edges.now l → (i : ℕ) →
+        measure_at result i ≡ measured_of (H.leveled field.now) i l }
     ensures fits { AreSmall (length edges.now) result }
 {
     let sizes = field.sizes();

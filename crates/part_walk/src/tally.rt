@@ -36,7 +36,8 @@ pub trait Tally: Copy + Drop {
         requires edges { IsLoop edges.now }
         requires there { IsOneLoop (H.leveled field.now) cell.index edges.now }
         requires room { (n : ℕ) × (n + length edges.now < 2 ^ 31) × fits n self.old }
-        ensures values { (l : Loop) → IsLoopIn (H.leveled field.now) cell.index edges.now l → (i : ℕ) → value self.new i ≡ value self.old i +ℤ of_loop (H.leveled field.now) i l }
+        ensures values { (l : Loop) → IsLoopIn (H.leveled field.now) cell.index edges.now l → (i : ℕ) →
+            value self.new i ≡ value self.old i +ℤ of_loop (H.leveled field.now) i l }
         ensures fits { (n : ℕ) → fits n self.old → fits (n + length edges.now) self.new };
 
     /// With what another has.

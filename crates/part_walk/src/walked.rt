@@ -26,7 +26,8 @@ pub struct Walked<T: Tally> {
 impl<T: Tally> Walked<T> {
     /// No loop has a label.
     pub fn new(alloc: Global, sizes: Sizes) -> Result<Walked<T>, Memory>
-        ensures { IfOk result (λ w. (v : Leveled) → v.grid ≡ sizes → IsWalked T.value T.fits T.of_loop v 0 (loops_before v 0) w.labels w.tallies.items w.edges) }
+        ensures { IfOk result (λ w. (v : Leveled) → v.grid ≡ sizes →
+            IsWalked T.value T.fits T.of_loop v 0 (loops_before v 0) w.labels w.tallies.items w.edges) }
     {
         let labels = Labels::new(alloc, sizes)?;
         Ok(Walked {
@@ -43,7 +44,9 @@ impl<T: Tally> Walked<T> {
         ensures labels { OnOk result (self.new.labels ≡ self.old.labels) }
         ensures order { OnOk result (self.new.edges.order.items ≡ self.old.edges.order.items) }
         ensures passed { OnOk result (self.new.edges.count ≡ self.old.edges.count) }
-        ensures longer { OnOk result (IsLonger T.value T.fits (length self.old.tallies.items) self.old.labels.count self.old.tallies.items self.new.tallies.items self.old.edges.crossings.items self.new.edges.crossings.items) }
+        ensures longer { OnOk result (IsLonger T.value T.fits (length self.old.tallies.items) self.old.labels.count
+            self.old.tallies.items self.new.tallies.items self.old.edges.crossings.items
+            self.new.edges.crossings.items) }
     {
         let count = self.labels.count() as usize;
         for at in self.tallies.len()..count {
@@ -66,11 +69,18 @@ impl<T: Tally> Walked<T> {
         requires cell { IsCellAt (H.leveled field.now).grid cell }
         requires edges { IsLoop edges.now }
         requires there { IsOneLoop (H.leveled field.now) cell.index edges.now }
-        requires places { ArePlaces (H.leveled field.now).grid (cell.low.y + (H.leveled field.now).grid.ny * cell.low.z) places.now }
-        requires state { CanAdd T.value T.fits T.of_loop (H.leveled field.now) (cell.low.y + (H.leveled field.now).grid.ny * cell.low.z) self.old.labels self.old.tallies.items self.old.edges }
+        requires places { ArePlaces (H.leveled field.now).grid
+            (cell.low.y + (H.leveled field.now).grid.ny * cell.low.z) places.now }
+        requires state { CanAdd T.value T.fits T.of_loop (H.leveled field.now)
+            (cell.low.y + (H.leveled field.now).grid.ny * cell.low.z) self.old.labels self.old.tallies.items
+            self.old.edges }
         ensures { OnOk result ((loops : List Loop) (l : Loop) → IsLoopIn (H.leveled field.now) cell.index edges.now l
-            → IsWalked T.value T.fits T.of_loop (H.leveled field.now) (cell.low.y + (H.leveled field.now).grid.ny * cell.low.z) loops self.old.labels self.old.tallies.items self.old.edges
-            → IsWalked T.value T.fits T.of_loop (H.leveled field.now) (cell.low.y + (H.leveled field.now).grid.ny * cell.low.z) (loops ++ l ∷ []) self.new.labels self.new.tallies.items self.new.edges) }
+            → IsWalked T.value T.fits T.of_loop (H.leveled field.now)
+            (cell.low.y + (H.leveled field.now).grid.ny * cell.low.z) loops self.old.labels
+            self.old.tallies.items self.old.edges
+            → IsWalked T.value T.fits T.of_loop (H.leveled field.now)
+            (cell.low.y + (H.leveled field.now).grid.ny * cell.low.z) (loops ++ l ∷ []) self.new.labels
+            self.new.tallies.items self.new.edges) }
     {
         let _ = field.sizes();
         let label = self.labels.add_loop(places, 3 * cell.low.x, edges)?;

@@ -15,7 +15,8 @@ drawn g s l = (l.0, map (point_at g s) l.1)
 
 -- the shifted values of plane k are those of these samples
 abbrev pub HasPlane : Grid → ℕ → List ℤ → ℤ → (ℕ → ℤ) → Type 0
-HasPlane g k values level s = (q : ℕ) → q < plane_size g → s (k * plane_size g + q) ≡ shifted (slice_index_or values q (pos 0)) level
+HasPlane g k values level s = (q : ℕ) → q < plane_size g → s (k * plane_size g + q)
+    ≡ shifted (slice_index_or values q (pos 0)) level
 
 -- the edge of a number, or none where no square has one of that number
 abbrev pub IsNumbered : Plane → ℕ → Option Edge → Type 0
@@ -28,4 +29,5 @@ IsLineMet p t old new None =
     (new ≡ old) × ((slice_index_or old t false ≡ true) ⊎ ¬ IsActive (pairs_of p) (slot_name p.sizes p.k t))
 IsLineMet p t old new (Some l) =
     (slice_index_or old t false ≡ false) × IsActive (pairs_of p) (slot_name p.sizes p.k t)
-    × (l ≡ line_at p (start_of (pairs_of p) (slot_name p.sizes p.k t))) × AreMarked p (start_of (pairs_of p) (slot_name p.sizes p.k t)) old new
+    × (l ≡ line_at p (start_of (pairs_of p) (slot_name p.sizes p.k t)))
+    × AreMarked p (start_of (pairs_of p) (slot_name p.sizes p.k t)) old new

@@ -87,4 +87,5 @@ line_at p d = (ends (pairs_of p) d, map (point_at p.sizes (field_of p)) (line_fr
 -- edges that were marked, and those of a line
 pub record AreMarked (p : Plane) (d : ℕ) (old new : List Bool) : Type 0 where
   pub count : length new ≡ length old
-  pub each : (t : ℕ) → t < length old → slice_index_or new t false ≡ (slice_index_or old t false || is_in (slot_name p.sizes p.k t) (line_from (pairs_of p) d))
+  pub each : (t : ℕ) → t < length old → slice_index_or new t false
+      ≡ (slice_index_or old t false || is_in (slot_name p.sizes p.k t) (line_from (pairs_of p) d))

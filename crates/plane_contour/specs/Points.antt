@@ -10,7 +10,11 @@ abbrev pub Point : Type 0
 Point = EdgeName × Thousandth × Thousandth
 
 abbrev pub point_at : Grid → (ℕ → ℤ) → ℕ → Point
-point_at g s n = (record { 0 = n }, record { 0 = pos (edge_coordinate g s n 0) }, record { 0 = pos (edge_coordinate g s n 1) })
+point_at g s n = (
+  record { 0 = n },
+  record { 0 = pos (edge_coordinate g s n 0) },
+  record { 0 = pos (edge_coordinate g s n 1) },
+)
 
 -- a line is whether it is a cycle, and its points
 abbrev pub DrawnLine : Type 0

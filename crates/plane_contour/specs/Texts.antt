@@ -10,7 +10,8 @@ printed_coordinate padded n = if padded then n -ℤ pos 1000 else n
 
 -- the line of a point: x and y
 abbrev pub point_line : Bool → Point → List ℕ
-point_line padded p = line (decimal_text (printed_coordinate padded p.1.0) ++ 32 ∷ decimal_text (printed_coordinate padded p.2.0))
+point_line padded p = line (decimal_text (printed_coordinate padded p.1.0) ++ 32
+    ∷ decimal_text (printed_coordinate padded p.2.0))
 
 -- the lines of points
 abbrev pub points_text : Bool → List Point → List ℕ

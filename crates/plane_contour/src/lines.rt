@@ -24,7 +24,8 @@ pub fn contours(
     requires count { length values.now ≡ plane_size sizes.now }
     requires samples { All IsSample values.now }
     requires plane { k < sizes.now.nz }
-    ensures { IfOk result (λ r. (s : ℕ → ℤ) → HasPlane sizes.now k values.now level s → r ≡ map (drawn sizes.now s) (contours sizes.now s k)) }
+    ensures { IfOk result (λ r. (s : ℕ → ℤ) → HasPlane sizes.now k values.now level s → r
+        ≡ map (drawn sizes.now s) (contours sizes.now s k)) }
 {
     let plane = Plane {
         values,

@@ -45,7 +45,8 @@ impl Plane<'_> {
         requires plane { IsPlane self.now }
         requires edge { IsEdge self.now.sizes edge }
         ensures lower { result.0 ≡ field_of self.now (edge_lower (name_at self.now.sizes self.now.k edge)) }
-        ensures upper { result.1 ≡ field_of self.now (edge_upper self.now.sizes (name_at self.now.sizes self.now.k edge)) }
+        ensures upper { result.1 ≡ field_of self.now
+            (edge_upper self.now.sizes (name_at self.now.sizes self.now.k edge)) }
         ensures low_bound { unsigned_abs result.0 < 2 ^ 44 }
         ensures high_bound { unsigned_abs result.1 < 2 ^ 44 }
     {
@@ -62,7 +63,8 @@ impl Plane<'_> {
         requires plane { IsPlane self.now }
         requires edge { IsEdge self.now.sizes edge }
         ensures lower { result.0 ≡ is_above (field_of self.now (edge_lower (name_at self.now.sizes self.now.k edge))) }
-        ensures upper { result.1 ≡ is_above (field_of self.now (edge_upper self.now.sizes (name_at self.now.sizes self.now.k edge))) }
+        ensures upper { result.1 ≡ is_above (field_of self.now
+            (edge_upper self.now.sizes (name_at self.now.sizes self.now.k edge))) }
     {
         let (lower, upper) = self.ends(edge);
         (is_above(lower), is_above(upper))
@@ -104,7 +106,8 @@ impl Plane<'_> {
         requires plane { IsPlane self.now }
         requires edge { IsEdge self.now.sizes edge }
         ensures found { IfSome result (λ q. IsSideOf self.now edge along q) }
-        ensures none { MatchOption result (¬ HasSide self.now.sizes self.now.k (name_at self.now.sizes self.now.k edge) along) (λ q. Unit {0}) }
+        ensures none { MatchOption result (¬ HasSide self.now.sizes self.now.k
+            (name_at self.now.sizes self.now.k edge) along) (λ q. Unit {0}) }
     {
         let Edge { x, y, axis } = edge;
         match (axis, along) {
@@ -130,7 +133,8 @@ impl Plane<'_> {
         requires x { x + 1 < self.now.sizes.nx }
         requires y { y + 1 < self.now.sizes.ny }
         ensures { (i k : ℕ) → i < 4 → k < 4 →
-            (slice_index result.next i == k) ≡ has_pair (side_pairs self.now.sizes (field_of self.now) (index self.now.sizes x y self.now.k)) i k }
+            (slice_index result.next i == k) ≡ has_pair
+            (side_pairs self.now.sizes (field_of self.now) (index self.now.sizes x y self.now.k)) i k }
     {
         square_segments(
             self.value(x, y),

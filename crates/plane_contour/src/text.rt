@@ -34,7 +34,8 @@ fn gather_line<K: Sink>(
     line: &Line,
     padded: bool,
 ) -> Result<(), Failed>
-    ensures { Stages (K.seen sink.old) (K.seen sink.new) waiting.old.bytes waiting.new.bytes result (line_text padded line.now) }
+    ensures { Stages (K.seen sink.old) (K.seen sink.new) waiting.old.bytes waiting.new.bytes result
+        (line_text padded line.now) }
 {
     gather(sink, waiting, head_text(line).as_str())?;
     gather_points(sink, waiting, line.points(), padded)
@@ -47,7 +48,8 @@ fn gather_points<K: Sink>(
     padded: bool,
 ) -> Result<(), Failed>
     requires { All IsNear points.now }
-    ensures { Stages (K.seen sink.old) (K.seen sink.new) waiting.old.bytes waiting.new.bytes result (points_text padded points.now) }
+    ensures { Stages (K.seen sink.old) (K.seen sink.new) waiting.old.bytes waiting.new.bytes result
+        (points_text padded points.now) }
 {
     for point in points {
         gather(sink, waiting, point_text(point, padded).as_str())?;

@@ -57,7 +57,8 @@ impl Plane<'_> {
         requires plane { IsPlane self.now }
         requires edge { IsEdge self.now.sizes edge }
         ensures edge { IsEdge self.now.sizes result }
-        ensures name { name_at self.now.sizes self.now.k result ≡ start_of (pairs_of self.now) (name_at self.now.sizes self.now.k edge) }
+        ensures name { name_at self.now.sizes self.now.k result
+            ≡ start_of (pairs_of self.now) (name_at self.now.sizes self.now.k edge) }
     {
         let mut at = edge;
         while let Some(previous) = self.previous(at) {
@@ -82,7 +83,8 @@ impl Plane<'_> {
         requires room { length seen.old ≡ 2 * plane_size self.now.sizes }
         requires near { All IsNear points.old.items }
         ensures points { OnOk result (points.new.items ≡ points.old.items
-            ++ map (point_at self.now.sizes (field_of self.now)) (line_from (pairs_of self.now) (name_at self.now.sizes self.now.k start))) }
+            ++ map (point_at self.now.sizes (field_of self.now))
+            (line_from (pairs_of self.now) (name_at self.now.sizes self.now.k start))) }
         ensures near { OnOk result (All IsNear points.new.items) }
         ensures marks { OnOk result (AreMarked self.now (name_at self.now.sizes self.now.k start) seen.old seen.new) }
     {

@@ -19,7 +19,12 @@ pub record Streams : Type 0 where
 -- the input and the output of a call, by how they are seen and what they are before it and after it
 abbrev pub streams_between : {S K : Type 0} → (S → Feed) → (K → Tape) → S → S → K → K → Streams
 streams_between feed tape input input_after output output_after =
-    record { input = feed input; input_after = feed input_after; output = tape output; output_after = tape output_after }
+    record {
+      input = feed input;
+      input_after = feed input_after;
+      output = tape output;
+      output_after = tape output_after;
+    }
 
 -- those of a call that reads nothing
 abbrev pub unread_between : {K : Type 0} → Feed → (K → Tape) → K → K → Streams
@@ -60,11 +65,14 @@ Tells text call answer = WritesText text call answer × (call.input_after ≡ ca
 -- give none. Where the input does not tell its bytes, what is written is still the text that some bytes give.
 abbrev pub Converts : (List ℕ → Result (List ℕ) VolumeFault) → Streams → Answer → Type 0
 Converts given call answers.Done =
-    (bytes : List ℕ) × (text : List ℕ) × HasRead volume_limit call.input call.input_after bytes × (given bytes ≡ Ok text) × Writes call text
+    (bytes : List ℕ) × (text : List ℕ) × HasRead volume_limit call.input call.input_after bytes
+    × (given bytes ≡ Ok text) × Writes call text
 Converts given call answers.OutputFault =
-    (bytes : List ℕ) × (text : List ℕ) × HasRead volume_limit call.input call.input_after bytes × (given bytes ≡ Ok text) × WritesFront call text
+    (bytes : List ℕ) × (text : List ℕ) × HasRead volume_limit call.input call.input_after bytes
+    × (given bytes ≡ Ok text) × WritesFront call text
 Converts given call answers.InputFault = Rose call.input.faults call.input_after.faults × NothingWritten call
-Converts given call answers.InputTooLong = IfSome call.input.left (λ bytes. volume_limit < length bytes) × NothingWritten call
+Converts given call answers.InputTooLong = IfSome call.input.left (λ bytes. volume_limit < length bytes)
+    × NothingWritten call
 Converts given call (answers.BadVolume fault) =
     ReadWhole volume_limit call × IfSome call.input.left (λ bytes. given bytes ≡ Err fault) × NothingWritten call
 Converts given call answers.Memory = NothingWritten call
@@ -72,9 +80,11 @@ Converts given call answer = ⊥
 
 -- what becomes of the output where the input gives a text, or why it gives none, by the answer
 abbrev pub WritesGiven : Result (List ℕ) VolumeFault → Tape → Tape → Answer → Type 0
-WritesGiven given old new answers.Done = (text : List ℕ) × (given ≡ Ok text) × Appends old.taken new.taken text × (new.beside ≡ old.beside)
+WritesGiven given old new answers.Done = (text : List ℕ) × (given ≡ Ok text) × Appends old.taken new.taken text
+    × (new.beside ≡ old.beside)
 WritesGiven given old new answers.OutputFault =
-    (text : List ℕ) × (given ≡ Ok text) × Rose old.faults new.faults × AppendsFront old.taken new.taken text × (new.beside ≡ old.beside)
+    (text : List ℕ) × (given ≡ Ok text) × Rose old.faults new.faults × AppendsFront old.taken new.taken text
+    × (new.beside ≡ old.beside)
 WritesGiven given old new (answers.BadVolume fault) = (given ≡ Err fault) × (new ≡ old)
 WritesGiven given old new answers.Memory = new ≡ old
 WritesGiven given old new answer = ⊥

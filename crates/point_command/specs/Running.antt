@@ -27,18 +27,21 @@ Gives Version call answer = Tells version_text call answer
 
 -- what the words do
 abbrev pub GivesPoints : List (List ℕ) → Streams → Answer → Type 0
-GivesPoints words call answer = MatchOption (asked_of words) (RefusesWords call answer) (λ asked. Gives asked call answer)
+GivesPoints words call answer = MatchOption (asked_of words) (RefusesWords call answer)
+    (λ asked. Gives asked call answer)
 
 -- ---- causes
 
 -- the words ask for points, and there are more bytes than are read
 abbrev pub HasTooMany : Option Asked → Streams → Type 0
-HasTooMany asked call = (level : ℤ) × (asked ≡ Some (Points level)) × IfSome call.input.left (λ bytes. volume_limit < length bytes)
+HasTooMany asked call = (level : ℤ) × (asked ≡ Some (Points level))
+    × IfSome call.input.left (λ bytes. volume_limit < length bytes)
 
 -- the words ask for points, and the bytes that were read are no volume
 abbrev pub HasNoVolume : Option Asked → Streams → Type 0
 HasNoVolume asked call =
-    (level : ℤ) × (asked ≡ Some (Points level)) × IfSome call.input.left (λ bytes. (fault : VolumeFault) × (volume_of None level bytes ≡ Err fault))
+    (level : ℤ) × (asked ≡ Some (Points level))
+    × IfSome call.input.left (λ bytes. (fault : VolumeFault) × (volume_of None level bytes ≡ Err fault))
 
 -- ---- nothing else stands in the way
 

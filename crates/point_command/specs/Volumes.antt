@@ -30,7 +30,8 @@ volume_limit = 640065536
 -- the volume in its pad, where the grown grid is accepted; the level is to be above the pad
 abbrev pub raised : ℤ → ℤ → Volume → Result Grid SizeFault → Result Volume VolumeFault
 raised pad level v (Err fault) = Err (Pad fault)
-raised pad level v (Ok grid) = if is_above_pad level pad then Ok (padded_volume v pad) else Err (LevelNotAbovePad level pad)
+raised pad level v (Ok grid) = if is_above_pad level pad then Ok (padded_volume v pad)
+    else Err (LevelNotAbovePad level pad)
 
 abbrev pub with_pad : Option ℤ → ℤ → Volume → Result Volume VolumeFault
 with_pad None level v = Ok v
@@ -74,6 +75,7 @@ abbrev pub HoldsNone : Option ℤ → ℤ → Feed → Feed → Answer → Type 
 HoldsNone pad level old new answers.InputFault = Rose old.faults new.faults
 HoldsNone pad level old new answers.InputTooLong = IfSome old.left (λ bytes. volume_limit < length bytes)
 HoldsNone pad level old new (answers.BadVolume fault) =
-    IsAtEnd new.left × IfSome old.left (λ bytes. (length bytes ≤ volume_limit) × (volume_of pad level bytes ≡ Err fault))
+    IsAtEnd new.left × IfSome old.left (λ bytes. (length bytes ≤ volume_limit)
+    × (volume_of pad level bytes ≡ Err fault))
 HoldsNone pad level old new answers.Memory = Unit {0}
 HoldsNone pad level old new answer = ⊥

@@ -68,7 +68,8 @@ pub fn run_points<S: Source, K: Sink, N: Sink>(
     notes: &mut N,
 ) -> Status
     ensures run { RunsPoints (map string_bytes words.now)
-        (streams_between S.seen K.seen input.old input.new output.old output.new) result (N.seen notes.old) (N.seen notes.new) }
+        (streams_between S.seen K.seen input.old input.new output.old output.new) result (N.seen notes.old)
+        (N.seen notes.new) }
 {
     let answer = give_points(alloc, words, input, output);
     put_note(notes, &answer);

@@ -13,7 +13,8 @@ fn stage_gathered<K: Sink>(
     waiting: &mut Vec<u8>,
     lines: &mut Lines,
 ) -> Result<(), Failed>
-    ensures staged { Stages (K.seen sink.old) (K.seen sink.new) (waiting.old.items ++ lines.old) (waiting.new.items ++ lines.new) result [] }
+    ensures staged { Stages (K.seen sink.old) (K.seen sink.new) (waiting.old.items ++ lines.old)
+        (waiting.new.items ++ lines.new) result [] }
     ensures none { IfOk result (λ _. lines.new ≡ []) }
 {
     stage(sink, waiting, lines.as_bytes())?;
@@ -29,7 +30,8 @@ pub fn make_room<K: Sink>(
     waiting: &mut Vec<u8>,
     lines: &mut Lines,
 ) -> Result<(), Failed>
-    ensures staged { Stages (K.seen sink.old) (K.seen sink.new) (waiting.old.items ++ lines.old) (waiting.new.items ++ lines.new) result [] }
+    ensures staged { Stages (K.seen sink.old) (K.seen sink.new) (waiting.old.items ++ lines.old)
+        (waiting.new.items ++ lines.new) result [] }
     ensures room { IfOk result (λ _. length lines.new + 64 ≤ 4096) }
 {
     if lines.has_room() {

@@ -44,7 +44,8 @@ fn stage_vertex<K: Sink>(
     requires place { place ≤ 1000 }
     requires row { IsRow sizes.now row.old }
     ensures row { IfOk result (λ _. IsRow sizes.now row.new) }
-    ensures staged { Stages (K.seen sink.old) (K.seen sink.new) (waiting.old.items ++ lines.old) (waiting.new.items ++ lines.new) result
+    ensures staged { Stages (K.seen sink.old) (K.seen sink.new) (waiting.old.items ++ lines.old)
+        (waiting.new.items ++ lines.new) result
         (placed_line sizes.now name place) }
 {
     make_room(sink, waiting, lines)?;
@@ -89,7 +90,8 @@ fn put_parts<K: Sink>(
 ) -> Result<(), Failed>
     requires none { waiting.old.items ≡ [] }
     requires placed { ArePlaced sizes.now names.now places.now }
-    ensures { Puts (K.seen sink.old) (K.seen sink.new) result (points_head vertices ++ placed_lines sizes.now names.now places.now) }
+    ensures { Puts (K.seen sink.old) (K.seen sink.new) result
+        (points_head vertices ++ placed_lines sizes.now names.now places.now) }
 {
     put_head(sink, vertices)?;
     put_vertices(sink, waiting, sizes, names, places)
@@ -107,7 +109,8 @@ pub fn put_points<K: Sink>(
     requires few { length edges.now.names.items < 2 ^ 32 }
     requires placed { ArePlaced sizes.now edges.now.names.items edges.now.places.items }
     ensures { Puts (K.seen sink.old) (K.seen sink.new) result
-        (points_head (length edges.now.names.items) ++ placed_lines sizes.now edges.now.names.items edges.now.places.items) }
+        (points_head (length edges.now.names.items)
+        ++ placed_lines sizes.now edges.now.names.items edges.now.places.items) }
 {
     let vertices = edges.names.len() as u32;
     put_parts(sink, waiting, sizes, &edges.names, &edges.places, vertices)

@@ -8,4 +8,5 @@ sign_of level sample = cond (is_above_level sample level) 1 0
 
 -- samples that there is room for are at least so much where they are at least that of the number; where there is none, none is
 abbrev pub IsBound : {X : Type 0} → (ℤ → Type 0) → (X → ℤ) → ℤ → Option X → Type 0
-IsBound Fits value least bound = MatchOption bound ((v : ℤ) → Fits v → int_le least v ≡ false) (λ n. (v : ℤ) → Fits v → int_le (value n) v ≡ int_le least v)
+IsBound Fits value least bound = MatchOption bound ((v : ℤ) → Fits v → int_le least v ≡ false) (λ n. (v : ℤ) →
+    Fits v → int_le (value n) v ≡ int_le least v)

@@ -43,7 +43,8 @@ fn copy_part<T: Packed, U: Packed>(numbers: &[T], sizes: &Sizes, point: Point, i
     requires point { IsPoint sizes.now point }
     requires row { point.x + length into.old ≤ sizes.now.nx }
     requires fits { All U.Fits (take (length into.old) (drop (index_of sizes.now point) (map T.value numbers.now))) }
-    ensures { map U.value into.new ≡ take (length into.old) (drop (index_of sizes.now point) (map T.value numbers.now)) }
+    ensures { map U.value into.new ≡ take (length into.old)
+        (drop (index_of sizes.now point) (map T.value numbers.now)) }
 {
     let start = index(sizes, point) as usize;
     copy_all(&numbers[start..start + into.len()], into);

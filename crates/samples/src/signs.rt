@@ -30,7 +30,8 @@ pub fn sample_sign(sample: i64, level: Level) -> u8
 #[inline(always)]
 fn put_by_bound<T: Packed>(numbers: &[T], bound: Option<T>, into: &mut [u8])
     requires { length numbers.now ≡ length into.old }
-    ensures { (least : ℤ) → IsBound T.Fits T.value least bound → into.new ≡ map (λ sample. cond (int_le least sample) 1 0) (map T.value numbers.now) }
+    ensures { (least : ℤ) → IsBound T.Fits T.value least bound → into.new
+        ≡ map (λ sample. cond (int_le least sample) 1 0) (map T.value numbers.now) }
 {
     for k in 0..numbers.len() {
         into[k] = sign(numbers[k], bound);

@@ -32,7 +32,8 @@ is_done reply = bytes_eq reply (line (codes "ok"))
 
 -- the cache after a command that offers no brick
 abbrev pub cache_after : Workbench → Command → List ℕ → Cache
-cache_after b command reply = if is_done reply then without_points b.state.volume.grid (area_of b.state command) b.cache else b.cache
+cache_after b command reply = if is_done reply
+    then without_points b.state.volume.grid (area_of b.state command) b.cache else b.cache
 
 -- A command and its reply. A refresh turn and the writing of a mesh offer bricks, whatever the reply, and they alone
 -- classify cells.

@@ -39,7 +39,10 @@ writes_of s (Obj name) = Some (name, obj_text s)
 writes_of s (Save name) = Some (name, raw_save s)
 writes_of s (SaveText name) = Some (name, text_save s)
 writes_of s (SaveHex name) = Some (name, hex_save s)
-writes_of s (Window corners format name) = Some (name, window_text s.volume s.level (window_area s.volume corners) format)
+writes_of s (Window corners format name) = Some (
+  name,
+  window_text s.volume s.level (window_area s.volume corners) format,
+)
 writes_of s command = None
 
 -- contour lines, and then `ok`
@@ -61,7 +64,8 @@ says_of s (Obj name) = line (written_text (obj_written s))
 says_of s (Save name) = line (saved_text (length (raw_save s)))
 says_of s (SaveText name) = line (saved_text (length (text_save s)))
 says_of s (SaveHex name) = line (saved_text (length (hex_save s)))
-says_of s (Window corners format name) = line (written_text (window_written s.volume s.level (window_area s.volume corners) format))
+says_of s (Window corners format name) = line
+    (written_text (window_written s.volume s.level (window_area s.volume corners) format))
 says_of s (Contour k) = contour_reply (is_some s.volume.pad) (contour_of s k)
 says_of s Report = report_reply (report_of s)
 says_of s Measure = measures_reply (measure_of s)
@@ -88,7 +92,8 @@ TakesStep s files command reply s' files' = MatchResult (step_of s command)
     (λ fault. (s' ≡ s) × (reply ≡ line (fault_text fault)) × (files' ≡ files))
 
 -- the step is not refused, but memory is wanted
-pub record WantsMemory (s : State) (files : Option Files) (command : Command) (reply : List ℕ) (s' : State) (files' : Option Files) : Type 0 where
+pub record WantsMemory (s : State) (files : Option Files) (command : Command) (reply : List ℕ) (s' : State)
+    (files' : Option Files) : Type 0 where
   pub may : may_want_memory command ≡ true
   pub next : State
   pub step : step_of s command ≡ Ok next
@@ -97,7 +102,8 @@ pub record WantsMemory (s : State) (files : Option Files) (command : Command) (r
   pub same_files : files' ≡ files
 
 -- the step is not refused, but the shelf fails while a file is written, which is then as before or a front of its text
-pub record FailsToStore (s : State) (files : Option Files) (command : Command) (reply : List ℕ) (s' : State) (files' : Option Files) : Type 0 where
+pub record FailsToStore (s : State) (files : Option Files) (command : Command) (reply : List ℕ) (s' : State)
+    (files' : Option Files) : Type 0 where
   pub name : List ℕ
   pub text : List ℕ
   pub writes : writes_of s command ≡ Some (name, text)
@@ -109,7 +115,8 @@ pub record FailsToStore (s : State) (files : Option Files) (command : Command) (
 -- one command and its reply
 abbrev pub Turn : State → Option Files → Command → List ℕ → State → Option Files → Type 0
 Turn s files command reply s' files' =
-    TakesStep s files command reply s' files' ⊎ WantsMemory s files command reply s' files' ⊎ FailsToStore s files command reply s' files'
+    TakesStep s files command reply s' files' ⊎ WantsMemory s files command reply s' files'
+    ⊎ FailsToStore s files command reply s' files'
 
 -- what is answered to a change, to a written mesh, and to a saved volume
 abbrev pub reply_to_change : Result (Unit {0}) BenchFault → Reply

@@ -52,7 +52,8 @@ fn run_ply<H: Shelf, L: Ledger>(
     steps: &mut Steps<L>,
     name: &str,
 ) -> Response
-    ensures { TakesTurn bench.old steps.old (H.seen shelf.old) (Command.Ply name.now) (response_text result) bench.new steps.new (H.seen shelf.new) }
+    ensures { TakesTurn bench.old steps.old (H.seen shelf.old) (Command.Ply name.now) (response_text result)
+        bench.new steps.new (H.seen shelf.new) }
 {
     meshed(bench.write_ply(shelf, name, steps))
 }
@@ -64,7 +65,8 @@ fn run_obj<H: Shelf, L: Ledger>(
     steps: &mut Steps<L>,
     name: &str,
 ) -> Response
-    ensures { TakesTurn bench.old steps.old (H.seen shelf.old) (Command.Obj name.now) (response_text result) bench.new steps.new (H.seen shelf.new) }
+    ensures { TakesTurn bench.old steps.old (H.seen shelf.old) (Command.Obj name.now) (response_text result)
+        bench.new steps.new (H.seen shelf.new) }
 {
     meshed(bench.write_obj(shelf, name, steps))
 }
@@ -73,21 +75,24 @@ fn run_obj<H: Shelf, L: Ledger>(
 // Apart, since the buffers that it has on the stack would else be reserved, page by page, for each line of a script.
 #[inline(never)]
 fn run_save<H: Shelf>(bench: &Bench, shelf: &mut H, name: &str) -> Response
-    ensures { (steps : ℕ) → TakesTurn bench.now steps (H.seen shelf.old) (Command.Save name.now) (response_text result) bench.now steps (H.seen shelf.new) }
+    ensures { (steps : ℕ) → TakesTurn bench.now steps (H.seen shelf.old) (Command.Save name.now)
+        (response_text result) bench.now steps (H.seen shelf.new) }
 {
     saved(bench.save(shelf, name))
 }
 
 /// Writes the volume to a file, with its samples in decimal numbers.
 fn run_savetext<H: Shelf>(bench: &Bench, shelf: &mut H, name: &str) -> Response
-    ensures { (steps : ℕ) → TakesTurn bench.now steps (H.seen shelf.old) (Command.SaveText name.now) (response_text result) bench.now steps (H.seen shelf.new) }
+    ensures { (steps : ℕ) → TakesTurn bench.now steps (H.seen shelf.old) (Command.SaveText name.now)
+        (response_text result) bench.now steps (H.seen shelf.new) }
 {
     saved(bench.save_text(shelf, name))
 }
 
 /// Writes the volume to a file, with its samples in hex digits.
 fn run_savehex<H: Shelf>(bench: &Bench, shelf: &mut H, name: &str) -> Response
-    ensures { (steps : ℕ) → TakesTurn bench.now steps (H.seen shelf.old) (Command.SaveHex name.now) (response_text result) bench.now steps (H.seen shelf.new) }
+    ensures { (steps : ℕ) → TakesTurn bench.now steps (H.seen shelf.old) (Command.SaveHex name.now)
+        (response_text result) bench.now steps (H.seen shelf.new) }
 {
     saved(bench.save_hex(shelf, name))
 }
@@ -102,7 +107,8 @@ fn run_window<H: Shelf>(
     corners: [i64; 6],
     format: MeshFormat,
 ) -> Response
-    ensures { (steps : ℕ) → TakesTurn bench.now steps (H.seen shelf.old) (Command.Window corners format name.now) (response_text result)
+    ensures { (steps : ℕ) → TakesTurn bench.now steps (H.seen shelf.old) (Command.Window corners format name.now)
+        (response_text result)
         bench.now steps (H.seen shelf.new) }
 {
     meshed(bench.window(shelf, name, corners, format))
@@ -110,7 +116,8 @@ fn run_window<H: Shelf>(
 
 /// Draws the contour lines of a plane.
 fn run_contour(bench: &Bench, k: i64) -> Response
-    ensures { (steps : ℕ) (store : Store) → TakesTurn bench.now steps store (Command.Contour k) (response_text result) bench.now steps store }
+    ensures { (steps : ℕ) (store : Store) → TakesTurn bench.now steps store (Command.Contour k)
+        (response_text result) bench.now steps store }
 {
     match bench.contour(k) {
         Ok(lines) => Response::Contours {
@@ -123,7 +130,8 @@ fn run_contour(bench: &Bench, k: i64) -> Response
 
 /// Counts the parts of the mesh.
 fn run_report(bench: &Bench) -> Response
-    ensures { (steps : ℕ) (store : Store) → TakesTurn bench.now steps store Command.Report (response_text result) bench.now steps store }
+    ensures { (steps : ℕ) (store : Store) → TakesTurn bench.now steps store Command.Report (response_text result)
+        bench.now steps store }
 {
     match bench.report() {
         Ok(report) => Response::Report(report),
@@ -133,7 +141,8 @@ fn run_report(bench: &Bench) -> Response
 
 /// Measures the parts of the mesh.
 fn run_measure(bench: &Bench) -> Response
-    ensures { (steps : ℕ) (store : Store) → TakesTurn bench.now steps store Command.Measure (response_text result) bench.now steps store }
+    ensures { (steps : ℕ) (store : Store) → TakesTurn bench.now steps store Command.Measure (response_text result)
+        bench.now steps store }
 {
     match bench.measure() {
         Ok(measures) => Response::Measures(measures),
@@ -148,7 +157,8 @@ pub fn run_command<H: Shelf, L: Ledger>(
     steps: &mut Steps<L>,
     command: &Command,
 ) -> Response
-    ensures { TakesTurn bench.old steps.old (H.seen shelf.old) command.now (response_text result) bench.new steps.new (H.seen shelf.new) }
+    ensures { TakesTurn bench.old steps.old (H.seen shelf.old) command.now (response_text result) bench.new
+        steps.new (H.seen shelf.new) }
 {
     match command {
         Command::Set { at, value } => changed(bench.set(at[0], at[1], at[2], *value)),

@@ -39,7 +39,10 @@ joined s t = record { least = int_min s.least t.least; greatest = int_max s.grea
 
 -- the span of a list of samples
 abbrev pub list_span : List ℤ → Span
-list_span samples = record { least = fold int_min (pos 4294967295) samples; greatest = fold int_max (negsuc 2147483647) samples }
+list_span samples = record {
+  least = fold int_min (pos 4294967295) samples;
+  greatest = fold int_max (negsuc 2147483647) samples;
+}
 
 -- whether the least is below the level and the greatest is above
 abbrev pub straddles : ℤ → Span → Bool

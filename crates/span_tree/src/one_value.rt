@@ -70,7 +70,8 @@ fn is_one_layer(
     requires nodes { half + brick_count sizes.now ≤ length nodes.now }
     requires high { IsPoint sizes.now area.now.high }
     requires z { z < bricks_along sizes.now 2 }
-    ensures { OnTrue result ((x y : ℕ) → home area.now.low.x ≤ x → x ≤ home area.now.high.x → home area.now.low.y ≤ y → y ≤ home area.now.high.y
+    ensures { OnTrue result ((x y : ℕ) → home area.now.low.x ≤ x → x ≤ home area.now.high.x → home area.now.low.y
+        ≤ y → y ≤ home area.now.high.y
         → node_at nodes.now (half + brick_at sizes.now x y z) ≡ one_span value) }
 {
     let _ = sizes.ny();
@@ -86,8 +87,10 @@ fn is_one_layer(
 pub fn is_one(sizes: &Sizes, nodes: &[Span], half: usize, area: &FillBox, value: i64) -> bool
     requires nodes { half + brick_count sizes.now ≤ length nodes.now }
     requires high { IsPoint sizes.now area.now.high }
-    ensures { OnTrue result ((x y z : ℕ) → home area.now.low.x ≤ x → x ≤ home area.now.high.x → home area.now.low.y ≤ y → y ≤ home area.now.high.y
-        → home area.now.low.z ≤ z → z ≤ home area.now.high.z → node_at nodes.now (half + brick_at sizes.now x y z) ≡ one_span value) }
+    ensures { OnTrue result ((x y z : ℕ) → home area.now.low.x ≤ x → x ≤ home area.now.high.x → home area.now.low.y
+        ≤ y → y ≤ home area.now.high.y
+        → home area.now.low.z ≤ z → z ≤ home area.now.high.z → node_at nodes.now (half + brick_at sizes.now x y z)
+        ≡ one_span value) }
 {
     let _ = sizes.nz();
     for z in home(area.low().z)..home(area.high().z) + 1 {
@@ -102,7 +105,8 @@ pub fn is_one(sizes: &Sizes, nodes: &[Span], half: usize, area: &FillBox, value:
 pub fn first_least(sizes: &Sizes, nodes: &[Span], half: usize, area: &FillBox) -> i64
     requires nodes { half + brick_count sizes.now ≤ length nodes.now }
     requires high { IsPoint sizes.now area.now.high }
-    ensures { result ≡ (node_at nodes.now (half + brick_at sizes.now (home area.now.low.x) (home area.now.low.y) (home area.now.low.z))).least }
+    ensures { result ≡ (node_at nodes.now (half
+        + brick_at sizes.now (home area.now.low.x) (home area.now.low.y) (home area.now.low.z))).least }
 {
     let _ = (sizes.nx(), sizes.ny(), sizes.nz());
     let low = area.low();

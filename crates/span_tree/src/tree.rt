@@ -57,8 +57,10 @@ fn leaves(alloc: Global, store: &BrickStore, half: usize) -> Result<Vec<Span>, A
     requires room { brick_count store.now.grid ≤ half }
     requires few { half ≤ 2 ^ 22 }
     ensures count { IfOk result (λ v. length v.items ≡ 2 * half) }
-    ensures bricks { IfOk result (λ v. (k : ℕ) → k < brick_count store.now.grid → node_at v.items (half + k) ≡ span_of store.now k) }
-    ensures rest { IfOk result (λ v. (k : ℕ) → brick_count store.now.grid ≤ k → k < half → node_at v.items (half + k) ≡ no_span) }
+    ensures bricks { IfOk result (λ v. (k : ℕ) → k < brick_count store.now.grid → node_at v.items (half + k)
+        ≡ span_of store.now k) }
+    ensures rest { IfOk result (λ v. (k : ℕ) → brick_count store.now.grid ≤ k → k < half →
+        node_at v.items (half + k) ≡ no_span) }
 {
     let mut nodes = Vec::with_capacity(alloc, 2 * half)?;
     nodes.resize(half, Span::none())?;
@@ -102,7 +104,8 @@ impl SpanTree {
     /// any sample. None says nothing of them.
     pub fn one_value(&self, area: &FillBox) -> Option<i64>
         requires { IsPoint self.now.grid area.now.high }
-        ensures { (v : Volume) → IsVolume v → IsRightFor self.now v → IfSome result (λ value. AreOne v.grid area.now value v.samples) }
+        ensures { (v : Volume) → IsVolume v → IsRightFor self.now v →
+            IfSome result (λ value. AreOne v.grid area.now value v.samples) }
     {
         let _ = area.low();
         let half = places_below(self.height);

@@ -23,7 +23,8 @@ pub fn count_all<R: CellRows, L: Ledger>(
     ensures same { R.named rows.new ≡ R.named rows.old }
     ensures least { steps.old ≤ steps.new }
     ensures most { steps.new
-        ≤ steps.old + 512 * asked_among field.now.grid (heights field.now) (R.named rows.old) 0 (brick_count field.now.grid) }
+        ≤ steps.old + 512 * asked_among field.now.grid (heights field.now) (R.named rows.old) 0
+        (brick_count field.now.grid) }
 {
     let _ = field.sizes();
     let bricks = field.brick_count();

@@ -108,11 +108,17 @@ impl<'a, R: CellRows, L: Ledger> Heights for StoreRows<'a, R, L> {
 impl<'a, R: CellRows, L: Ledger> MeshRows for StoreRows<'a, R, L> {
     ghost Kept = { StoreKept };
 
-    ghost kept = { λ r. record { volume = r.field.now; names = R.named r.rows.now; rows = r.rows.ghost_name; steps = r.steps.ghost_name } };
+    ghost kept = { λ r. record {
+      volume = r.field.now;
+      names = R.named r.rows.now;
+      rows = r.rows.ghost_name;
+      steps = r.steps.ghost_name;
+    } };
 
     ghost row_cost = { λ k row. 8 * asked_in_row k.volume k.names row };
 
-    ghost count_cost = { λ k. 512 * asked_among k.volume.grid (heights k.volume) k.names 0 (brick_count k.volume.grid) };
+    ghost count_cost = { λ k. 512 * asked_among k.volume.grid (heights k.volume) k.names 0
+        (brick_count k.volume.grid) };
 
     ghost spent = { λ r. r.steps.now };
 

@@ -45,13 +45,15 @@ fn write_in<R: CellRows, K: Sink, L: Ledger>(
 ) -> Result<Written, Failed>
     requires named { NamesCases (R.named rows.old) field.now.grid (heights field.now) }
     requires ranks { ranks.old.grid ≡ field.now.grid }
-    ensures text { Puts (K.seen sink.old) (K.seen sink.new) result (text_of style (mesh_of field.now.grid (heights field.now))) }
+    ensures text { Puts (K.seen sink.old) (K.seen sink.new) result
+        (text_of style (mesh_of field.now.grid (heights field.now))) }
     ensures written { IfOk result (λ w. w ≡ written_of style (mesh_of field.now.grid (heights field.now))) }
     ensures ranks { ranks.new.grid ≡ ranks.old.grid }
     ensures same { R.named rows.new ≡ R.named rows.old }
     ensures least { steps.old ≤ steps.new }
     ensures most { steps.new
-        ≤ steps.old + 1536 * asked_among field.now.grid (heights field.now) (R.named rows.old) 0 (brick_count field.now.grid) }
+        ≤ steps.old + 1536 * asked_among field.now.grid (heights field.now) (R.named rows.old) 0
+        (brick_count field.now.grid) }
 {
     let _ = field.sizes();
     let mut store = StoreRows::new(field, rows, steps);
@@ -73,12 +75,15 @@ pub fn write_ply<R: CellRows, K: Sink, L: Ledger>(
     requires tree { IsRightFor tree.now store.now }
     requires named { NamesCases (R.named rows.old) store.now.grid (field store.now.samples level) }
     requires ranks { ranks.old.grid ≡ store.now.grid }
-    ensures text { Puts (K.seen sink.old) (K.seen sink.new) result (scratch_ply (is_some store.now.pad) store.now.grid (field store.now.samples level)) }
-    ensures written { IfOk result (λ w. w ≡ ply_written (is_some store.now.pad) (mesh_of store.now.grid (field store.now.samples level))) }
+    ensures text { Puts (K.seen sink.old) (K.seen sink.new) result
+        (scratch_ply (is_some store.now.pad) store.now.grid (field store.now.samples level)) }
+    ensures written { IfOk result (λ w. w ≡ ply_written (is_some store.now.pad)
+        (mesh_of store.now.grid (field store.now.samples level))) }
     ensures ranks { ranks.new.grid ≡ ranks.old.grid }
     ensures same { R.named rows.new ≡ R.named rows.old }
     ensures least { steps.old ≤ steps.new }
-    ensures most { steps.new ≤ steps.old + 1536 * asked_among store.now.grid (field store.now.samples level) (R.named rows.old) 0 (brick_count store.now.grid) }
+    ensures most { steps.new ≤ steps.old + 1536 * asked_among store.now.grid (field store.now.samples level)
+        (R.named rows.old) 0 (brick_count store.now.grid) }
 {
     let _ = store.sizes();
     let style = Style {
@@ -102,12 +107,15 @@ pub fn write_obj<R: CellRows, K: Sink, L: Ledger>(
     requires tree { IsRightFor tree.now store.now }
     requires named { NamesCases (R.named rows.old) store.now.grid (field store.now.samples level) }
     requires ranks { ranks.old.grid ≡ store.now.grid }
-    ensures text { Puts (K.seen sink.old) (K.seen sink.new) result (scratch_obj (is_some store.now.pad) store.now.grid (field store.now.samples level)) }
-    ensures written { IfOk result (λ w. w ≡ obj_written (is_some store.now.pad) (mesh_of store.now.grid (field store.now.samples level))) }
+    ensures text { Puts (K.seen sink.old) (K.seen sink.new) result
+        (scratch_obj (is_some store.now.pad) store.now.grid (field store.now.samples level)) }
+    ensures written { IfOk result (λ w. w ≡ obj_written (is_some store.now.pad)
+        (mesh_of store.now.grid (field store.now.samples level))) }
     ensures ranks { ranks.new.grid ≡ ranks.old.grid }
     ensures same { R.named rows.new ≡ R.named rows.old }
     ensures least { steps.old ≤ steps.new }
-    ensures most { steps.new ≤ steps.old + 1536 * asked_among store.now.grid (field store.now.samples level) (R.named rows.old) 0 (brick_count store.now.grid) }
+    ensures most { steps.new ≤ steps.old + 1536 * asked_among store.now.grid (field store.now.samples level)
+        (R.named rows.old) 0 (brick_count store.now.grid) }
 {
     let _ = store.sizes();
     let style = Style {

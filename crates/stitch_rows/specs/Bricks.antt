@@ -42,7 +42,8 @@ pub record IsActive (v : Leveled) (brick : ℕ) : Type 0 where
 
 -- some brick of those that hold a row of points is active
 unfoldable pub is_active_row : Leveled → ℕ → ℕ → Bool
-is_active_row v y z = list_any (λ x. is_active v.grid (heights v) (first_brick v.grid y z + x)) (below (bricks_along v.grid 0))
+is_active_row v y z = list_any (λ x. is_active v.grid (heights v) (first_brick v.grid y z + x))
+    (below (bricks_along v.grid 0))
 
 -- the least active brick from a number on, or a number behind all bricks
 pub record IsNextFrom (g : Grid) (s : ℕ → ℤ) (from next : ℕ) : Type 0 where
@@ -52,7 +53,8 @@ pub record IsNextFrom (g : Grid) (s : ℕ → ℤ) (from next : ℕ) : Type 0 wh
 
 -- these say of the first bricks which are the least active ones from them on
 pub record AreNextTo (v : Leveled) (first count : ℕ) (next : List ℕ) : Type 0 where
-  pub each : (x : ℕ) → x < count → first + x < brick_count v.grid → IsNextFrom v.grid (heights v) (first + x) (slice_index next x)
+  pub each : (x : ℕ) → x < count → first + x < brick_count v.grid →
+      IsNextFrom v.grid (heights v) (first + x) (slice_index next x)
 
 -- these are noted for all bricks of a layer
 abbrev pub IsMarkedLayer : Leveled → ActiveLayer → Type 0
@@ -65,4 +67,5 @@ pub record AreMarked (v : Leveled) (marks : ActiveRow) : Type 0 where
       (x : ℕ) → x < bricks_along v.grid 0 → marks.first + x < brick_count v.grid
       → IsNextFrom v.grid (heights v) (marks.first + x) (slice_index marks.layer.next_from (marks.start + x))
   pub start : marks.start ≤ 129 * 128
-  pub rows : (y z : ℕ) → y < v.grid.ny → z < v.grid.nz → y / 8 ≡ marks.y / 8 → z / 8 ≡ marks.z / 8 → marks.first ≡ first_brick v.grid y z
+  pub rows : (y z : ℕ) → y < v.grid.ny → z < v.grid.nz → y / 8 ≡ marks.y / 8 → z / 8 ≡ marks.z / 8 → marks.first
+      ≡ first_brick v.grid y z

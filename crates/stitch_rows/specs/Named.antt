@@ -40,7 +40,8 @@ pub record HaveLoops (numbers cases : List ℕ) : Type 0 where
 -- these are named for the cases of each row of each active brick, and counted in it
 pub record NamesCases (names : Named) (g : Grid) (s : ℕ → ℤ) : Type 0 where
   pub grid : names.grid ≡ g
-  pub each : (brick y z : ℕ) → is_active g s brick ≡ true → IsCellRow g brick y z → HaveLoops (names.cases brick y z) (row_cases g s brick y z)
+  pub each : (brick y z : ℕ) → is_active g s brick ≡ true → IsCellRow g brick y z →
+      HaveLoops (names.cases brick y z) (row_cases g s brick y z)
   pub counts : (brick : ℕ) → is_active g s brick ≡ true → names.counts brick ≡ counts_of_entries (entries g s brick)
 
 -- how many steps a row of a brick may cost

@@ -20,11 +20,13 @@ at_level v level = record { grid = v.grid; samples = v.samples; level = level }
 
 -- the sign of the next sample of a run, or of the last one again
 abbrev pub bit_right : ℤ → List ℤ → ℕ → ℕ
-bit_right least run i = cond (nat_lt (i + 1) (length run)) (bit_from least (sample run (i + 1))) (bit_from least (sample run i))
+bit_right least run i = cond (nat_lt (i + 1) (length run)) (bit_from least (sample run (i + 1)))
+    (bit_from least (sample run i))
 
 -- the flags of a point of a run, from the samples of the run and of the next points along y and z
 unfoldable pub run_flags : ℤ → List ℤ → List ℤ → List ℤ → ℕ → ℕ
-run_flags least here up far i = flag_of (bit_from least (sample here i)) (bit_right least here i) (bit_from least (sample up i)) (bit_from least (sample far i))
+run_flags least here up far i = flag_of (bit_from least (sample here i)) (bit_right least here i)
+    (bit_from least (sample up i)) (bit_from least (sample far i))
 
 -- the samples of points from x on, and of the next points along y and z
 pub record AreRuns {T : Type 0} (value : T → ℤ) (v : Leveled) (x y z : ℕ) (runs : PointRuns T) : Type 0 where
@@ -36,12 +38,14 @@ pub record AreRuns {T : Type 0} (value : T → ℤ) (v : Leveled) (x y z : ℕ) 
 -- them no crossing edge begins, and cells between them have no loops
 pub record AreStill (v : Leveled) (y z from next : ℕ) : Type 0 where
   pub least : from ≤ next
-  pub active : from < bricks_along v.grid 0 → IsNextFrom v.grid (heights v) (first_brick v.grid y z + from) (first_brick v.grid y z + next)
+  pub active : from < bricks_along v.grid 0 →
+      IsNextFrom v.grid (heights v) (first_brick v.grid y z + from) (first_brick v.grid y z + next)
   pub end : bricks_along v.grid 0 ≤ from → next ≡ from
   pub points :
       (x : ℕ) → x < v.grid.nx → 8 * from ≤ min x (v.grid.nx - 2) → min x (v.grid.nx - 2) < 8 * next
       → flags_at v.grid (heights v) (row_start v.grid y z + x) ≡ 0
-  pub cells : (x : ℕ) → x + 1 < v.grid.nx → 8 * from ≤ x → x < 8 * next → y + 1 < v.grid.ny → z + 1 < v.grid.nz → loops_at v (index v.grid x y z) ≡ []
+  pub cells : (x : ℕ) → x + 1 < v.grid.nx → 8 * from ≤ x → x < 8 * next → y + 1 < v.grid.ny → z + 1 < v.grid.nz →
+      loops_at v (index v.grid x y z) ≡ []
 
 -- those of the first points, and of all where at most one more is left
 pub record HasMoreFlags (v : Leveled) (y z count : ℕ) (flags : List ℕ) : Type 0 where

@@ -48,7 +48,8 @@ fn place_of<T: Packed>(
     requires start { start ≡ 729 * row.bricks.first + 9 * (row.bricks.y + 9 * row.bricks.z) }
     requires last { last + 1 ≡ bricks_along field.now.grid 0 }
     requires edge { edge < 3 * field.now.grid.nx }
-    requires crossing { is_crossing field.now.grid (heights field.now) (3 * row_start field.now.grid row.y row.z + edge) ≡ true }
+    requires crossing { is_crossing field.now.grid (heights field.now)
+        (3 * row_start field.now.grid row.y row.z + edge) ≡ true }
     ensures { result ≡ edge_place field.now.grid (heights field.now) (3 * row_start field.now.grid row.y row.z + edge) }
 {
     let _ = (field.sizes(), row);

@@ -63,7 +63,8 @@ impl<'a> Model for Field<'a> {
 
     ghost view = { λ f. at_level f.store.now f.level };
 
-    ghost invariant = { λ f. IsRightFor f.tree.now f.store.now × ((s : ℤ) → int_le f.least_above s ≡ is_above_level s f.level) };
+    ghost invariant = { λ f. IsRightFor f.tree.now f.store.now
+        × ((s : ℤ) → int_le f.least_above s ≡ is_above_level s f.level) };
 }
 
 impl<'a> Field<'a> {
@@ -143,7 +144,8 @@ impl<'a> Field<'a> {
         requires up { by.up ≤ 1 }
         requires far { by.far ≤ 1 }
         requires row { IsPointRow self.now.grid row }
-        requires start { start ≡ 729 * (row.bricks.first + x) + 9 * (row.bricks.y + by.up + 9 * (row.bricks.z + by.far)) }
+        requires start { start ≡ 729 * (row.bricks.first + x)
+            + 9 * (row.bricks.y + by.up + 9 * (row.bricks.z + by.far)) }
         ensures { IsRun self.now (8 * x) (row.y + by.up) (row.z + by.far) (map T.value result.now) }
     {
         let _ = (row, by, x);

@@ -15,7 +15,8 @@ pub(crate) trait Flagged: Packed {
         requires up { length up.now ≡ length here.now }
         requires far { length far.now ≡ length here.now }
         requires out { length out.old ≡ 8 }
-        ensures { (i : ℕ) → i < 8 → slice_index out.new i ≡ run_flags least (map Self.value here.now) (map Self.value up.now) (map Self.value far.now) i };
+        ensures { (i : ℕ) → i < 8 → slice_index out.new i
+            ≡ run_flags least (map Self.value here.now) (map Self.value up.now) (map Self.value far.now) i };
 }
 
 /// The flags of a point, from which of its sample and those of the next points are above the level.
@@ -42,7 +43,8 @@ fn flag_front<T: Packed>(here: &[T], up: &[T], far: &[T], least: i64, count: usi
     requires up { length up.now ≡ length here.now }
     requires far { length far.now ≡ length here.now }
     requires out { count ≤ length out.old }
-    ensures { (i : ℕ) → i < count → slice_index out.new i ≡ run_flags least (map T.value here.now) (map T.value up.now) (map T.value far.now) i }
+    ensures { (i : ℕ) → i < count → slice_index out.new i
+        ≡ run_flags least (map T.value here.now) (map T.value up.now) (map T.value far.now) i }
 {
     // The samples are compared without a branch, since those of the next run are fetched meanwhile.
     let mut above = is_from(here, 0, least);
@@ -59,7 +61,8 @@ fn flag_run<T: Packed>(here: &[T], up: &[T], far: &[T], least: i64, out: &mut [u
     requires up { length up.now ≡ length here.now }
     requires far { length far.now ≡ length here.now }
     requires out { length out.old ≡ length here.now }
-    ensures { (i : ℕ) → i < length here.now → slice_index out.new i ≡ run_flags least (map T.value here.now) (map T.value up.now) (map T.value far.now) i }
+    ensures { (i : ℕ) → i < length here.now → slice_index out.new i
+        ≡ run_flags least (map T.value here.now) (map T.value up.now) (map T.value far.now) i }
 {
     let last = here.len() - 1;
     flag_front(here, up, far, least, last, out);
@@ -86,7 +89,8 @@ pub(crate) fn put_eight<T: Flagged>(
     requires here { 8 < length here.now }
     requires up { length up.now ≡ length here.now }
     requires far { length far.now ≡ length here.now }
-    ensures inside { (i : ℕ) → i < 8 → slice_index flags.new (start + i) ≡ run_flags least (map T.value here.now) (map T.value up.now) (map T.value far.now) i }
+    ensures inside { (i : ℕ) → i < 8 → slice_index flags.new (start + i)
+        ≡ run_flags least (map T.value here.now) (map T.value up.now) (map T.value far.now) i }
     ensures before { (k : ℕ) → k < start → slice_index flags.new k ≡ slice_index flags.old k }
     ensures behind { (k : ℕ) → start + 8 ≤ k → slice_index flags.new k ≡ slice_index flags.old k }
 {
@@ -106,7 +110,8 @@ pub(crate) fn put_last<T: Flagged>(
     requires here { start + length here.now ≡ length flags.old }
     requires up { length up.now ≡ length here.now }
     requires far { length far.now ≡ length here.now }
-    ensures inside { (i : ℕ) → i < length here.now → slice_index flags.new (start + i) ≡ run_flags least (map T.value here.now) (map T.value up.now) (map T.value far.now) i }
+    ensures inside { (i : ℕ) → i < length here.now → slice_index flags.new (start + i)
+        ≡ run_flags least (map T.value here.now) (map T.value up.now) (map T.value far.now) i }
     ensures before { (k : ℕ) → k < start → slice_index flags.new k ≡ slice_index flags.old k }
 {
     flag_run(here, up, far, least, &mut flags[start..]);

@@ -33,7 +33,8 @@ pub(crate) fn flag_bytes(here: &[u8], up: &[u8], far: &[u8], least: u8, out: &mu
     requires up { length up.now ≡ length here.now }
     requires far { length far.now ≡ length here.now }
     requires out { length out.old ≡ 8 }
-    ensures { (i : ℕ) → i < 8 → slice_index out.new i ≡ run_flags (pos least) (map pos here.now) (map pos up.now) (map pos far.now) i }
+    ensures { (i : ℕ) → i < 8 → slice_index out.new i
+        ≡ run_flags (pos least) (map pos here.now) (map pos up.now) (map pos far.now) i }
 {
     let signs = signs_at(here, 0, least);
     let right = where_apart(signs, signs_at(here, 1, least), 1);

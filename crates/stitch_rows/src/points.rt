@@ -167,7 +167,8 @@ pub fn flag_row(field: &Field, active: &ActiveRow, flags: &mut [u8])
     requires flags { length flags.old ≡ field.now.grid.nx }
     ensures each { AreFlags field.now active.now.y active.now.z flags.new }
     ensures list { flags.new
-        ≡ flags_from field.now.grid (heights field.now) (row_start field.now.grid active.now.y active.now.z) field.now.grid.nx }
+        ≡ flags_from field.now.grid (heights field.now) (row_start field.now.grid active.now.y active.now.z)
+        field.now.grid.nx }
 {
     flag_active(field, active, flags);
 }

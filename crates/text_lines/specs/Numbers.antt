@@ -14,12 +14,14 @@ with_digit n b = 10 * n + (b - 48)
 -- the value of one to eighteen digits
 abbrev pub digits_value : List ℕ → Option ℕ
 digits_value word =
-    if nat_le 1 (length word) && nat_le (length word) 18 && list_all is_digit word then Some (fold with_digit 0 word) else None
+    if nat_le 1 (length word) && nat_le (length word) 18 && list_all is_digit word
+    then Some (fold with_digit 0 word) else None
 
 -- the number that a word says
 abbrev pub number_of : List ℕ → Option ℤ
 number_of [] = None
-number_of (b ∷ bs) = if b == 45 then option_map (λ n. neg_ℤ (pos n)) (digits_value bs) else option_map pos (digits_value (b ∷ bs))
+number_of (b ∷ bs) = if b == 45 then option_map (λ n. neg_ℤ (pos n)) (digits_value bs)
+    else option_map pos (digits_value (b ∷ bs))
 
 -- the same without its sign, where it has none
 abbrev pub not_negative : ℤ → Option ℕ

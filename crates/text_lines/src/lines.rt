@@ -67,7 +67,8 @@ fn feed_at(bytes: &[u8]) -> Option<usize>
 /// The last line may lack its line feed. One return just before a line feed is no part of the text.
 #[inline(always)]
 pub fn next_line(bytes: &[u8]) -> Option<(&[u8], &[u8])>
-    ensures line { MatchOption result (lines_of bytes.now ≡ []) (λ x. lines_of bytes.now ≡ record { text = x.0.now; after = x.1.now } ∷ lines_of x.1.now) }
+    ensures line { MatchOption result (lines_of bytes.now ≡ []) (λ x. lines_of bytes.now
+        ≡ record { text = x.0.now; after = x.1.now } ∷ lines_of x.1.now) }
     ensures shorter { MatchOption result (bytes.now ≡ []) (λ x. length x.1.now + 1 ≤ length bytes.now) }
 {
     if bytes.is_empty() {

@@ -5,7 +5,8 @@ use Rattle.iso_base.specs.declared.kind.SampleKind.{SampleKind}
 use Rattle.text_samples.specs.declared.fault.SampleFault.{SampleFault}
 
 -- what is held is what was read: so many samples of a kind, and the number of bytes after them
-pub record IsReadInto (holds : List ℤ → Type 0) (kind : SampleKind) (count : ℕ) (read : Result (List ℤ × ℕ) SampleFault) (left : ℕ) : Type 0 where
+pub record IsReadInto (holds : List ℤ → Type 0) (kind : SampleKind) (count : ℕ)
+    (read : Result (List ℤ × ℕ) SampleFault) (left : ℕ) : Type 0 where
   pub samples : List ℤ
   pub read_is : read ≡ Ok (samples, left)
   pub held : holds samples

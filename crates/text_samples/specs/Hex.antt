@@ -58,4 +58,7 @@ hex_samples kind big count bytes = do
   digits ← digits_said (2 * width_of kind) 0 (take (digits_needed kind count) (marks_in bytes))
   if nat_lt (length (marks_in bytes)) (digits_needed kind count)
       then Err (Short (digits_needed kind count) (length (marks_in bytes)))
-      else Ok (samples_in kind big (paired digits) count, length (after_marks (digits_needed kind count) bytes (marks_in bytes)))
+      else Ok (
+        samples_in kind big (paired digits) count,
+        length (after_marks (digits_needed kind count) bytes (marks_in bytes)),
+      )

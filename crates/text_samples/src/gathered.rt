@@ -21,7 +21,8 @@ pub(crate) trait Gather: Drop {
     /// Takes one more sample of the kind.
     fn add(&mut self, kind: SampleKind, value: i64) -> Result<(), AllocError>
         requires { IsOfKind kind value }
-        ensures { (samples : List ℤ) → Holds self.old kind samples → IfOk result (λ _. Holds self.new kind (samples ++ value ∷ [])) };
+        ensures { (samples : List ℤ) → Holds self.old kind samples →
+            IfOk result (λ _. Holds self.new kind (samples ++ value ∷ [])) };
 }
 
 /// The samples as numbers.

@@ -87,7 +87,8 @@ fn digit(rest: &[u8], done: u64, wanted: Wanted) -> Result<(u8, &[u8]), SampleFa
 /// The byte of two digits that stand at the front, and the bytes after them; none where something else stands there.
 #[inline(always)]
 fn byte_in_front(rest: &[u8]) -> Option<(u8, &[u8])>
-    ensures value { IfSome result (λ x. (wanted : Wanted) (done : ℕ) → byte_read wanted done rest.now ≡ Ok (x.0, x.1.now)) }
+    ensures value { IfSome result (λ x. (wanted : Wanted) (done : ℕ) → byte_read wanted done rest.now
+        ≡ Ok (x.0, x.1.now)) }
     ensures bound { IfSome result (λ x. x.0 < 256) }
 {
     let [high, low, after @ ..] = rest else {
@@ -255,7 +256,8 @@ fn gather<G: Gather>(
 ) -> Result<(G, u64), SampleFault>
     requires some { 1 ≤ count }
     requires limit { count ≤ 160000000 }
-    ensures ok { IfOk result (λ r. IsReadInto (G.Holds r.0 kind) kind count (hex_samples kind big count bytes.now) r.1) }
+    ensures ok { IfOk result (λ r. IsReadInto (G.Holds r.0 kind) kind count (hex_samples kind big count bytes.now)
+        r.1) }
     ensures err { IfErr result (λ fault. Fails fault (hex_samples kind big count bytes.now)) }
 {
     let each = 2 * u64::from(kind.width());
@@ -309,7 +311,8 @@ pub fn read_hex_bytes(
 ) -> Result<(Vec<u8>, u64), SampleFault>
     requires some { 1 ≤ count }
     requires limit { count ≤ 160000000 }
-    ensures ok { IfOk result (λ r. hex_samples kind big count bytes.now ≡ Ok (samples_in kind false r.0.items count, r.1)) }
+    ensures ok { IfOk result (λ r. hex_samples kind big count bytes.now
+        ≡ Ok (samples_in kind false r.0.items count, r.1)) }
     ensures size { IfOk result (λ r. length r.0.items ≡ width_of kind * count) }
     ensures err { IfErr result (λ fault. Fails fault (hex_samples kind big count bytes.now)) }
 {

@@ -91,7 +91,8 @@ pub fn read_text_bytes(
 ) -> Result<(Vec<u8>, u64), SampleFault>
     requires some { 1 ≤ count }
     requires limit { count ≤ 160000000 }
-    ensures ok { IfOk result (λ r. text_samples kind count bytes.now ≡ Ok (samples_in kind false r.0.items count, r.1)) }
+    ensures ok { IfOk result (λ r. text_samples kind count bytes.now
+        ≡ Ok (samples_in kind false r.0.items count, r.1)) }
     ensures size { IfOk result (λ r. length r.0.items ≡ width_of kind * count) }
     ensures err { IfErr result (λ fault. Fails fault (text_samples kind count bytes.now)) }
 {

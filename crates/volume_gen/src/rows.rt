@@ -19,7 +19,8 @@ fn stage_run<K: Sink>(
     count: usize,
 ) -> Result<(), Failed>
     requires { count ≤ 8 }
-    ensures { Stages (K.seen sink.old) (K.seen sink.new) waiting.old.items waiting.new.items result (samples_text U8 (replicate count (pos sample))) }
+    ensures { Stages (K.seen sink.old) (K.seen sink.new) waiting.old.items waiting.new.items result
+        (samples_text U8 (replicate count (pos sample))) }
 {
     let run = [sample; 8];
     stage(sink, waiting, &run[..count])
@@ -37,7 +38,8 @@ fn stage_row<K: Sink>(
     requires x { nx ≤ 1026 }
     requires y { y < 1026 }
     requires z { z < 1026 }
-    ensures { Stages (K.seen sink.old) (K.seen sink.new) waiting.old.items waiting.new.items result (samples_text U8 (row_samples seed y z nx)) }
+    ensures { Stages (K.seen sink.old) (K.seen sink.new) waiting.old.items waiting.new.items result
+        (samples_text U8 (row_samples seed y z nx)) }
 {
     let block = 256 * u64::from(y / 8) + 65_536 * u64::from(z / 8);
     for run in 0..nx.div_ceil(8) {
@@ -77,7 +79,8 @@ fn put_rows<K: Sink>(
     sizes: &Sizes,
 ) -> Result<(), Failed>
     requires { waiting.old.items ≡ [] }
-    ensures { Puts (K.seen sink.old) (K.seen sink.new) result (samples_text U8 (first_samples seed sizes.now (point_count sizes.now))) }
+    ensures { Puts (K.seen sink.old) (K.seen sink.new) result
+        (samples_text U8 (first_samples seed sizes.now (point_count sizes.now))) }
 {
     stage_rows(sink, waiting, seed, sizes)?;
     write_all_of(sink, waiting)

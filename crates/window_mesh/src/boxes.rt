@@ -84,7 +84,8 @@ fn add_layer(
     requires window { window.now ≡ (window_of area.now).grid }
     requires layer { z < window.now.nz }
     requires before { samples.old.items ≡ first_cropped store.now (window_of area.now) (index window.now 0 0 z) }
-    ensures { OnOk result (samples.new.items ≡ first_cropped store.now (window_of area.now) (index window.now 0 0 (z + 1))) }
+    ensures { OnOk result (samples.new.items ≡ first_cropped store.now (window_of area.now)
+        (index window.now 0 0 (z + 1))) }
 {
     let (low, high) = (area.low(), area.high());
     for y in 0..window.ny() {

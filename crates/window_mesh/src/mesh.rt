@@ -25,7 +25,8 @@ pub fn named_window(
 ) -> Result<Mesh, WindowFault>
     requires inside { IsPoint store.now.grid area.now.high }
     requires kind { IsBoxOfKind store.now area.now }
-    ensures mesh { IfOk result (λ m. m ≡ mesh_of (window_of area.now).grid (field (cropped store.now area.now).samples level)) }
+    ensures mesh { IfOk result (λ m. m ≡ mesh_of (window_of area.now).grid
+        (field (cropped store.now area.now).samples level)) }
     ensures part { OnOk result (IsWindowOfMesh store.now level area.now) }
     ensures thick { OnOk result (thin_axis (window_of area.now).grid ≡ None) }
     ensures fault { IfErr result (IsFaultOf (window_of area.now).grid) }

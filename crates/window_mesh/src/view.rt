@@ -52,7 +52,8 @@ fn are_same(a: &Sizes, b: &Sizes) -> bool
 #[inline(always)]
 fn put_part(samples: &[i64], level: Level, from: usize, into: &mut [u8])
     requires { from + length samples.now ≤ length into.old }
-    ensures inside { (i : ℕ) → i < length samples.now → slice_index into.new (from + i) ≡ sign_of level (sample samples.now i) }
+    ensures inside { (i : ℕ) → i < length samples.now → slice_index into.new (from + i)
+        ≡ sign_of level (sample samples.now i) }
     ensures before { (i : ℕ) → i < from → slice_index into.new i ≡ slice_index into.old i }
 {
     put_signs(samples, level, &mut into[from..from + samples.len()]);
@@ -133,7 +134,8 @@ impl<'a> BoxSamples<'a> {
         requires point { IsPoint self.now.window.grid point }
         requires row { point.x + length into.old ≤ self.now.window.grid.nx }
         requires fits { All T.Fits (row_samples self.now.volume (whole_of self.now.window point) (length into.old)) }
-        ensures { map T.value into.new ≡ row_samples self.now.volume (whole_of self.now.window point) (length into.old) }
+        ensures { map T.value into.new ≡ row_samples self.now.volume (whole_of self.now.window point)
+            (length into.old) }
     {
         let _ = self.sizes();
         let mut row = [0; LONGEST];
@@ -164,7 +166,8 @@ impl<'a> BoxSamples<'a> {
         requires row { length row.old ≡ self.now.window.grid.nx }
         requires room { from + self.now.window.grid.nx ≤ length into.old }
         ensures inside { (i : ℕ) → i < self.now.window.grid.nx
-            → slice_index into.new (from + i) ≡ sign_of level (boxed_at self.now (index_of self.now.window.grid first + i)) }
+            → slice_index into.new (from + i) ≡ sign_of level
+            (boxed_at self.now (index_of self.now.window.grid first + i)) }
         ensures before { (i : ℕ) → i < from → slice_index into.new i ≡ slice_index into.old i }
     {
         self.copy_samples(first, row);
@@ -193,7 +196,8 @@ impl<'a> BoxSamples<'a> {
     /// Writes the signs of samples from an index on, one by one.
     fn put_each(&self, start: u32, level: Level, into: &mut [u8])
         requires { start + length into.old ≤ point_count self.now.window.grid }
-        ensures { (i : ℕ) → i < length into.old → slice_index into.new i ≡ sign_of level (boxed_at self.now (start + i)) }
+        ensures { (i : ℕ) → i < length into.old → slice_index into.new i
+            ≡ sign_of level (boxed_at self.now (start + i)) }
     {
         // Reading the sizes brings in that the samples are so few that their indices fit.
         let _ = self.sizes();

@@ -10,5 +10,6 @@ ghost use Rattle.std.specs.Prelude.{List, Some, ℕ, ℤ, ◌↔◌, ◌≡◌};
 /// The words by which the program of `points` alone is asked for the points at a level are those by which the workbench is
 /// asked for them.
 pub fn points_words_agree()
-    ensures { (words : List (List ℕ)) (level : ℤ) → (asked_of words ≡ Some (alone.Points level)) ↔ (request_of words ≡ Some (Points level)) }
+    ensures { (words : List (List ℕ)) (level : ℤ) →
+        (asked_of words ≡ Some (alone.Points level)) ↔ (request_of words ≡ Some (Points level)) }
 {}
