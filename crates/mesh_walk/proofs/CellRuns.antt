@@ -1,5 +1,5 @@
 -- What the cells of a run of points have.
-use Rattle.std.proofs.Common.{◌≡◌, ℕ, zero, suc, ◌+◌, ◌-◌, ◌*◌, ◌/◌, ◌%◌, ◌<◌, ◌≤◌, true, List, [], ◌∷◌, length, get_or, min, refl, sym, ◌∙◌, ap, subst, arith, if◌then◌else◌, zero-add}
+use Rattle.std.proofs.Common.{◌≡◌, ℕ, zero, suc, ◌+◌, ◌-◌, ◌*◌, ◌/◌, ◌%◌, ◌<◌, ◌≤◌, true, List, [], ◌∷◌, length, get_or, refl, sym, ◌∙◌, ap, subst, arith, if◌then◌else◌, zero-add}
 use Rattle.std.specs.List.{sum_by}
 use Rattle.std.proofs.lemmas.Bool.{lt-ltb, and_from}
 use Rattle.std.proofs.lemmas.List.Sums.{sum_by-append, sum_by-cons}
@@ -9,18 +9,16 @@ use Rattle.iso_defs.proofs.Ranges.{range_append}
 use Rattle.iso_defs.specs.Lists.{below}
 use Rattle.iso_defs.specs.Grid.{Grid, index, is_cell}
 use Rattle.iso_defs.specs.Scratch.{cell_centres}
-use Rattle.cell_loops.specs.Loops.{row_loops}
 use Rattle.flat_mesh.specs.declared.centres.Cell.{Cell}
 use Rattle.flat_mesh.specs.Centres.{IsCellAt}
 use Rattle.flat_mesh.specs.Lattice.{Leveled, heights}
-use Rattle.flat_mesh.specs.Faces.{loops_at}
 use Rattle.flat_mesh.specs.Rows.{row_start}
 use Rattle.flat_mesh.proofs.CellAdds.{no_centres}
 use Rattle.flat_mesh.proofs.Quiet.{last_column, last_row, last_slice}
 use Rattle.mesh_rows.specs.Counts.{centres_among}
 use Rattle.mesh_rows.specs.Rows.{IsCaseOf}
 use Rattle.mesh_walk.specs.declared.cells.RowCells.{RowCells}
-use Rattle.mesh_walk.specs.Cells.{AreCells, eight_at}
+use Rattle.mesh_walk.specs.Cells.{AreCells}
 use Rattle.mesh_walk.specs.Numbers.{AreQuiet, begins_cells, cost_before, cost_of_row}
 use Rattle.mesh_walk.proofs.SpanLaws.{span_quiet}
 
@@ -60,16 +58,6 @@ module _ (v : Leveled) (cells : RowCells) (are : AreCells v cells) where
   case_at x low =
       let same : index v.grid x cells.y cells.z ≡ start + x = omega arith in
       subst (λ q. IsCaseOf v q (get_or cells.cases x 0)) same (are.each x low (omega arith))
-
-  -- eight cells whose cases have no loops
-  pub quiet_eight : (from end : ℕ) → end ≡ from + 8 → end < v.grid.nx → ((k : ℕ) → k < 8 → row_loops (get_or cells.cases (from + k) 0) ≡ []) → AreQuiet v (start + from) (end - from)
-  quiet_eight from end to within none = record {
-    none = λ q least most is.
-        let k : ℕ = q - (start + from) in
-        let here : start + (from + k) ≡ q = omega arith in
-        let case = case_at (from + k) (omega arith) in
-        subst (λ q. loops_at v q ≡ []) here (sym case.loops ∙ none k (omega arith));
-  }
 
 -- what it costs to ask for the rows of cells before one
 pub cost_next : (g : Grid) (cost : ℕ → ℕ) (r : ℕ) → cost_before g cost (r + 1) ≡ cost_before g cost r + cost_of_row g cost r
@@ -112,9 +100,6 @@ cost_is g cost y z hy hz =
     let begins : begins_cells g row ≡ true = and_from _ _ (lt-ltb (row % g.ny + 1) g.ny (omega arith)) (lt-ltb (row / g.ny + 1) g.nz (omega arith)) in
     ap (λ b. if b then cost row else 0) begins
 
--- how many points a row has, and where eight cells of it end
+-- how many points a row has
 pub width_is : (v : Leveled) (g : Grid) (nx : ℕ) → g ≡ v.grid → nx ≡ g.nx → nx ≡ v.grid.nx
 width_is v g nx same width = width ∙ ap (λ (g : Grid). g.nx) same
-
-pub end_is : (v : Leveled) (g : Grid) (nx end eight : ℕ) → g ≡ v.grid → nx ≡ g.nx → end ≡ min (8 * eight + 8) (nx - 1) → end ≡ eight_at v.grid (eight + 1)
-end_is v g nx end eight same width e = let w : nx ≡ v.grid.nx = width_is v g nx same width in omega (arith, w, e)

@@ -22,7 +22,6 @@ use Rattle.flat_mesh.proofs.CellPlaces.{cell_placed}
 use Rattle.flat_mesh.proofs.CentrePlaces.{centre_is}
 use Rattle.mesh_lines.specs.declared.style.Style.{Style}
 use Rattle.mesh_lines.specs.Lines.{vertex_line}
-use Rattle.mesh_walk.proofs.EmptyCase.{no_loops}
 use Rattle.mesh_walk.specs.declared.cells.RowCells.{RowCells}
 use Rattle.mesh_walk.specs.Cells.{AreCells}
 use Rattle.mesh_walk.specs.Numbers.{AreQuiet}
@@ -80,10 +79,6 @@ no_centre_lines style v q is none =
     empty : (us : List (ℕ × Position)) → length us ≡ 0 → us ≡ []
     empty [] h = refl
     empty (u ∷ us) h = absurd (omega arith)
-
-pub first_case_lines : (style : Style) (v : Leveled) (q case : ℕ) → is_cell v.grid q ≡ true → row_loops case ≡ loops_at v q → case ≡ 0 → centres_text style v q 1 ≡ []
-first_case_lines style v q case is same first =
-    no_centre_lines style v q is (ap length (no_centres v q (sym same ∙ no_loops case first)))
 
 pub quiet_centres : (style : Style) (v : Leveled) (a n : ℕ) → AreQuiet v a n → centres_text style v a n ≡ []
 unfolding centre_lines

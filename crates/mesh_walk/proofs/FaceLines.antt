@@ -1,5 +1,5 @@
 -- The lines of triangles, loop by loop and cell by cell.
-use Rattle.std.proofs.Common.{◌≡◌, ℕ, ◌+◌, ◌*◌, ◌≤◌, Bool, true, false, cond, List, [], ◌∷◌, ◌++◌, map, length, refl, sym, ◌∙◌, ap, subst, arith, ltb, zero-add, append-nil}
+use Rattle.std.proofs.Common.{◌≡◌, ℕ, ◌+◌, ◌*◌, ◌≤◌, Bool, true, false, cond, List, [], ◌∷◌, ◌++◌, map, length, refl, sym, ◌∙◌, ap, arith, ltb, zero-add, append-nil}
 use Rattle.std.specs.List.{count_by, enumerate_from, filter, flat_map, sum_by}
 use Rattle.std.proofs.lemmas.List.{length-map}
 use Rattle.std.proofs.lemmas.List.Concat.{flat_map-append}
@@ -143,13 +143,3 @@ first_number v total all = record {
   number = let none : centres_among v 0 0 ≡ 0 = ap length (span_none (cell_centres v.grid (heights v)) (is_cell v.grid) 0) in omega (arith, none, all);
   few = omega (arith, all);
 }
-
--- a cell without loops
-pub alone_quiet : (v : Leveled) (q : ℕ) (ls : List (List ℕ)) → ls ≡ loops_at v q → length ls ≡ 0 → AreQuiet v q 1
-alone_quiet v q ls same none = record {
-  none = λ p least most is. let e : p ≡ q = omega arith in subst (λ p. loops_at v p ≡ []) (sym e) (sym same ∙ empty ls none);
-}
-  where
-    empty : (ls : List (List ℕ)) → length ls ≡ 0 → ls ≡ []
-    empty [] h = refl
-    empty (l ∷ ls) h = absurd (omega arith)

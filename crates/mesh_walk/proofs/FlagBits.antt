@@ -26,7 +26,7 @@ filter_same p q a zero same = refl
 filter_same p q a (suc n) same =
     ap₂ (λ b l. cond {A = List ℕ} b (a ∷ l) l) (same a (omega arith)) (filter_same p q (a + 1) n (λ i least. same i (omega arith)))
 
-filter_none : (p : ℕ → Bool) (a n : ℕ) → ((i : ℕ) → a ≤ i → i < a + n → p i ≡ false) → filter p (range_with_len a n) ≡ []
+pub filter_none : (p : ℕ → Bool) (a n : ℕ) → ((i : ℕ) → a ≤ i → i < a + n → p i ≡ false) → filter p (range_with_len a n) ≡ []
 filter_none p a zero none = refl
 filter_none p a (suc n) none =
     ap (λ b. cond {A = List ℕ} b (a ∷ filter p (range_with_len (a + 1) n)) (filter p (range_with_len (a + 1) n))) (none a (omega arith) (omega arith))

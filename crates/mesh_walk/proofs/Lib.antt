@@ -1,3 +1,4 @@
+pub mod ActiveCells
 pub mod Adding
 pub mod SpanLaws
 pub mod FlagRows

@@ -75,6 +75,13 @@ put_behind flags w1 w2 m at n k here to before more =
     more ∙ (ap (λ l. l ++ edges_among flags at n) before
     ∙ sym (ap (edges_among flags 0) to ∙ (among_more flags 0 m n ∙ ap (λ k. edges_among flags 0 m ++ edges_among flags k n) zero_out)))
 
+-- the same behind what stood in a list before
+pub put_on : (flags : List ℕ) (a : ℕ) (w0 w1 w2 : List ℕ) (m at n k : ℕ) → at ≡ a + m → k ≡ m + n
+    → w1 ≡ w0 ++ edges_among flags a m → w2 ≡ w1 ++ edges_among flags at n → w2 ≡ w0 ++ edges_among flags a k
+put_on flags a w0 w1 w2 m at n k here to before more =
+    more ∙ (ap₂ (λ l b. l ++ edges_among flags b n) before here ∙ (append_assoc w0 (edges_among flags a m) (edges_among flags (a + m) n)
+    ∙ ap (λ l. w0 ++ l) (sym (ap (edges_among flags a) to ∙ among_more flags a m n))))
+
 -- the names of edges by their offsets
 module _ (v : Leveled) (y z : ℕ) where
   abbrev start : ℕ

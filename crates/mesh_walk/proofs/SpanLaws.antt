@@ -70,3 +70,11 @@ module _ (f : ℕ → List ℕ) (p : ℕ → Bool) (a : ℕ) where
       = ap (span f p a) to ∙ (span_more f p a (m + n) rest ∙ ap (λ l. l ++ span f p (a + (m + n)) rest) (span_more f p a m n)) in
       adds_front t0 t2 b0 b2 b3 e e' (span f p a m ++ span f p (a + m) n) (span f p (a + (m + n)) rest) (span f p a k) parts
       (adds_both t0 t1 t2 b0 b1 b2 x (Err e) (span f p a m) (span f p (a + m) n) before there)
+
+  -- and passes over a run that gives nothing
+  pub run_quiet : {T : Type 0} (t0 t1 : Tape) (b0 b1 : Gathered) (x : T) (m n : ℕ) → m ≤ n → span f p (a + m) (n - m) ≡ []
+      → Adds t0 t1 b0 b1 (Ok x) (span f p a m) → Adds t0 t1 b0 b1 (Ok x) (span f p a n)
+  run_quiet t0 t1 b0 b1 x m n within none before =
+      let to : n ≡ m + (n - m) = omega arith in
+      adds_as t0 t1 b0 b1 (Ok x) (span f p a m) (span f p a n)
+      (sym (ap (span f p a) to ∙ (span_more f p a m (n - m) ∙ (ap (λ l. span f p a m ++ l) none ∙ append-nil (span f p a m))))) before

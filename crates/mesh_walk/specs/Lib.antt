@@ -1,3 +1,4 @@
+pub mod Active
 pub mod Spans
 pub mod Numbers
 pub mod Cells

@@ -7,42 +7,23 @@ ghost use Rattle.flat_mesh.specs.Rows.{row_start};
 ghost use Rattle.mesh_walk.specs.Cells.{AreCells};
 ghost use Rattle.mesh_walk.specs.Numbers.{AreQuiet, AreRowRanks, cost_of_row};
 
+use crate::active::{CASES, list_active};
 use crate::ranks::ROW;
 use crate::walk::Walk;
-use case_table::CaseRow;
-use cell_loops::loop_count;
 use flat_mesh::{Cell, Heights};
 use iso_base::Point;
 use mesh_rows::MeshRows;
-use std::simd::prelude::*;
 
-/// Whether the eight cases from a place on are this one. This saves work and no text rests on it: the contract leaves
-/// `false` free.
-#[inline(always)]
-fn are_all(cases: &[u16], from: usize, case: u16) -> bool
-    requires { from + 8 ≤ length cases.now }
-    ensures { IsTrue result → (k : ℕ) → k < 8 → slice_index cases.now (from + k) ≡ case }
-{
-    let eight = u16x8::from_slice(&cases[from..]);
-    eight.simd_eq(u16x8::splat(case)).all()
-}
-
-/// Whether a case has loops. Case 0, which most cells have, has none, and no table is asked.
-#[inline(always)]
-pub fn has_loops(case: u16) -> bool
-    requires { case < 656 }
-    ensures { result ≡ false → row_loops case ≡ [] }
-{
-    case != 0 && loop_count(CaseRow::of(case)) != 0
-}
-
-/// A row of cells: where its first point is, and for each cell the number of a case that has its loops.
+/// A row of cells: where its first point is, for each cell the number of a case that has its loops, and the places of the
+/// `count` cells that have another case than 0. Most cells have that case, which has no loops.
 #[derive(Drop)]
 pub struct RowCells {
     pub y: u32,
     pub z: u32,
     pub start: u32,
-    pub cases: [u16; ROW],
+    pub cases: [u16; CASES],
+    pub count: usize,
+    pub active: [u16; ROW],
 }
 
 impl RowCells {
@@ -52,7 +33,9 @@ impl RowCells {
             y: 0,
             z: 0,
             start: 0,
-            cases: [0; ROW],
+            cases: [0; CASES],
+            count: 0,
+            active: [0; ROW],
         }
     }
 
@@ -77,21 +60,6 @@ impl RowCells {
         }
     }
 
-    /// Whether the eight cells from a place on have one case, and it has no loops. `false` is free, as above.
-    #[inline(always)]
-    pub fn have_no_loops(&self, from: u32) -> bool
-        requires eight { from + 8 ≤ 1026 }
-        requires case { slice_index self.now.cases from < 656 }
-        ensures { IsTrue result → (k : ℕ) → k < 8 → row_loops (slice_index self.now.cases (from + k)) ≡ [] }
-    {
-        let from = from as usize;
-        if are_all(&self.cases, from, 0) {
-            return true;
-        }
-        let case = self.cases[from];
-        are_all(&self.cases, from, case) && !has_loops(case)
-    }
-
     /// Turns to a row of cells. It has their cases then.
     fn turn_to<R: MeshRows>(&mut self, rows: &mut R, y: u32, z: u32)
         requires y { y + 1 < (R.leveled rows.old).grid.ny }
@@ -111,6 +79,8 @@ impl RowCells {
         self.z = z;
         self.start = nx * (y + sizes.ny() * z);
         rows.fill_cases(y, z, &mut self.cases[..nx as usize]);
+        // The last point of a row begins no cell.
+        self.count = list_active(&self.cases, nx as usize - 1, &mut self.active);
     }
 
     /// Turns to the row of cells that a row of points begins, and says whether it may have loops: not where the row begins

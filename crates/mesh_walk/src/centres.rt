@@ -5,7 +5,7 @@ ghost use Rattle.cell_loops.specs.Loops.{IsLoop, row_loops};
 ghost use Rattle.flat_mesh.specs.Centres.{IsCellAt, loop_centre, loop_centres};
 ghost use Rattle.flat_mesh.specs.Faces.{AllCross, loops_at};
 ghost use Rattle.mesh_lines.specs.Blocks.{Adds, IsBehind};
-ghost use Rattle.mesh_walk.specs.Cells.{AreCells, AreTexts, cells_start, eight_at};
+ghost use Rattle.mesh_walk.specs.Cells.{AreCells, AreTexts, cells_start};
 ghost use Rattle.mesh_walk.specs.Numbers.{AreRowRanks, cells_cost, cost_of_row};
 ghost use Rattle.mesh_walk.specs.Places.{AreCellPlaces, AreRowPlaces, due_to, in_slot};
 ghost use Rattle.mesh_walk.specs.Slots.{IsReady};
@@ -143,12 +143,7 @@ fn write_cell<H: Heights, K: Sink>(
         (centres_text row.entry.texts.now.style v (cells_start v row.entry.cells.now + x) 1) }
     ensures bytes { IfOk result (λ _. block.new.total ≤ block.old.total + 256) }
 {
-    let case = row.cells.cases[x as usize];
-    // So it is with most cells, and no table has to be asked.
-    if case == 0 {
-        return Ok(());
-    }
-    let case = CaseRow::of(case);
+    let case = CaseRow::of(row.cells.cases[x as usize]);
     if centre_count(case) == 0 {
         return Ok(());
     }
@@ -165,40 +160,7 @@ fn write_cell<H: Heights, K: Sink>(
     Ok(())
 }
 
-/// Puts the lines of the centres of eight cells of a row behind the others, or of those that are left at its end.
-#[inline(always)]
-fn write_eight<H: Heights, K: Sink>(
-    field: &H,
-    row: CentreRow<'_>,
-    eight: u32,
-    block: &mut Block,
-    sink: &mut K,
-) -> Result<(), Failed>
-    requires cells { AreCells (H.leveled field.now) row.cells.now }
-    requires texts { AreTexts (H.leveled field.now).grid row.cells.now.y row.cells.now.z row.texts.now }
-    requires places { let cells = row.cells.now in
-        AreRowPlaces (H.leveled field.now) cells.y cells.z row.places.now.places row.slots.now }
-    requires eight { 8 * eight + 1 < (H.leveled field.now).grid.nx }
-    ensures adds { let v = H.leveled field.now in
-        Adds (K.seen sink.old) (K.seen sink.new) block.old block.new result
-        (centres_text row.entry.texts.now.style v (cells_start v row.entry.cells.now + 8 * eight)
-        (eight_at v.grid (eight + 1) - 8 * eight)) }
-    ensures bytes { let end = eight_at (H.leveled field.now).grid (eight + 1) in
-        IfOk result (λ _. block.new.total ≤ block.old.total + 256 * (end - 8 * eight)) }
-{
-    let last = field.sizes().nx() - 1;
-    let from = 8 * eight;
-    let end = (from + 8).min(last);
-    if end - from == 8 && row.cells.have_no_loops(from) {
-        return Ok(());
-    }
-    for x in from..end {
-        write_cell(field, row, x, block, sink)?;
-    }
-    Ok(())
-}
-
-/// Puts the lines of the centres of a row of cells behind the others, eight cells at a time.
+/// Puts the lines of the centres of a row of cells behind the others.
 fn write_cells<H: Heights, K: Sink>(
     field: &H,
     row: CentreRow<'_>,
@@ -214,10 +176,10 @@ fn write_cells<H: Heights, K: Sink>(
         (centres_text row.entry.texts.now.style v (cells_start v row.entry.cells.now) v.grid.nx) }
     ensures bytes { IfOk result (λ _. block.new.total ≤ block.old.total + 256 * (H.leveled field.now).grid.nx) }
 {
-    // The last point of a row begins no cell.
-    let nx = field.sizes().nx();
-    for eight in 0..(nx + 6) / 8 {
-        write_eight(field, row, eight, block, sink)?;
+    let _ = field.sizes();
+    for k in 0..row.cells.count {
+        let x = row.cells.active[k] as u32;
+        write_cell(field, row, x, block, sink)?;
     }
     Ok(())
 }

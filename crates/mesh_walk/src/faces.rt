@@ -6,13 +6,13 @@ ghost use Rattle.cell_loops.specs.Loops.{IsLoop, row_loops};
 ghost use Rattle.flat_mesh.specs.Faces.{cell_faces, centres_of, loop_faces};
 ghost use Rattle.mesh_text.specs.Numbers.{IsShort, number_text, text_at};
 ghost use Rattle.mesh_lines.specs.Blocks.{Adds, IsBehind};
-ghost use Rattle.mesh_walk.specs.Cells.{AreCells, cells_start, eight_at};
+ghost use Rattle.mesh_walk.specs.Cells.{AreCells, cells_start};
 ghost use Rattle.mesh_walk.specs.Numbers.{AreRowRanks, HasNumber, cells_cost, cost_of_row};
 ghost use Rattle.mesh_walk.specs.Slots.{IsReady};
 ghost use Rattle.mesh_walk.specs.Spans.{all_faces_text, face_lines, faces_text, row_faces_text};
 ghost use Rattle.mesh_walk.specs.Texts.{AreTexts, AreTextsAround, HasText, cell_text, number_due};
 
-use crate::cells::{RowCells, has_loops};
+use crate::cells::RowCells;
 use crate::ranks::row_at;
 use crate::slots::{Around, SLOTS, edge_slots};
 use crate::texts::NumberTexts;
@@ -133,14 +133,14 @@ struct FaceRow<'a> {
     style: Style,
     cells: &'a RowCells,
     texts: &'a [Number; SLOTS],
-    slots: [u16; 12],
+    slots: &'a [u16; 12],
 }
 
 impl<'a> FaceRow<'a> {
     /// Puts the lines of the triangles of the cell at a place behind the others, where `next` is the number of its first
-    /// centre, and gives that of the next cell's. Apart, so that the cells without loops are passed over by a short loop.
-    #[inline(never)]
-    fn write_loops<H: Heights, K: Sink>(
+    /// centre, and gives that of the next cell's.
+    #[inline(always)]
+    fn write_cell<H: Heights, K: Sink>(
         self,
         field: &H,
         x: u32,
@@ -150,7 +150,7 @@ impl<'a> FaceRow<'a> {
     ) -> Result<u32, Failed>
         requires cells { AreCells (H.leveled field.now) self.cells.now }
         requires texts { let cells = self.cells.now in
-            AreTextsAround self.style (H.leveled field.now) cells.y cells.z self.texts.now self.slots }
+            AreTextsAround self.style (H.leveled field.now) cells.y cells.z self.texts.now self.slots.now }
         requires x { x + 1 < (H.leveled field.now).grid.nx }
         requires next { let v = H.leveled field.now in
             HasNumber v (cells_start v self.cells.now + x) next }
@@ -166,84 +166,14 @@ impl<'a> FaceRow<'a> {
         block.reserve(sink)?;
         let texts = CellTexts {
             texts: self.texts,
-            slots: &self.slots,
+            slots: self.slots,
             at: 3 * x as u16,
         };
         let next = put_loops(self.style, texts, CaseRow::of(case), next, block);
         Ok(next)
     }
 
-    /// The same, at once where the cell has no loops.
-    #[inline(always)]
-    fn write_cell<H: Heights, K: Sink>(
-        self,
-        field: &H,
-        x: u32,
-        next: u32,
-        block: &mut Block,
-        sink: &mut K,
-    ) -> Result<u32, Failed>
-        requires cells { AreCells (H.leveled field.now) self.cells.now }
-        requires texts { let cells = self.cells.now in
-            AreTextsAround self.style (H.leveled field.now) cells.y cells.z self.texts.now self.slots }
-        requires x { x + 1 < (H.leveled field.now).grid.nx }
-        requires next { let v = H.leveled field.now in
-            HasNumber v (cells_start v self.cells.now + x) next }
-        ensures adds { let v = H.leveled field.now in
-            Adds (K.seen sink.old) (K.seen sink.new) block.old block.new result
-            (faces_text self.entry.style.format v (cells_start v self.entry.cells.now + x) 1) }
-        ensures next { let v = H.leveled field.now in
-            IfOk result (λ n. HasNumber v (cells_start v self.entry.cells.now + x + 1) n) }
-        ensures bytes { IfOk result (λ _. block.new.total ≤ block.old.total + 3072) }
-    {
-        let _ = field.sizes();
-        if !has_loops(self.cells.cases[x as usize]) {
-            return Ok(next);
-        }
-        self.write_loops(field, x, next, block, sink)
-    }
-
-    /// Puts the lines of the triangles of eight cells of the row behind the others, or of those that are left at its end,
-    /// where `next` is the number of the first centre there, and gives that of the first one behind.
-    #[inline(always)]
-    fn write_eight<H: Heights, K: Sink>(
-        self,
-        field: &H,
-        eight: u32,
-        next: u32,
-        block: &mut Block,
-        sink: &mut K,
-    ) -> Result<u32, Failed>
-        requires cells { AreCells (H.leveled field.now) self.cells.now }
-        requires texts { let cells = self.cells.now in
-            AreTextsAround self.style (H.leveled field.now) cells.y cells.z self.texts.now self.slots }
-        requires eight { 8 * eight + 1 < (H.leveled field.now).grid.nx }
-        requires next { let v = H.leveled field.now in
-            HasNumber v (cells_start v self.cells.now + 8 * eight) next }
-        ensures adds { let v = H.leveled field.now in
-            let start = cells_start v self.entry.cells.now in
-            Adds (K.seen sink.old) (K.seen sink.new) block.old block.new result
-            (faces_text self.entry.style.format v (start + 8 * eight) (eight_at v.grid (eight + 1) - 8 * eight)) }
-        ensures next { let v = H.leveled field.now in
-            let start = cells_start v self.entry.cells.now in
-            IfOk result (λ n. HasNumber v (start + eight_at v.grid (eight + 1)) n) }
-        ensures bytes { let end = eight_at (H.leveled field.now).grid (eight + 1) in
-            IfOk result (λ _. block.new.total ≤ block.old.total + 3072 * (end - 8 * eight)) }
-    {
-        let last = field.sizes().nx() - 1;
-        let from = 8 * eight;
-        let end = (from + 8).min(last);
-        if end - from == 8 && self.cells.have_no_loops(from) {
-            return Ok(next);
-        }
-        let mut next = next;
-        for x in from..end {
-            next = self.write_cell(field, x, next, block, sink)?;
-        }
-        Ok(next)
-    }
-
-    /// Puts the lines of the triangles of the row behind the others, eight cells at a time.
+    /// Puts the lines of the triangles of the row behind the others.
     fn write<H: Heights, K: Sink>(
         self,
         field: &H,
@@ -253,7 +183,7 @@ impl<'a> FaceRow<'a> {
     ) -> Result<u32, Failed>
         requires cells { AreCells (H.leveled field.now) self.cells.now }
         requires texts { let cells = self.cells.now in
-            AreTextsAround self.style (H.leveled field.now) cells.y cells.z self.texts.now self.slots }
+            AreTextsAround self.style (H.leveled field.now) cells.y cells.z self.texts.now self.slots.now }
         requires next { let v = H.leveled field.now in
             HasNumber v (cells_start v self.cells.now) next }
         ensures adds { let v = H.leveled field.now in
@@ -264,11 +194,11 @@ impl<'a> FaceRow<'a> {
             IfOk result (λ n. HasNumber v (cells_start v self.entry.cells.now + v.grid.nx) n) }
         ensures bytes { IfOk result (λ _. block.new.total ≤ block.old.total + 3072 * (H.leveled field.now).grid.nx) }
     {
-        // The last point of a row begins no cell.
-        let nx = field.sizes().nx();
+        let _ = field.sizes();
         let mut next = next;
-        for eight in 0..(nx + 6) / 8 {
-            next = self.write_eight(field, eight, next, block, sink)?;
+        for k in 0..self.cells.count {
+            let x = self.cells.active[k] as u32;
+            next = self.write_cell(field, x, next, block, sink)?;
         }
         Ok(next)
     }
@@ -320,7 +250,7 @@ fn write_row<R: MeshRows, K: Sink>(
         style: walk.style,
         cells: &faces.cells,
         texts: &faces.texts.slots.texts,
-        slots: edge_slots(y, z),
+        slots: &edge_slots(y, z),
     };
     faces.next = face_row.write(rows, faces.next, block, sink)?;
     Ok(())

@@ -2,6 +2,7 @@
 //! taken. The crossing edges of a row of points are listed by their offsets for other crates too.
 #![tactic(auto)]
 
+mod active;
 mod cells;
 mod centres;
 mod edges;

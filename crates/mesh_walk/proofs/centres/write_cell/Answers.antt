@@ -1,4 +1,4 @@
-use Rattle.std.proofs.Common.{◌≡◌, ◌+◌, ◌∙◌, [], ap, sym, refl, length, get_or}
+use Rattle.std.proofs.Common.{◌≡◌, ◌+◌, ◌∙◌, [], ap, sym, refl, length}
 use Rattle.std.proofs.lemmas.Result.{err_from_is_err_and}
 use Rattle.cell_loops.specs.Loops.{row_loops}
 use Rattle.iso_defs.specs.Scratch.{cell_centres}
@@ -9,16 +9,8 @@ use Rattle.mesh_walk.specs.Cells.{cells_start}
 use Rattle.mesh_walk.specs.Spans.{loop_lines}
 use Rattle.mesh_walk.proofs.Adding.{adds_as, adds_behind, adds_both, adds_front, adds_none, behind_as}
 use Rattle.mesh_walk.proofs.CellRuns.{case_at}
-use Rattle.mesh_walk.proofs.CentreLines.{cell_centre_lines, centres_of_case, first_case_lines, no_centre_lines, tested_at}
+use Rattle.mesh_walk.proofs.CentreLines.{cell_centre_lines, centres_of_case, no_centre_lines, tested_at}
 use Rattle.mesh_walk.proofs.centres.write_cell.Goals as goal
-
-pub returns-then-case-eq0-clause-adds : goal.returns-then-case-eq0-clause-adds
-returns-then-case-eq0-clause-adds g c =
-    let v = g.H.Heights.leveled c.args.field.now in
-    let cells = c.args.row.cells.now in
-    let q = cells_start v cells + c.args.x in
-    let case = case_at v cells c.requires.cells c.args.x c.requires.x in
-    adds_as _ _ _ _ _ _ _ (sym (first_case_lines c.args.row.texts.now.style v q (get_or cells.cases c.args.x 0) (tested_at v cells c.requires.cells c.args.x c.requires.x) case.loops c.if-case-eq0.true)) (adds_none _ c.args.block.now tt)
 
 pub of-case-requires : goal.of-case-requires
 of-case-requires g c =

@@ -1,15 +1,18 @@
-use Rattle.std.proofs.Common.{◌+◌, ◌*◌, ◌≤◌, Ok}
+use Rattle.std.proofs.Common.{◌+◌, ◌-◌, ◌*◌, ◌≤◌, Ok}
 use Rattle.flat_mesh.specs.Rows.{row_start}
 use Rattle.mesh_lines.specs.Blocks.{Adds}
-use Rattle.mesh_walk.specs.Cells.{eight_at}
+use Rattle.mesh_walk.specs.Active.{active_among}
 use Rattle.mesh_walk.specs.Spans.{centres_text}
+use Rattle.mesh_walk.proofs.ActiveCells.{begins}
 use Rattle.mesh_walk.proofs.centres.write_cells.Given as goal
 
-abbrev pub invariant-loop-eight : goal.invariant-loop-eight
-invariant-loop-eight g l =
+abbrev pub invariant-loop-k : goal.invariant-loop-k
+invariant-loop-k g l =
     let v = g.H.Heights.leveled l.field in
+    let cells = l.row.cells.now in
+    let done = begins 0 (active_among cells.cases 0 (v.grid.nx - 1)) l.k in
     record {
       adds : Adds {T = Unit {0}} (g.K.Sink.seen l.fn.sink) (g.K.Sink.seen l.sink) l.fn.block l.block (Ok tt)
-          (centres_text l.row.texts.now.style v (row_start v.grid l.row.cells.now.y l.row.cells.now.z) (eight_at v.grid l.eight));
-      bytes : l.block.total ≤ l.fn.block.total + 256 * eight_at v.grid l.eight;
+          (centres_text l.row.texts.now.style v (row_start v.grid cells.y cells.z) done);
+      bytes : l.block.total ≤ l.fn.block.total + 256 * done;
     }

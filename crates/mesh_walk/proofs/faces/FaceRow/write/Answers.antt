@@ -1,73 +1,93 @@
-use Rattle.std.proofs.Common.{◌≡◌, ◌+◌, ◌-◌, ◌*◌, ◌<◌, ap, subst, sym, arith}
+use Rattle.std.proofs.Common.{◌≡◌, ◌+◌, ◌-◌, ◌<◌, ap, subst, arith, get_or}
 use Rattle.std.proofs.lemmas.Result.{err_from_is_err_and}
 use Rattle.iso_defs.specs.Grid.{is_cell}
 use Rattle.flat_mesh.specs.Rows.{row_start}
-use Rattle.mesh_walk.specs.Cells.{eight_at}
 use Rattle.mesh_walk.specs.Numbers.{HasNumber}
 use Rattle.mesh_walk.specs.Spans.{faces_text, triangle_lines}
-use Rattle.mesh_walk.proofs.Adding.{adds_as, adds_none, adds_with}
-use Rattle.mesh_walk.proofs.CellRuns.{last_point, width_is}
+use Rattle.mesh_walk.proofs.ActiveCells.{cell_low, count_low, gap, gap_before, gap_low, gap_next, quiet_gap, quiet_rest}
+use Rattle.mesh_walk.proofs.Adding.{adds_as, adds_with}
 use Rattle.mesh_walk.proofs.FaceLines.{quiet_faces, quiet_number}
-use Rattle.mesh_walk.proofs.SpanLaws.{run_failed, run_more, run_none}
+use Rattle.mesh_walk.proofs.SpanLaws.{run_failed, run_more, run_none, run_quiet}
 use Rattle.mesh_walk.proofs.faces.FaceRow.write.Goals as goal
 
-pub loop-eight-init : goal.loop-eight-init
-loop-eight-init g c =
+pub loop-k-init : goal.loop-k-init
+loop-k-init g c =
     let v = g.H.Heights.leveled c.args.field.now in
     let format = c.args.self.style.format in
     let cells = c.args.self.cells.now in
     let start = row_start v.grid cells.y cells.z in
-    let none : eight_at v.grid 0 ≡ 0 = omega arith in
-    let here : start ≡ start + eight_at v.grid 0 = omega (arith, none) in
+    let here : start ≡ start + 0 = omega arith in
     record {
-      adds = adds_as _ _ _ _ _ _ _ (ap (λ n. faces_text format v start n) (sym none)) (run_none (triangle_lines format v) (is_cell v.grid) start _ _ tt);
+      adds = run_none (triangle_lines format v) (is_cell v.grid) start _ _ tt;
       bytes = omega arith;
       next = subst (λ q. HasNumber v q c.args.next) here c.requires.next;
     }
 
-pub write_eight-requires-clause-eight : goal.write_eight-requires-clause-eight
-write_eight-requires-clause-eight g c =
+pub bounds-self-k : goal.bounds-self-k
+bounds-self-k g c =
     let v = g.H.Heights.leveled c.args.field.now in
-    let nx = width_is v _ _ c.sizes.ensures.value c.nx-nx.ensures.value in
-    omega (arith, nx, c.loop-eight-test.true)
+    let x = c.sizes.ensures.leveled.grid.x in
+    omega (arith, count_low v c.args.self.cells.now c.requires.cells (omega (arith, x)), x, c.loop-k-test.true)
 
-pub write_eight-requires-clause-next : goal.write_eight-requires-clause-next
-write_eight-requires-clause-next g c =
+pub offset_bounds-self-k : goal.offset_bounds-self-k
+offset_bounds-self-k g c =
     let v = g.H.Heights.leveled c.args.field.now in
-    let format = c.args.self.style.format in
+    let x = c.sizes.ensures.leveled.grid.x in
+    omega (arith, count_low v c.args.self.cells.now c.requires.cells (omega (arith, x)), x, c.loop-k-test.true)
+
+pub write_cell-requires-clause-x : goal.write_cell-requires-clause-x
+write_cell-requires-clause-x g c =
+    let v = g.H.Heights.leveled c.args.field.now in
+    cell_low v c.args.self.cells.now c.requires.cells c.loop-k.k c.loop-k-test.true
+
+pub write_cell-requires-clause-next : goal.write_cell-requires-clause-next
+write_cell-requires-clause-next g c =
+    let v = g.H.Heights.leveled c.args.field.now in
     let cells = c.args.self.cells.now in
+    let are = c.requires.cells in
+    let k = c.loop-k.k in
+    let more = c.loop-k-test.true in
+    let x = get_or cells.active k 0 in
     let start = row_start v.grid cells.y cells.z in
-    let nx = width_is v _ _ c.sizes.ensures.value c.nx-nx.ensures.value in
-    let here : start + eight_at v.grid c.loop-eight.eight ≡ start + 8 * c.loop-eight.eight = omega (arith, nx, c.loop-eight-test.true) in
-    subst (λ q. HasNumber v q c.loop-eight.next) here c.loop-eight.invariant.next
+    let within = gap_before v cells are k more in
+    quiet_number v (start + gap v cells are k) (x - gap v cells are k) (start + x) c.loop-k.next (quiet_gap v cells are k more) (omega (arith, within)) c.loop-k.invariant.next
 
 pub returns-in_err-next-clause-adds : goal.returns-in_err-next-clause-adds
 returns-in_err-next-clause-adds g c =
     let v = g.H.Heights.leveled c.args.field.now in
     let format = c.args.self.style.format in
     let cells = c.args.self.cells.now in
+    let are = c.requires.cells in
+    let k = c.loop-k.k in
+    let more = c.loop-k-test.true in
+    let x = get_or cells.active k 0 in
     let start = row_start v.grid cells.y cells.z in
-    let nx = width_is v _ _ c.sizes.ensures.value c.nx-nx.ensures.value in
     let p = err_from_is_err_and c.from_residual.result c.from_residual.ensures.1 in
-    let n = c.loop-eight.eight in
-    let low : 8 * n + 1 < v.grid.nx = omega (arith, nx, c.loop-eight-test.true) in
+    let none = quiet_faces format v (start + gap v cells are k) (x - gap v cells are k) (quiet_gap v cells are k more) in
+    let before = run_quiet (triangle_lines format v) (is_cell v.grid) start _ _ _ _ tt (gap v cells are k) x (gap_before v cells are k more) none c.loop-k.invariant.adds in
     rw p.1 (run_failed (triangle_lines format v) (is_cell v.grid) start _ _ _ _ _ _ _ _ _ _
-    (eight_at v.grid n) (eight_at v.grid (n + 1) - 8 * n) v.grid.nx (start + 8 * n) (omega (arith, low)) (omega (arith, low)) c.loop-eight.invariant.adds c.in_err-next.ensures.adds)
+    x 1 v.grid.nx (start + x) (omega arith) (omega (arith, cell_low v cells are k more)) before c.in_err-next.ensures.adds)
 
-pub loop-eight-preserved : goal.loop-eight-preserved
-loop-eight-preserved g c =
+pub loop-k-preserved : goal.loop-k-preserved
+loop-k-preserved g c =
     let v = g.H.Heights.leveled c.args.field.now in
     let format = c.args.self.style.format in
     let cells = c.args.self.cells.now in
+    let are = c.requires.cells in
+    let k = c.loop-k.k in
+    let more = c.loop-k-test.true in
+    let x = get_or cells.active k 0 in
     let start = row_start v.grid cells.y cells.z in
-    let nx = width_is v _ _ c.sizes.ensures.value c.nx-nx.ensures.value in
-    let n = c.loop-eight.eight in
-    let low : 8 * n + 1 < v.grid.nx = omega (arith, nx, c.loop-eight-test.true) in
+    let within = gap_before v cells are k more in
+    let next = gap_next v cells are k more in
+    let none = quiet_faces format v (start + gap v cells are k) (x - gap v cells are k) (quiet_gap v cells are k more) in
+    let before = run_quiet (triangle_lines format v) (is_cell v.grid) start _ _ _ _ tt (gap v cells are k) x within none c.loop-k.invariant.adds in
+    let to : start + x + 1 ≡ start + gap v cells are (k + 1) = omega (arith, next) in
     record {
       adds = adds_with _ _ _ _ _ tt _ (run_more (triangle_lines format v) (is_cell v.grid) start _ _ _ _ _ _ tt _
-          (eight_at v.grid n) (eight_at v.grid (n + 1) - 8 * n) (eight_at v.grid (n + 1)) (start + 8 * n) (omega (arith, low)) (omega (arith, low)) c.loop-eight.invariant.adds c.in_ok-next.ensures.adds);
-      bytes = omega (arith, low, c.loop-eight.invariant.bytes, c.in_ok-next.ensures.bytes);
-      next = c.in_ok-next.ensures.next;
+          x 1 (gap v cells are (k + 1)) (start + x) (omega arith) next before c.in_ok-next.ensures.adds);
+      bytes = omega (arith, within, next, c.loop-k.invariant.bytes, c.in_ok-next.ensures.bytes);
+      next = subst (λ q. HasNumber v q c.in_ok-next.next) to c.in_ok-next.ensures.next;
     }
 
 pub returns-clause-adds : goal.returns-clause-adds
@@ -75,24 +95,31 @@ returns-clause-adds g c =
     let v = g.H.Heights.leveled c.args.field.now in
     let format = c.args.self.style.format in
     let cells = c.args.self.cells.now in
+    let are = c.requires.cells in
     let start = row_start v.grid cells.y cells.z in
-    let nx = width_is v _ _ c.sizes.ensures.value c.nx-nx.ensures.value in
-    let least = c.sizes.ensures.leveled.grid.x.least in
-    let far : eight_at v.grid c.loop-eight.eight ≡ v.grid.nx - 1 = omega (arith, nx, c.loop-eight-test.false) in
-    let quiet = last_point v cells.y cells.z (omega (arith, least)) (omega (arith, c.requires.cells.y)) (omega (arith, c.requires.cells.z)) in
-    run_more (triangle_lines format v) (is_cell v.grid) start _ _ _ _ _ _ tt c.loop-eight.next
-    (eight_at v.grid c.loop-eight.eight) 1 v.grid.nx (start + (v.grid.nx - 1)) (omega (arith, far)) (omega (arith, far, least)) c.loop-eight.invariant.adds
-    (adds_as _ _ _ _ _ _ _ (sym (quiet_faces format v (start + (v.grid.nx - 1)) 1 quiet)) (adds_none _ c.loop-eight.block c.loop-eight.next))
+    let some : 0 < v.grid.nx = omega (arith, c.sizes.ensures.leveled.grid.x.least) in
+    let end : c.loop-k.k ≡ cells.count = omega (arith, c.loop-k-test.false, c.loop-k.auto.k-end) in
+    let none = quiet_faces format v (start + gap v cells are cells.count) (v.grid.nx - gap v cells are cells.count) (quiet_rest v cells are some) in
+    let low = gap_low v cells are some cells.count (omega arith) in
+    adds_with _ _ _ _ tt c.loop-k.next _ (run_quiet (triangle_lines format v) (is_cell v.grid) start _ _ _ _ tt (gap v cells are cells.count) v.grid.nx (omega (arith, low)) none
+    (adds_as _ _ _ _ _ _ _ (ap (λ k. faces_text format v start (gap v cells are k)) end) c.loop-k.invariant.adds))
 
 pub returns-clause-next : goal.returns-clause-next
 returns-clause-next g c =
     let v = g.H.Heights.leveled c.args.field.now in
-    let format = c.args.self.style.format in
     let cells = c.args.self.cells.now in
+    let are = c.requires.cells in
     let start = row_start v.grid cells.y cells.z in
-    let nx = width_is v _ _ c.sizes.ensures.value c.nx-nx.ensures.value in
-    let least = c.sizes.ensures.leveled.grid.x.least in
-    let far : start + eight_at v.grid c.loop-eight.eight ≡ start + (v.grid.nx - 1) = omega (arith, nx, c.loop-eight-test.false) in
-    let quiet = last_point v cells.y cells.z (omega (arith, least)) (omega (arith, c.requires.cells.y)) (omega (arith, c.requires.cells.z)) in
-    quiet_number v (start + (v.grid.nx - 1)) 1 (start + v.grid.nx) c.loop-eight.next quiet (omega (arith, least))
-    (subst (λ q. HasNumber v q c.loop-eight.next) far c.loop-eight.invariant.next)
+    let some : 0 < v.grid.nx = omega (arith, c.sizes.ensures.leveled.grid.x.least) in
+    let end : c.loop-k.k ≡ cells.count = omega (arith, c.loop-k-test.false, c.loop-k.auto.k-end) in
+    let low = gap_low v cells are some cells.count (omega arith) in
+    quiet_number v (start + gap v cells are cells.count) (v.grid.nx - gap v cells are cells.count) (start + v.grid.nx) c.loop-k.next (quiet_rest v cells are some) (omega (arith, low))
+    (subst (λ k. HasNumber v (start + gap v cells are k) c.loop-k.next) end c.loop-k.invariant.next)
+
+pub returns-clause-bytes : goal.returns-clause-bytes
+returns-clause-bytes g c =
+    let v = g.H.Heights.leveled c.args.field.now in
+    let cells = c.args.self.cells.now in
+    let some : 0 < v.grid.nx = omega (arith, c.sizes.ensures.leveled.grid.x.least) in
+    let low = gap_low v cells c.requires.cells some c.loop-k.k (omega (arith, c.loop-k.auto.k-end)) in
+    omega (arith, low, c.loop-k.invariant.bytes)
