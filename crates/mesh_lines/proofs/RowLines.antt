@@ -9,9 +9,9 @@ use Rattle.iso_defs.specs.Place.{Position}
 use Rattle.iso_defs.specs.Texts.{decimal_text, line, printed, thousandths, three_digits}
 use Rattle.mesh_text.proofs.Pieces.{ten_digits_most}
 use Rattle.mesh_lines.specs.Lines.{origin_coordinate, vertex_letter, vertex_line}
-use Rattle.mesh_text.specs.Pieces.{parts_line, thirds_line}
+use Rattle.mesh_text.specs.Pieces.{parts_line, piece_text, thirds_line}
 use Rattle.mesh_text.specs.declared.piece.Piece.{Piece}
-use Rattle.mesh_lines.specs.RowLines.{AreCentreTexts, AreFronts, AreTexts, IsPiece, RowPlace, centre_at, edge_at, front_text, is_layer, no_piece, middle_text, tail_text, whole_at, whole_size, whole_text, y_text, z_text, zeros}
+use Rattle.mesh_lines.specs.RowLines.{AreCentreTexts, AreFronts, AreTexts, AreWholes, IsPiece, RowPlace, centre_at, edge_at, front_text, is_layer, no_piece, middle_text, tail_text, whole_at, whole_size, whole_text, y_text, z_text, zeros}
 use Rattle.mesh_lines.specs.declared.row_texts.RowParts.{RowParts}
 use Rattle.mesh_lines.specs.declared.style.Origin.{Origin}
 use Rattle.mesh_lines.specs.declared.style.Origin.TheVariants.{Volume, Pad, Window}
@@ -91,8 +91,8 @@ edge_parts style x y z (suc (suc (suc n))) r known low side = absurd (omega arit
 thirds : (f p b q c r : List ℕ) → line ((f ++ p) ++ ((b ++ q) ++ (c ++ r))) ≡ f ++ (p ++ (b ++ (q ++ (c ++ (r ++ 10 ∷ [])))))
 thirds f p b q c r = simp append_assoc
 
-pub centre_parts : (style : Style) (x y z a b c : ℕ) → a < 1000 → b < 1000 → c < 1000
-    → is_layer style.origin x ≡ false → is_layer style.origin y ≡ false → is_layer style.origin z ≡ false
+centre_parts : (style : Style) (x y z a b c : ℕ) → a < 1000 → b < 1000 → c < 1000
+    → (is_layer style.origin x ≡ false) ⊎ (a ≡ 0) → (is_layer style.origin y ≡ false) ⊎ (b ≡ 0) → (is_layer style.origin z ≡ false) ⊎ (c ≡ 0)
     → line ((front_text style x ++ three_digits a) ++ ((y_text style.origin y ++ three_digits b) ++ (z_text style.origin z ++ three_digits c)))
     ≡ vertex_line style (0, (1000 * x + a, 1000 * y + b, 1000 * z + c))
 unfolding vertex_line
@@ -100,7 +100,7 @@ centre_parts style x y z a b c la lb lc sx sy sz =
     let o : Origin = style.origin in
     thirds (front_text style x) (three_digits a) (y_text o y) (three_digits b) (z_text o z) (three_digits c)
     ∙ sym (flat (vertex_letter style.format) _ _ _ (whole_text o 0 x) (whole_text o 1 y) (whole_text o 2 z) (three_digits a) (three_digits b) (three_digits c)
-    (coordinate_is o 0 x a la (inl sx)) (coordinate_is o 1 y b lb (inl sy)) (coordinate_is o 2 z c lc (inl sz)))
+    (coordinate_is o 0 x a la sx) (coordinate_is o 1 y b lb sy) (coordinate_is o 2 z c lc sz))
 
 -- the front of one more point
 pub fronts_more : (style : Style) (old : List (Piece 16)) (n : ℕ) (piece : Piece 16) → n < length old → AreFronts style n old → IsPiece piece (front_text style n) 14
@@ -122,7 +122,75 @@ equal_parts a b c d p q r e f g = rw (e, f, g) refl
 equal_thirds : (a b c d e f p q r : List ℕ) → a ≡ p → c ≡ q → e ≡ r → line ((a ++ b) ++ ((c ++ d) ++ (e ++ f))) ≡ line ((p ++ b) ++ ((q ++ d) ++ (r ++ f)))
 equal_thirds a b c d e f p q r x y z = rw (x, y, z) refl
 
-module _ (row : RowPlace) (fronts : List (Piece 16)) (parts : RowParts) (h : AreTexts row fronts parts) where
+-- the text of a coordinate or of the next one
+whole_is : (origin : Origin) (axis n : ℕ) (pieces : List (Piece 16)) → AreWholes origin axis n pieces → (k : ℕ) → k ≤ 1
+    → IsPiece (slice_index_or pieces k no_piece) (32 ∷ whole_text origin axis (n + k)) 12
+whole_is origin axis n pieces h zero few =
+    let same : n ≡ n + 0 = omega arith in
+    subst (λ (m : ℕ). IsPiece (slice_index_or pieces 0 no_piece) (32 ∷ whole_text origin axis m) 12) same h.lower
+whole_is origin axis n pieces h (suc zero) few = h.upper
+whole_is origin axis n pieces h (suc (suc k)) few = absurd (omega (arith, few))
+
+-- a place of 1000 is at the next whole coordinate, where it has no decimals
+near_side : (origin : Origin) (n p k r : ℕ) → p ≤ 1000 → k ≡ p / 1000 → r ≡ p % 1000 → is_layer origin n ≡ false → (is_layer origin (n + k) ≡ false) ⊎ (r ≡ 0)
+near_side origin n p k r low upper over inside =
+    elim (eq-zero-or-pos (1000 - p)) [
+      | inl z ↦ inr (omega (arith, z, low, over))
+      | inr g ↦
+          let same : n ≡ n + k = omega (arith, g, upper) in
+          inl (subst (λ (m : ℕ). is_layer origin m ≡ false) same inside)
+    ]
+
+-- equal places have equal lines
+equal_places : (style : Style) (a b c p q r : ℕ) → a ≡ p → b ≡ q → c ≡ r → vertex_line style (0, (a, b, c)) ≡ vertex_line style (0, (p, q, r))
+equal_places style a b c p q r e f g = rw (e, f, g) refl
+
+-- the line of a vertex at a place beyond a point of a row, out of the texts of whole coordinates
+module _ (row : RowPlace) (fronts ys zs : List (Piece 16)) (fs : AreFronts row.style (row.count + 1) fronts)
+    (ws : AreWholes row.style.origin 1 row.y ys) (vs : AreWholes row.style.origin 2 row.z zs) where
+  near_line : (x a b c i j k p q r : ℕ) → x < row.count → a ≤ 1000 → b ≤ 1000 → c ≤ 1000
+      → i ≡ a / 1000 → j ≡ b / 1000 → k ≡ c / 1000 → p ≡ a % 1000 → q ≡ b % 1000 → r ≡ c % 1000
+      → (is_layer row.style.origin (x + i) ≡ false) ⊎ (p ≡ 0) → (is_layer row.style.origin (row.y + j) ≡ false) ⊎ (q ≡ 0) → (is_layer row.style.origin (row.z + k) ≡ false) ⊎ (r ≡ 0)
+      → line ((piece_text (slice_index_or fronts (x + i) no_piece) ++ three_digits p)
+      ++ ((piece_text (slice_index_or ys j no_piece) ++ three_digits q) ++ (piece_text (slice_index_or zs k no_piece) ++ three_digits r)))
+      ≡ vertex_line row.style (0, (1000 * x + a, 1000 * row.y + b, 1000 * row.z + c))
+  near_line x a b c i j k p q r low la lb lc xi yj zk xp yq zr sx sy sz =
+      let at_x : 1000 * (x + i) + p ≡ 1000 * x + a = omega (arith, xi, xp) in
+      let at_y : 1000 * (row.y + j) + q ≡ 1000 * row.y + b = omega (arith, yj, yq) in
+      let at_z : 1000 * (row.z + k) + r ≡ 1000 * row.z + c = omega (arith, zk, zr) in
+      equal_thirds _ (three_digits p) _ (three_digits q) _ (three_digits r) _ _ _ (fs (x + i) (omega (arith, low, la, xi))).has
+      (whole_is row.style.origin 1 row.y ys ws j (omega (arith, lb, yj))).has (whole_is row.style.origin 2 row.z zs vs k (omega (arith, lc, zk))).has
+      ∙ (centre_parts row.style (x + i) (row.y + j) (row.z + k) p q r (omega (arith, xp)) (omega (arith, yq)) (omega (arith, zr)) sx sy sz
+      ∙ equal_places row.style _ _ _ _ _ _ at_x at_y at_z)
+
+-- a step to the upper end of an edge in thousandths
+step_is : (b : Bool) → (if b then 1 else 0) ≡ (if b then 1000 else 0) / 1000
+step_is true = omega arith
+step_is false = omega arith
+
+step_over : (b : Bool) → 0 ≡ (if b then 1000 else 0) % 1000
+step_over true = omega arith
+step_over false = omega arith
+
+step_low : (b : Bool) → (if b then 1000 else 0) ≤ 1000
+step_low true = omega arith
+step_low false = omega arith
+
+-- the line of the vertex at the upper end of an edge
+pub upper_line : (row : RowPlace) (fronts ys zs : List (Piece 16)) (parts : RowParts) → AreTexts row fronts ys zs parts
+    → (e x i j k : ℕ) → x ≡ e / 3 → i ≡ (if eqb 0 (e % 3) then 1 else 0) → j ≡ (if eqb 1 (e % 3) then 1 else 0) → k ≡ (if eqb 2 (e % 3) then 1 else 0) → e < 3 * row.count
+    → thirds_line (slice_index_or fronts (x + i) no_piece) (slice_index_or ys j no_piece) (slice_index_or zs k no_piece) (0 ∷ 0 ∷ 0 ∷ [])
+    ≡ vertex_line row.style (0, edge_at row e 1000)
+upper_line row fronts ys zs parts h e x i j k here di dj dk low =
+    let at : ℕ → ℕ = λ axis. if eqb axis (e % 3) then 1000 else 0 in
+    subst (λ (q : ℕ). thirds_line (slice_index_or fronts (x + i) no_piece) (slice_index_or ys j no_piece) (slice_index_or zs k no_piece) (0 ∷ 0 ∷ 0 ∷ [])
+    ≡ vertex_line row.style (0, (1000 * q + at 0, 1000 * row.y + at 1, 1000 * row.z + at 2))) here
+    (near_line row fronts ys zs h.fronts_are h.y_texts_are h.z_texts_are x (at 0) (at 1) (at 2) i j k 0 0 0 (omega (arith, here, low))
+    (step_low (eqb 0 (e % 3))) (step_low (eqb 1 (e % 3))) (step_low (eqb 2 (e % 3)))
+    (di ∙ step_is (eqb 0 (e % 3))) (dj ∙ step_is (eqb 1 (e % 3))) (dk ∙ step_is (eqb 2 (e % 3)))
+    (step_over (eqb 0 (e % 3))) (step_over (eqb 1 (e % 3))) (step_over (eqb 2 (e % 3))) (inr refl) (inr refl) (inr refl))
+
+module _ (row : RowPlace) (fronts ys zs : List (Piece 16)) (parts : RowParts) (h : AreTexts row fronts ys zs parts) where
   abbrev front : ℕ → Piece 16
   front x = slice_index_or fronts x no_piece
 
@@ -143,16 +211,34 @@ module _ (row : RowPlace) (fronts : List (Piece 16)) (parts : RowParts) (h : Are
       = λ q k. (1000 * q + (if eqb 0 k then p else 0), 1000 * row.y + (if eqb 1 k then p else 0), 1000 * row.z + (if eqb 2 k then p else 0)) in
       subst (λ (q : ℕ). text ≡ vertex_line row.style (0, place_at q (e % 3))) here (subst (λ (k : ℕ). text ≡ vertex_line row.style (0, place_at x k)) along whole)
 
--- the line of the centre in a cell
-pub centre_line : (row : RowPlace) (fronts : List (Piece 16)) (u w : Piece 16) (inside : ℕ) → AreCentreTexts row fronts u w inside
-    → (x : ℕ) (at : List ℕ) → x < row.count → inside ≤ 3 * x → slice_index at 0 < 1000 → slice_index at 1 < 1000 → slice_index at 2 < 1000
-    → thirds_line (slice_index_or fronts x no_piece) u w at ≡ vertex_line row.style (0, centre_at row x at)
-centre_line row fronts u w inside h x at low begun a b c =
-    let few : 3 * x < 3078 = omega (arith, low, h.count) in
-    let third : x ≡ 3 * x / 3 = omega arith in
-    equal_thirds _ (three_digits (slice_index at 0)) _ (three_digits (slice_index at 1)) _ (three_digits (slice_index at 2)) _ _ _
-    (h.fronts_are x low).has h.behind_x_is.has h.behind_y_is.has
-    ∙ centre_parts row.style x row.y row.z (slice_index at 0) (slice_index at 1) (slice_index at 2) a b c
-    (ap (is_layer row.style.origin) third ∙ h.inside_is 0 (3 * x) (omega arith) few begun)
-    (h.inside_is 1 (3 * x) (omega arith) few begun)
-    (h.inside_is 2 (3 * x) (omega arith) few begun)
+-- the lines of centres
+module _ (row : RowPlace) (fronts ys zs : List (Piece 16)) (inside : ℕ) (h : AreCentreTexts row fronts ys zs inside) where
+  -- no coordinate of the cell is in a pad's layer
+  clear : (x : ℕ) → x < row.count → inside ≤ 3 * x
+      → (is_layer row.style.origin x ≡ false) × ((is_layer row.style.origin row.y ≡ false) × (is_layer row.style.origin row.z ≡ false))
+  clear x low begun =
+      let few : 3 * x < 3078 = omega (arith, low, h.count) in
+      let third : x ≡ 3 * x / 3 = omega arith in (
+        ap (is_layer row.style.origin) third ∙ h.inside_is 0 (3 * x) (omega arith) few begun,
+        (h.inside_is 1 (3 * x) (omega arith) few begun, h.inside_is 2 (3 * x) (omega arith) few begun),
+      )
+
+  -- in a cell, below all its upper sides
+  pub centre_line : (x : ℕ) (at : List ℕ) → x < row.count → inside ≤ 3 * x → slice_index at 0 < 1000 → slice_index at 1 < 1000 → slice_index at 2 < 1000
+      → thirds_line (slice_index_or fronts x no_piece) (slice_index_or ys 0 no_piece) (slice_index_or zs 0 no_piece) at ≡ vertex_line row.style (0, centre_at row x at)
+  centre_line x at low begun a b c =
+      let out = clear x low begun in
+      equal_thirds _ (three_digits (slice_index at 0)) _ (three_digits (slice_index at 1)) _ (three_digits (slice_index at 2)) _ _ _
+      (h.fronts_are x (omega (arith, low))).has h.y_texts_are.lower.has h.z_texts_are.lower.has
+      ∙ centre_parts row.style x row.y row.z (slice_index at 0) (slice_index at 1) (slice_index at 2) a b c (inl out.0) (inl out.1.0) (inl out.1.1)
+
+  -- and at some of them
+  pub near_centre_line : (x : ℕ) (at rest : List ℕ) → x < row.count → inside ≤ 3 * x → slice_index at 0 ≤ 1000 → slice_index at 1 ≤ 1000 → slice_index at 2 ≤ 1000
+      → slice_index rest 0 ≡ slice_index at 0 % 1000 → slice_index rest 1 ≡ slice_index at 1 % 1000 → slice_index rest 2 ≡ slice_index at 2 % 1000
+      → thirds_line (slice_index_or fronts (x + slice_index at 0 / 1000) no_piece) (slice_index_or ys (slice_index at 1 / 1000) no_piece)
+      (slice_index_or zs (slice_index at 2 / 1000) no_piece) rest ≡ vertex_line row.style (0, centre_at row x at)
+  near_centre_line x at rest low begun la lb lc p q r =
+      let out = clear x low begun in
+      let o : Origin = row.style.origin in
+      near_line row fronts ys zs h.fronts_are h.y_texts_are h.z_texts_are x (slice_index at 0) (slice_index at 1) (slice_index at 2) _ _ _ _ _ _ low la lb lc refl refl refl p q r
+      (near_side o x (slice_index at 0) _ _ la refl p out.0) (near_side o row.y (slice_index at 1) _ _ lb refl q out.1.0) (near_side o row.z (slice_index at 2) _ _ lc refl r out.1.1)

@@ -62,13 +62,19 @@ no_piece = record { bytes = []; len = 0 }
 abbrev pub AreFronts : Style → ℕ → List (Piece 16) → Type 0
 AreFronts style count fronts = (x : ℕ) → x < count → IsPiece (slice_index_or fronts x no_piece) (front_text style x) 14
 
--- the coordinates 1 and 2 with the blanks before them, and three zeros
+-- the coordinates 1 and 2 with the blanks before them
 abbrev pub y_text : Origin → ℕ → List ℕ
 y_text origin y = 32 ∷ whole_text origin 1 y
 
 abbrev pub z_text : Origin → ℕ → List ℕ
 z_text origin z = 32 ∷ whole_text origin 2 z
 
+-- two pieces have the text of a coordinate along an axis and that of the next one, with the blank before it
+pub record AreWholes (origin : Origin) (axis n : ℕ) (pieces : List (Piece 16)) : Type 0 where
+  pub lower : IsPiece (slice_index_or pieces 0 no_piece) (32 ∷ whole_text origin axis n) 12
+  pub upper : IsPiece (slice_index_or pieces 1 no_piece) (32 ∷ whole_text origin axis (n + 1)) 12
+
+-- three zeros
 abbrev pub zeros : List ℕ
 zeros = 48 ∷ 48 ∷ 48 ∷ []
 
@@ -107,21 +113,22 @@ pub record AreParts (origin : Origin) (y z : ℕ) (parts : RowParts) : Type 0 wh
       + (slice_index_or parts.tails axis no_piece).len ≤ 31
   pub least : AreLeast origin y z parts.least
 
--- what a row's lines are put together from
-pub record AreTexts (row : RowPlace) (fronts : List (Piece 16)) (parts : RowParts) : Type 0 where
+-- what a row's lines are put together from: there is a front more than points, since an edge at the last one may end there
+pub record AreTexts (row : RowPlace) (fronts y_texts z_texts : List (Piece 16)) (parts : RowParts) : Type 0 where
   pub count : row.count ≤ 1026
   pub y : row.y ≤ 1026
   pub z : row.z ≤ 1026
-  pub fronts_are : AreFronts row.style row.count fronts
+  pub fronts_are : AreFronts row.style (row.count + 1) fronts
+  pub y_texts_are : AreWholes row.style.origin 1 row.y y_texts
+  pub z_texts_are : AreWholes row.style.origin 2 row.z z_texts
   pub parts_are : AreParts row.style.origin row.y row.z parts
 
--- and those of the centres in a row of cells, with what stands behind the decimals of the first and the second number
-pub record AreCentreTexts (row : RowPlace) (fronts : List (Piece 16)) (behind_x behind_y : Piece 16) (inside : ℕ)
-    : Type 0 where
+-- and those of the centres in a row of cells
+pub record AreCentreTexts (row : RowPlace) (fronts y_texts z_texts : List (Piece 16)) (inside : ℕ) : Type 0 where
   pub count : row.count ≤ 1026
   pub y : row.y ≤ 1026
   pub z : row.z ≤ 1026
-  pub fronts_are : AreFronts row.style row.count fronts
-  pub behind_x_is : IsPiece behind_x (y_text row.style.origin row.y) 12
-  pub behind_y_is : IsPiece behind_y (z_text row.style.origin row.z) 12
+  pub fronts_are : AreFronts row.style (row.count + 1) fronts
+  pub y_texts_are : AreWholes row.style.origin 1 row.y y_texts
+  pub z_texts_are : AreWholes row.style.origin 2 row.z z_texts
   pub inside_is : IsFirstInside row.style.origin row.y row.z inside

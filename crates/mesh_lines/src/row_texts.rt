@@ -3,16 +3,16 @@ ghost use Rattle.std.specs.Prelude.{◌≡◌, ℕ, ◌+◌, ◌*◌, ◌/◌, �
 ghost use Rattle.iso_defs.specs.Texts.{line};
 ghost use Rattle.mesh_text.specs.Pieces.{piece_text};
 ghost use Rattle.mesh_lines.specs.Lines.{vertex_letter, vertex_line};
-ghost use Rattle.mesh_lines.specs.RowLines.{AreFronts, AreLeast, AreParts, centre_at, edge_at, front_text, is_layer, whole_size, whole_text, zeros};
+ghost use Rattle.mesh_lines.specs.RowLines.{AreFronts, AreLeast, AreParts, AreWholes, IsPiece, edge_at, front_text, is_layer, whole_size, whole_text, y_text, z_text, zeros};
 
-use crate::block::Block;
+use crate::block::{Block, put_bytes};
 use crate::style::{Origin, Style};
 use iso_base::MeshFormat;
 use mesh_text::{Fours, Lines, Piece};
 use std::marker::Model;
 
-/// The points of a row at most.
-pub(crate) const POINTS: usize = 1026;
+/// The points of a row at most, and one more: an edge along x at the last one ends there.
+pub(crate) const FRONTS: usize = 1027;
 
 /// The edges that begin at them.
 const EDGES: u16 = 3078;
@@ -30,7 +30,7 @@ fn is_layer(origin: Origin, whole: u32) -> bool
 /// A whole coordinate as it is printed, less its sign.
 fn whole_size(origin: Origin, axis: usize, whole: u32) -> u64
     requires axis { axis < 3 }
-    requires whole { whole ≤ 1026 }
+    requires whole { whole ≤ 1027 }
     ensures value { result ≡ whole_size origin axis whole }
     ensures bound { result < 10 ^ 10 }
 {
@@ -55,7 +55,7 @@ fn push_sign(piece: &mut Piece<16>, origin: Origin, whole: u32)
 /// Puts a whole coordinate, as it is printed, and its point behind a text.
 fn push_whole(piece: &mut Piece<16>, origin: Origin, axis: usize, whole: u32, digits: &Fours)
     requires axis { axis < 3 }
-    requires whole { whole ≤ 1026 }
+    requires whole { whole ≤ 1027 }
     requires few { piece.old.len ≤ 2 }
     ensures text { piece_text piece.new ≡ piece_text piece.old ++ whole_text origin axis whole }
     ensures few { piece.new.len ≤ piece.old.len + 11 }
@@ -90,9 +90,9 @@ fn front_of(style: Style, x: u32, digits: &Fours) -> Piece<16>
 }
 
 /// A blank, a whole coordinate and its point.
-pub(crate) fn behind_blank(origin: Origin, axis: usize, whole: u32, digits: &Fours) -> Piece<16>
+fn behind_blank(origin: Origin, axis: usize, whole: u32, digits: &Fours) -> Piece<16>
     requires axis { axis < 3 }
-    requires whole { whole ≤ 1026 }
+    requires whole { whole ≤ 1027 }
     ensures text { piece_text result ≡ 32 ∷ whole_text origin axis whole }
     ensures few { result.len ≤ 12 }
 {
@@ -102,66 +102,123 @@ pub(crate) fn behind_blank(origin: Origin, axis: usize, whole: u32, digits: &Fou
     piece
 }
 
-/// What stands before the decimals of a place along y.
-fn middle_y(y: &Piece<16>) -> Piece<32>
-    requires { y.now.len ≤ 12 }
-    ensures text { piece_text result ≡ zeros ++ piece_text y.now }
-    ensures count { result.len ≡ y.now.len + 3 }
+/// The texts of a coordinate of a row of points, and of the one behind it.
+pub(crate) fn wholes_of(origin: Origin, axis: usize, whole: u32, digits: &Fours) -> [Piece<16>; 2]
+    requires axis { axis < 3 }
+    requires whole { whole ≤ 1026 }
+    ensures { AreWholes origin axis whole result }
 {
-    let mut middle = Piece::new();
-    middle.push(b"000");
-    middle.push(y.text());
-    middle
+    let lower = behind_blank(origin, axis, whole, digits);
+    [lower, behind_blank(origin, axis, whole + 1, digits)]
 }
 
-/// And of one along z.
-fn middle_z(y: &Piece<16>, z: &Piece<16>) -> Piece<32>
-    requires y { y.now.len ≤ 12 }
-    requires z { z.now.len ≤ 12 }
-    ensures text { piece_text result ≡ zeros ++ (piece_text y.now ++ (zeros ++ piece_text z.now)) }
-    ensures count { result.len ≡ y.now.len + z.now.len + 6 }
+/// Turns such texts from one coordinate to another: in most rows it is the same one or the next.
+pub(crate) fn turn_wholes(
+    wholes: &mut [Piece<16>; 2],
+    origin: Origin,
+    axis: usize,
+    from: u32,
+    to: u32,
+    digits: &Fours,
+)
+    requires wholes { AreWholes origin axis from wholes.old }
+    requires axis { axis < 3 }
+    requires from { from ≤ 1026 }
+    requires to { to ≤ 1026 }
+    ensures { AreWholes origin axis to wholes.new }
 {
-    let mut middle = middle_y(y);
-    middle.push(b"000");
-    middle.push(z.text());
-    middle
+    if to == from {
+        return;
+    }
+    if to != from + 1 {
+        *wholes = wholes_of(origin, axis, to, digits);
+        return;
+    }
+    let lower = wholes[1];
+    *wholes = [lower, behind_blank(origin, axis, to + 1, digits)];
 }
 
-/// What stands behind the decimals of a place along x.
-fn tail_x(y: &Piece<16>, z: &Piece<16>) -> Piece<32>
-    requires y { y.now.len ≤ 12 }
-    requires z { z.now.len ≤ 12 }
-    ensures text { piece_text result ≡ piece_text y.now ++ (zeros ++ (piece_text z.now ++ line zeros)) }
-    ensures count { result.len ≡ y.now.len + z.now.len + 7 }
+/// Puts the text of a coordinate behind another: the bytes that it has at most are moved at once.
+#[inline(always)]
+fn push_piece(text: &mut Piece<32>, piece: &Piece<16>)
+    requires piece { piece.now.len ≤ 12 }
+    requires room { text.old.len + 12 ≤ 32 }
+    ensures text { piece_text text.new ≡ piece_text text.old ++ piece_text piece.now }
+    ensures count { text.new.len ≡ text.old.len + piece.now.len }
 {
-    let mut tail = Piece::new();
-    tail.push(y.text());
-    tail.push(b"000");
-    tail.push(z.text());
-    tail.push(b"000\n");
-    tail
+    put_bytes(&mut text.bytes, text.len, &piece.bytes[..12]);
+    text.len += piece.len;
+}
+
+/// Sets what stands before the decimals of a place along x: nothing.
+#[inline(always)]
+fn set_middle_x(middle: &mut Piece<32>)
+    ensures text { piece_text middle.new ≡ [] }
+    ensures count { middle.new.len ≡ 0 }
+{
+    middle.len = 0;
 }
 
 /// Of one along y.
-fn tail_y(z: &Piece<16>) -> Piece<32>
-    requires { z.now.len ≤ 12 }
-    ensures text { piece_text result ≡ piece_text z.now ++ line zeros }
-    ensures count { result.len ≡ z.now.len + 4 }
+#[inline(always)]
+fn set_middle_y(middle: &mut Piece<32>, y: &Piece<16>)
+    requires { y.now.len ≤ 12 }
+    ensures text { piece_text middle.new ≡ zeros ++ piece_text y.now }
+    ensures count { middle.new.len ≡ y.now.len + 3 }
 {
-    let mut tail = Piece::new();
-    tail.push(z.text());
-    tail.push(b"000\n");
-    tail
+    middle.len = 0;
+    middle.push(b"000");
+    push_piece(middle, y);
 }
 
 /// And of one along z.
-fn tail_z() -> Piece<32>
-    ensures text { piece_text result ≡ line [] }
-    ensures count { result.len ≡ 1 }
+#[inline(always)]
+fn set_middle_z(middle: &mut Piece<32>, y: &Piece<16>, z: &Piece<16>)
+    requires y { y.now.len ≤ 12 }
+    requires z { z.now.len ≤ 12 }
+    ensures text { piece_text middle.new ≡ zeros ++ (piece_text y.now ++ (zeros ++ piece_text z.now)) }
+    ensures count { middle.new.len ≡ y.now.len + z.now.len + 6 }
 {
-    let mut tail = Piece::new();
+    set_middle_y(middle, y);
+    middle.push(b"000");
+    push_piece(middle, z);
+}
+
+/// Sets what stands behind the decimals of a place along x.
+#[inline(always)]
+fn set_tail_x(tail: &mut Piece<32>, y: &Piece<16>, z: &Piece<16>)
+    requires y { y.now.len ≤ 12 }
+    requires z { z.now.len ≤ 12 }
+    ensures text { piece_text tail.new ≡ piece_text y.now ++ (zeros ++ (piece_text z.now ++ line zeros)) }
+    ensures count { tail.new.len ≡ y.now.len + z.now.len + 7 }
+{
+    tail.len = 0;
+    push_piece(tail, y);
+    tail.push(b"000");
+    push_piece(tail, z);
+    tail.push(b"000\n");
+}
+
+/// Of one along y.
+#[inline(always)]
+fn set_tail_y(tail: &mut Piece<32>, z: &Piece<16>)
+    requires { z.now.len ≤ 12 }
+    ensures text { piece_text tail.new ≡ piece_text z.now ++ line zeros }
+    ensures count { tail.new.len ≡ z.now.len + 4 }
+{
+    tail.len = 0;
+    push_piece(tail, z);
+    tail.push(b"000\n");
+}
+
+/// And of one along z.
+#[inline(always)]
+fn set_tail_z(tail: &mut Piece<32>)
+    ensures text { piece_text tail.new ≡ line [] }
+    ensures count { tail.new.len ≡ 1 }
+{
+    tail.len = 0;
     tail.push(b"\n");
-    tail
 }
 
 /// The offsets from which on no edge along an axis lies in a pad's layer.
@@ -183,30 +240,44 @@ struct RowParts {
     least: [u16; 3],
 }
 
-/// The parts for a row.
-fn parts_of(origin: Origin, y: u32, z: u32, digits: &Fours) -> RowParts
-    requires y { y ≤ 1026 }
-    requires z { z ≤ 1026 }
-    ensures { AreParts origin y z result }
+/// Sets the parts for a row, out of the texts of its coordinates, each in its place.
+fn set_parts(
+    parts: &mut RowParts,
+    origin: Origin,
+    y: u32,
+    z: u32,
+    y_piece: &Piece<16>,
+    z_piece: &Piece<16>,
+)
+    requires y { IsPiece y_piece.now (y_text origin y) 12 }
+    requires z { IsPiece z_piece.now (z_text origin z) 12 }
+    ensures { AreParts origin y z parts.new }
 {
-    let least = least_of(origin, y, z);
-    let y = behind_blank(origin, 1, y, digits);
-    let z = behind_blank(origin, 2, z, digits);
-    RowParts {
-        middles: [Piece::new(), middle_y(&y), middle_z(&y, &z)],
-        tails: [tail_x(&y, &z), tail_y(&z), tail_z()],
-        least,
+    set_middle_x(&mut parts.middles[0]);
+    set_middle_y(&mut parts.middles[1], y_piece);
+    set_middle_z(&mut parts.middles[2], y_piece, z_piece);
+    set_tail_x(&mut parts.tails[0], y_piece, z_piece);
+    set_tail_y(&mut parts.tails[1], z_piece);
+    set_tail_z(&mut parts.tails[2]);
+    parts.least = least_of(origin, y, z);
+}
+
+/// Sets the fronts of the lines of so many points, and of one more.
+pub(crate) fn set_fronts(fronts: &mut [Piece<16>; FRONTS], style: Style, count: u32, digits: &Fours)
+    requires { count ≤ 1026 }
+    ensures { AreFronts style (count + 1) fronts.new }
+{
+    for x in 0..count + 1 {
+        fronts[x as usize] = front_of(style, x, digits);
     }
 }
 
-/// Sets the fronts of the lines of so many points.
-pub(crate) fn set_fronts(fronts: &mut [Piece<16>; POINTS], style: Style, count: u32, digits: &Fours)
-    requires { count ≤ 1026 }
-    ensures { AreFronts style count fronts.new }
+/// 1 on an edge along an axis, else 0.
+fn step(edge: u16, axis: u16) -> usize
+    ensures value { result ≡ (if axis == edge % 3 then 1 else 0) }
+    ensures bound { result ≤ 1 }
 {
-    for x in 0..count {
-        fronts[x as usize] = front_of(style, x, digits);
-    }
+    if axis == edge % 3 { 1 } else { 0 }
 }
 
 /// The parts of the lines of vertices on the edges of a row of points. Contracts see how the lines are written, how many
@@ -217,7 +288,9 @@ pub struct RowTexts {
     count: u32,
     y: u32,
     z: u32,
-    fronts: [Piece<16>; POINTS],
+    fronts: [Piece<16>; FRONTS],
+    y_texts: [Piece<16>; 2],
+    z_texts: [Piece<16>; 2],
     parts: RowParts,
 }
 
@@ -229,7 +302,7 @@ impl Model for RowTexts {
     ghost view = { λ t. record { style = t.style; count = t.count; y = t.y; z = t.z } };
 
     ghost invariant = { λ t. AreTexts (record { style = t.style; count = t.count; y = t.y; z = t.z }) t.fronts
-        t.parts };
+        t.y_texts t.z_texts t.parts };
 }
 
 impl RowTexts {
@@ -238,16 +311,26 @@ impl RowTexts {
         requires { count ≤ 1026 }
         ensures { result ≡ record { style = style; count = count; y = 0; z = 0 } }
     {
-        let digits = block.digits();
-        let mut fronts = [Piece::new(); POINTS];
+        let (origin, digits) = (style.origin, block.digits());
+        let mut fronts = [Piece::new(); FRONTS];
         set_fronts(&mut fronts, style, count, digits);
+        let y_texts = wholes_of(origin, 1, 0, digits);
+        let z_texts = wholes_of(origin, 2, 0, digits);
+        let mut parts = RowParts {
+            middles: [Piece::new(); 3],
+            tails: [Piece::new(); 3],
+            least: [0; 3],
+        };
+        set_parts(&mut parts, origin, 0, 0, &y_texts[0], &z_texts[0]);
         RowTexts {
             style,
             count,
             y: 0,
             z: 0,
             fronts,
-            parts: parts_of(style.origin, 0, 0, digits),
+            y_texts,
+            z_texts,
+            parts,
         }
     }
 
@@ -257,9 +340,13 @@ impl RowTexts {
         requires z { z ≤ 1026 }
         ensures { self.new ≡ record { style = self.old.style; count = self.old.count; y = y; z = z } }
     {
+        let (origin, digits) = (self.style.origin, block.digits());
+        turn_wholes(&mut self.y_texts, origin, 1, self.y, y, digits);
+        turn_wholes(&mut self.z_texts, origin, 2, self.z, z, digits);
         self.y = y;
         self.z = z;
-        self.parts = parts_of(self.style.origin, y, z, block.digits());
+        let (y_piece, z_piece) = (&self.y_texts[0], &self.z_texts[0]);
+        set_parts(&mut self.parts, origin, y, z, y_piece, z_piece);
     }
 
     /// Where the vertex on an edge is in thousandths.
@@ -274,14 +361,36 @@ impl RowTexts {
         at
     }
 
-    /// Puts the line of the vertex on an edge behind others, where it is not made of the row's parts.
+    /// Puts the line of the vertex at the upper end of an edge behind others: it has no decimals, and its whole coordinate along
+    /// the edge is the next one.
+    fn gather_upper_end(&self, edge: u16, lines: &mut Lines)
+        requires edge { edge < 3 * self.now.count }
+        requires room { length lines.old + 64 ≤ 4096 }
+        ensures line { lines.new ≡ lines.old ++ vertex_line self.now.style (0, edge_at self.now edge 1000) }
+        ensures few { length lines.new ≤ length lines.old + 64 }
+    {
+        lines.push_thirds(
+            &self.fronts[usize::from(edge / 3) + step(edge, 0)],
+            &self.y_texts[step(edge, 1)],
+            &self.z_texts[step(edge, 2)],
+            &[0; 3],
+        );
+    }
+
+    /// Puts the line of the vertex on an edge behind others, where it is not made of the row's parts: at the edge's upper end, or
+    /// in a pad's layer.
     #[inline(never)]
-    fn gather_edge_whole(&self, edge: u16, place: u16, lines: &mut Lines)
+    fn gather_edge_apart(&self, edge: u16, place: u16, lines: &mut Lines)
+        requires edge { edge < 3 * self.now.count }
         requires place { place ≤ 1000 }
         requires room { length lines.old + 64 ≤ 4096 }
         ensures line { lines.new ≡ lines.old ++ vertex_line self.now.style (0, edge_at self.now edge place) }
         ensures few { length lines.new ≤ length lines.old + 64 }
     {
+        if place == 1000 {
+            self.gather_upper_end(edge, lines);
+            return;
+        }
         self.style
             .gather_vertex(&self.edge_position(edge, place), lines);
     }
@@ -297,7 +406,7 @@ impl RowTexts {
     {
         let axis = usize::from(edge % 3);
         if place == 1000 || edge < self.parts.least[axis] {
-            self.gather_edge_whole(edge, place, lines);
+            self.gather_edge_apart(edge, place, lines);
             return;
         }
         let front = &self.fronts[usize::from(edge / 3)];
