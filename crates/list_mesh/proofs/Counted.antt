@@ -1,5 +1,6 @@
 -- How many centres and triangles the cells before a point have.
-use Rattle.std.proofs.Common.{◌≡◌, ℕ, ◌+◌, ◌-◌, ◌*◌, ◌<◌, ◌≤◌, true, List, [], map, length, get_or, refl, sym, ◌∙◌, ap, ap₂, subst, arith, zero-add}
+use Rattle.std.proofs.Common.{◌≡◌, ℕ, ◌+◌, ◌-◌, ◌*◌, ◌<◌, ◌≤◌, true, List, [], map, length, refl, sym, ◌∙◌, ap, ap₂, subst, arith, zero-add, inl, inr}
+use Rattle.std.proofs.lemmas.Bool.{cases_lt}
 use Rattle.std.specs.List.{enumerate_from, filter, flat_map}
 use Rattle.std.proofs.lemmas.List.{length-map}
 use Rattle.std.proofs.Math.Nat.{mul-le-mul_left}
@@ -14,15 +15,11 @@ use Rattle.flat_mesh.specs.Found.{numbered}
 use Rattle.flat_mesh.specs.Lattice.{Leveled, heights}
 use Rattle.flat_mesh.specs.Rows.{row_start}
 use Rattle.flat_mesh.proofs.CellAdds.{IsQuiet, no_centres, no_triangles}
-use Rattle.flat_mesh.proofs.Quiet.{last_column, last_row, last_slice}
+use Rattle.flat_mesh.proofs.Quiet.{last_row, last_slice}
 use Rattle.mesh_rows.specs.Counts.{AreCounts, centres_among, triangles_among}
-use Rattle.mesh_rows.specs.Rows.{AreCases}
 use Rattle.mesh_rows.specs.declared.counts.Counts.{Counts}
 use Rattle.mesh_walk.proofs.SpanLaws.{length_more, span_none, span_one, span_quiet}
-use Rattle.list_mesh.specs.Cases.{HaveAllCases}
-use Rattle.list_mesh.specs.declared.cases.CellCases.{CellCases}
-use Rattle.list_mesh.proofs.QuietCases.{no_loops}
-use Rattle.list_mesh.proofs.RowSlices.{row_low}
+use Rattle.list_mesh.specs.Cases.{HasNoLoops}
 
 -- cells without loops have no centres and no triangles
 module _ (v : Leveled) (a n : ℕ) (quiet : IsQuiet v a n) where
@@ -82,38 +79,15 @@ none_counted v counts c f = record {
   few_faces = omega arith;
 }
 
--- cells of a row whose cases have no loops
-module _ (v : Leveled) (y z : ℕ) (cases : List ℕ) (are : AreCases v y z cases) where
-  -- a cell by how far along the row it is
-  none_at : (q : ℕ) → row_start v.grid y z ≤ q → q - row_start v.grid y z + 1 < v.grid.nx → get_or cases (q - row_start v.grid y z) 0 ≡ 0 → loops_at v q ≡ []
-  none_at q least most zero =
-      let x : ℕ = q - row_start v.grid y z in
-      let here : index v.grid x y z ≡ q = omega arith in
-      let case = are x most (omega arith) in
-      subst (λ q. loops_at v q ≡ []) here (sym case.loops ∙ (ap row_loops zero ∙ no_loops))
-
-  pub eight_quiet : (from : ℕ) → from + 8 < v.grid.nx → ((k : ℕ) → k < 8 → get_or cases (from + k) 0 ≡ 0) → IsQuiet v (row_start v.grid y z + from) 8
-  eight_quiet from within zeros q least most is =
-      let x : ℕ = q - row_start v.grid y z in
-      let k : ℕ = x - from in
-      let there : from + k ≡ x = omega arith in
-      none_at q (omega arith) (omega arith) (ap (λ n. get_or cases n 0) (sym there) ∙ zeros k (omega arith))
-
--- the last point of a row is no cell
-pub row_ended : (v : Leveled) (y z last : ℕ) (counts : Counts) → last + 1 ≡ v.grid.nx → y < v.grid.ny → z < v.grid.nz → AreCounts v (row_start v.grid y z + last) counts → AreCounts v (row_start v.grid (y + 1) z) counts
-row_ended v y z last counts end hy hz are =
-    quiet_counts v (row_start v.grid y z + last) 1 (last_column v y z (row_start v.grid y z + last) (omega arith) hy hz (omega arith))
-    (row_start v.grid (y + 1) z) counts (omega arith) are
-
 -- a row of points whose cells have no loops
 row_quiet : (v : Leveled) (y z : ℕ) (counts : Counts) → IsQuiet v (row_start v.grid y z) v.grid.nx → AreCounts v (row_start v.grid y z) counts → AreCounts v (row_start v.grid (y + 1) z) counts
 row_quiet v y z counts quiet are = quiet_counts v (row_start v.grid y z) v.grid.nx quiet (row_start v.grid (y + 1) z) counts (omega arith) are
 
 -- one that begins no cells
-pub last_row_counted : (v : Leveled) (y z : ℕ) (counts : Counts) → y + 1 ≡ v.grid.ny → z < v.grid.nz → AreCounts v (row_start v.grid y z) counts → AreCounts v (row_start v.grid (y + 1) z) counts
+last_row_counted : (v : Leveled) (y z : ℕ) (counts : Counts) → y + 1 ≡ v.grid.ny → z < v.grid.nz → AreCounts v (row_start v.grid y z) counts → AreCounts v (row_start v.grid (y + 1) z) counts
 last_row_counted v y z counts hy hz are = row_quiet v y z counts (last_row v y z hy hz) are
 
-pub last_slice_counted : (v : Leveled) (y z : ℕ) (counts : Counts) → y < v.grid.ny → z + 1 ≡ v.grid.nz → AreCounts v (row_start v.grid y z) counts → AreCounts v (row_start v.grid (y + 1) z) counts
+last_slice_counted : (v : Leveled) (y z : ℕ) (counts : Counts) → y < v.grid.ny → z + 1 ≡ v.grid.nz → AreCounts v (row_start v.grid y z) counts → AreCounts v (row_start v.grid (y + 1) z) counts
 last_slice_counted v y z counts hy hz are = row_quiet v y z counts quiet are
   where
     quiet : IsQuiet v (row_start v.grid y z) v.grid.nx
@@ -122,22 +96,25 @@ last_slice_counted v y z counts hy hz are = row_quiet v y z counts quiet are
         let b : v.grid.nx * (y + 1) ≤ v.grid.nx * v.grid.ny = mul-le-mul_left v.grid.nx (omega arith) in
         last_slice v z hz q (omega arith) (omega arith) is
 
--- and one that shares the zeros in front
-pub zeros_counted : (v : Leveled) (y z start : ℕ) (cases : CellCases) (counts : Counts) → HaveAllCases v cases → y + 1 < v.grid.ny → z + 1 < v.grid.nz
-    → start ≡ get_or cases.starts.items (y + v.grid.ny * z) 0 → start ≡ 0 → AreCounts v (row_start v.grid y z) counts → AreCounts v (row_start v.grid (y + 1) z) counts
-zeros_counted v y z start cases counts have hy hz at zero are = row_quiet v y z counts quiet are
+-- and one that begins cells without loops
+inner_counted : (v : Leveled) (y z : ℕ) (counts : Counts) → HasNoLoops v y z → y + 1 < v.grid.ny → z + 1 < v.grid.nz
+    → AreCounts v (row_start v.grid y z) counts → AreCounts v (row_start v.grid (y + 1) z) counts
+inner_counted v y z counts none hy hz are = row_quiet v y z counts quiet are
   where
-    first : get_or cases.starts.items (y + v.grid.ny * z) 0 ≡ 0
-    first = sym at ∙ zero
-
     quiet : IsQuiet v (row_start v.grid y z) v.grid.nx
     quiet q least most is =
         let x : ℕ = q - row_start v.grid y z in
         let here : index v.grid x y z ≡ q = omega arith in
         let wide : coordinate v.grid 0 q ≡ x = ap (coordinate v.grid 0) (sym here) ∙ x_index v.grid x y z (omega arith) (omega arith) (omega arith) in
         let l : Low v.grid q = low_is v.grid q is in
-        let in_row : x + 1 < v.grid.nx = omega (arith, l.x, wide) in
-        let case = have.cases_are.each x y z in_row hy hz (row_low v.grid.ny v.grid.nz y z (omega arith) (omega arith)) in
-        let none : get_or cases.list.items (get_or cases.starts.items (y + v.grid.ny * z) 0 + x) 0 ≡ 0
-        = ap (λ s. get_or cases.list.items (s + x) 0) first ∙ (ap (λ n. get_or cases.list.items n 0) (zero-add x) ∙ have.zeros x (omega arith)) in
-        subst (λ q. loops_at v q ≡ []) here (sym case.loops ∙ (ap row_loops none ∙ no_loops))
+        subst (λ q. loops_at v q ≡ []) here (none.none x (omega (arith, l.x, wide)) hy hz)
+
+pub quiet_counted : (v : Leveled) (y z : ℕ) (counts : Counts) → HasNoLoops v y z → y < v.grid.ny → z < v.grid.nz
+    → AreCounts v (row_start v.grid y z) counts → AreCounts v (row_start v.grid (y + 1) z) counts
+quiet_counted v y z counts none hy hz are = elim (cases_lt (y + 1) v.grid.ny) [
+  | inr high ↦ last_row_counted v y z counts (omega arith) hz are
+  | inl low ↦ elim (cases_lt (z + 1) v.grid.nz) [
+    | inr far ↦ last_slice_counted v y z counts hy (omega arith) are
+    | inl near ↦ inner_counted v y z counts none low near are
+  ]
+]

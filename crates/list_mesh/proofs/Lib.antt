@@ -6,3 +6,6 @@ pub mod RowCases
 pub mod Counted
 pub mod Ends
 pub mod PointEnds
+pub mod LowestBit
+pub mod PutCases
+pub mod MixedBytes

@@ -1,10 +1,9 @@
 -- The cases of a row of cells, one after the other.
-use Rattle.std.proofs.Common.{◌≡◌, ℕ, ◌+◌, ◌-◌, ◌*◌, ◌<◌, ◌≤◌, List, [], length, get_or, set, sym, subst, arith, inl, inr}
+use Rattle.std.proofs.Common.{◌≡◌, ℕ, ◌+◌, ◌*◌, ◌<◌, ◌≤◌, List, length, get_or, set, sym, subst, arith, inl, inr}
 use Rattle.std.proofs.lemmas.Bool.{cases_lt}
 use Rattle.std.proofs.lemmas.List.{get_or-set_other, get_or-set_same}
 use Rattle.iso_defs.specs.Bricks.{bits_of}
 use Rattle.iso_defs.specs.Grid.{index}
-use Rattle.flat_mesh.specs.Faces.{loops_at}
 use Rattle.flat_mesh.specs.Lattice.{Leveled}
 use Rattle.flat_mesh.specs.Cases.{signs_at}
 use Rattle.flat_mesh.specs.Rows.{AreSigns, byte_of}
@@ -12,7 +11,6 @@ use Rattle.flat_mesh.proofs.Quiet.{all_above, none_above}
 use Rattle.flat_mesh.proofs.SignBytes.{byte_is}
 use Rattle.mesh_rows.specs.Rows.{AreCases, AreCasesTo, IsCaseOf}
 use Rattle.list_mesh.specs.Cases.{HasNoLoops}
-use Rattle.list_mesh.proofs.QuietCases.{quiet_case}
 
 -- one case more
 pub set_case : (v : Leveled) (y z x case : ℕ) (old : List ℕ) → x < length old → IsCaseOf v (index v.grid x y z) case → AreCasesTo v y z x old → AreCasesTo v y z (x + 1) (set old x case)
@@ -27,18 +25,6 @@ set_case v y z x case old low here before k in_row below = elim (cases_lt k x) [
 -- all of them
 pub all_set : (v : Leveled) (y z x : ℕ) (cases : List ℕ) → v.grid.nx ≤ x + 1 → AreCasesTo v y z x cases → AreCases v y z cases
 all_set v y z x cases far are k in_row below = are k in_row (omega arith)
-
--- eight cells more that have no loops
-pub eight_more : (v : Leveled) (y z from : ℕ) (old new : List ℕ) → ((k : ℕ) → k < 8 → loops_at v (index v.grid (from + k) y z) ≡ [])
-    → ((k : ℕ) → from ≤ k → k < from + 8 → get_or new k 0 ≡ 0) → ((k : ℕ) → k < from → get_or new k 0 ≡ get_or old k 0)
-    → AreCasesTo v y z from old → AreCasesTo v y z (from + 8) new
-eight_more v y z from old new none zeros same before x in_row below = elim (cases_lt x from) [
-  | inl earlier ↦ subst (IsCaseOf v (index v.grid x y z)) (sym (same x earlier)) (before x in_row earlier)
-  | inr late ↦ (
-      let place : from + (x - from) ≡ x = omega arith in
-      let empty : loops_at v (index v.grid x y z) ≡ [] = subst (λ n. loops_at v (index v.grid n y z) ≡ []) place (none (x - from) (omega arith)) in
-      subst (IsCaseOf v (index v.grid x y z)) (sym (zeros x late below)) (quiet_case v (index v.grid x y z) empty))
-]
 
 -- cells between four rows of signs that are all alike have no loops
 module _ (v : Leveled) (y z sign : ℕ) (near up far both : List ℕ) (n : AreSigns v y z near) (u : AreSigns v (y + 1) z up) (f : AreSigns v y (z + 1) far)

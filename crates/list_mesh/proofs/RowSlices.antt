@@ -1,7 +1,7 @@
 -- Rows of the lists of all points.
-use Rattle.std.proofs.Common.{◌≡◌, ℕ, suc, ◌+◌, ◌-◌, ◌*◌, ◌/◌, ◌%◌, ◌<◌, ◌≤◌, List, [], ◌∷◌, ◌++◌, length, map, take, drop, replicate, get_or, refl, sym, ◌∙◌, ap, subst, arith, zero-add, inl, inr, append-nil, length-append}
+use Rattle.std.proofs.Common.{◌≡◌, ℕ, suc, ◌+◌, ◌-◌, ◌*◌, ◌/◌, ◌%◌, ◌<◌, ◌≤◌, List, [], ◌∷◌, ◌++◌, length, map, take, drop, replicate, get_or, refl, sym, ◌∙◌, ap, ap₂, subst, arith, zero-add, inl, inr, append-nil, length-append}
 use Rattle.std.proofs.lemmas.Bool.{cases_lt}
-use Rattle.std.proofs.lemmas.List.{get_or_append_left, get_or-append_right, get_or-replicate, length-replicate, take_at}
+use Rattle.std.proofs.lemmas.List.{get_or_append_left, get_or-append_right, get_or-replicate, length-replicate, take_all, take_at}
 use Rattle.std.specs.List.{range_with_len}
 use Rattle.std.proofs.lemmas.Nat.{div-mul-add, mod-mul-add}
 use Rattle.std.proofs.Math.Nat.{mul-le-mul_left}
@@ -14,10 +14,12 @@ use Rattle.crossing_edges.proofs.SignFlags.{all_flags}
 use Rattle.flat_mesh.specs.Lattice.{AreKnown, IsLeveled, Leveled, heights}
 use Rattle.flat_mesh.specs.Rows.{AreSigns, row_start}
 use Rattle.flat_mesh.proofs.Parts.{part_at, part_length, row_fits, row_signs}
+use Rattle.mesh_rows.specs.Counts.{AreCounts}
 use Rattle.mesh_rows.specs.Rows.{AreCases, AreFlags, IsCaseOf}
 use Rattle.list_mesh.specs.declared.cases.CellCases.{CellCases}
 use Rattle.list_mesh.specs.Cases.{HasNoLoops, HaveCases, HaveFirstCases}
 use Rattle.list_mesh.specs.Kept.{AreAllFlags}
+use Rattle.list_mesh.proofs.Counted.{none_counted, quiet_counted}
 use Rattle.list_mesh.proofs.QuietCases.{quiet_case}
 
 -- the flags of a row
@@ -143,31 +145,41 @@ more_cases v y z start old new tail y_low before listed started room here =
       ];
     }
 
+-- what is written over zeros that are put behind a list
+pub row_written : (old zeros row rest list : List ℕ) (start end : ℕ) → start ≡ length old → length old ≤ end → list ≡ take end old ++ zeros → rest ≡ [] → take start list ++ (row ++ rest) ≡ old ++ row
+row_written old zeros row rest list start end at few listed none =
+    let all : list ≡ old ++ zeros = listed ∙ ap (λ l. l ++ zeros) (take_all end old few) in
+    let front : take start list ≡ old = ap (take start) all ∙ take_at old zeros start (sym at) in
+    ap₂ (λ a b. a ++ (row ++ b)) front none ∙ ap (λ l. old ++ l) (append-nil row)
+
 -- of which the numbers are put behind the others
 pub row_kept : (v : Leveled) (y z : ℕ) (old new : CellCases) (row : List ℕ) → y < v.grid.ny → HaveFirstCases v (y + v.grid.ny * z) old → length row ≡ v.grid.nx → AreCases v y z row
-    → new.list.items ≡ old.list.items ++ row → new.starts.items ≡ old.starts.items ++ (length old.list.items ∷ []) → HaveFirstCases v (y + v.grid.ny * z + 1) new
-row_kept v y z old new row y_low before count are listed started =
+    → AreCounts v (row_start v.grid (y + 1) z) new.counts → new.list.items ≡ old.list.items ++ row → new.starts.items ≡ old.starts.items ++ (length old.list.items ∷ []) → HaveFirstCases v (y + v.grid.ny * z + 1) new
+row_kept v y z old new row y_low before count are counted listed started =
     let start : ℕ = length old.list.items in
     let length_is : length new.list.items ≡ start + v.grid.nx = ap length listed ∙ (length-append old.list.items row ∙ ap (λ n. start + n) count) in
     let behind : (x : ℕ) → get_or new.list.items (start + x) 0 ≡ get_or row x 0
     = λ x. (let rest : start + x - start ≡ x = omega arith in
     ap (λ l. get_or l (start + x) 0) listed ∙ (get_or-append_right old.list.items row start (start + x) 0 refl (omega arith) ∙ ap (λ i. get_or row i 0) rest)) in
+    let next : row_start v.grid (y + 1) z ≡ v.grid.nx * (y + v.grid.ny * z + 1) = omega arith in
     record {
       cases_are = more_cases v y z start old new row y_low before.cases_are listed started (omega arith)
           (λ x hx hy hz. subst (IsCaseOf v (index v.grid x y z)) (sym (behind x)) (are x hx (omega arith)));
       zeros = λ x low. ap (λ l. get_or l x 0) listed ∙ (get_or_append_left old.list.items row 0 x (omega (arith, before.some)) ∙ before.zeros x low);
       some = omega (arith, length_is, before.some);
       few = omega (arith, length_is, before.few);
+      counted = subst (λ q. AreCounts v q new.counts) next counted;
     }
 
 -- and of which the cells have no loops
-pub zeros_shared : (v : Leveled) (y z : ℕ) (old new : CellCases) → y < v.grid.ny → HaveFirstCases v (y + v.grid.ny * z) old → HasNoLoops v y z
-    → new.list.items ≡ old.list.items → new.starts.items ≡ old.starts.items ++ (0 ∷ []) → HaveFirstCases v (y + v.grid.ny * z + 1) new
-zeros_shared v y z old new y_low before quiet same started =
+pub zeros_shared : (v : Leveled) (y z : ℕ) (old new : CellCases) → y < v.grid.ny → z < v.grid.nz → HaveFirstCases v (y + v.grid.ny * z) old → HasNoLoops v y z
+    → new.list.items ≡ old.list.items → new.starts.items ≡ old.starts.items ++ (0 ∷ []) → new.counts ≡ old.counts → HaveFirstCases v (y + v.grid.ny * z + 1) new
+zeros_shared v y z old new y_low z_low before quiet same started kept =
     let rows : ℕ = y + v.grid.ny * z in
     let length_is : length new.list.items ≡ length old.list.items = ap length same in
     let zeros : (x : ℕ) → x < v.grid.nx → get_or new.list.items x 0 ≡ 0 = λ x low. ap (λ l. get_or l x 0) same ∙ before.zeros x low in
     let more : v.grid.nx * (rows + 1) ≤ v.grid.nx * (rows + 1 + 1) = omega arith in
+    let next : row_start v.grid (y + 1) z ≡ v.grid.nx * (rows + 1) = omega arith in
     record {
       cases_are = more_cases v y z 0 old new [] y_low before.cases_are (same ∙ sym (append-nil old.list.items)) started (omega (arith, length_is, before.some))
           (λ x hx hy hz. (let at : 0 + x ≡ x = zero-add x in
@@ -176,13 +188,18 @@ zeros_shared v y z old new y_low before quiet same started =
       zeros = zeros;
       some = omega (arith, length_is, before.some);
       few = omega (arith, length_is, before.few, more);
+      counted = subst (λ q. AreCounts v q new.counts) next
+          (quiet_counted v y z new.counts quiet y_low z_low (subst (AreCounts v (row_start v.grid y z)) (sym kept) before.counted));
     }
 
 -- no row yet
-pub no_rows : (v : Leveled) (cases : CellCases) → cases.list.items ≡ replicate v.grid.nx 0 → cases.starts.items ≡ [] → HaveFirstCases v 0 cases
-no_rows v cases listed started = record {
-  cases_are = record { count = ap length started; within = λ r low. absurd (omega arith); each = λ x y z hx hy hz low. absurd (omega arith) };
-  zeros = λ x low. ap (λ l. get_or l x 0) listed ∙ get_or-replicate v.grid.nx x 0 0 low;
-  some = omega (arith, ap length listed, length-replicate {A = ℕ} v.grid.nx 0);
-  few = omega (arith, ap length listed, length-replicate {A = ℕ} v.grid.nx 0);
-}
+pub no_rows : (v : Leveled) (cases : CellCases) → cases.list.items ≡ replicate v.grid.nx 0 → cases.starts.items ≡ [] → cases.counts.centres ≡ 0 → cases.counts.faces ≡ 0 → HaveFirstCases v 0 cases
+no_rows v cases listed started centres faces =
+    let none : 0 ≡ v.grid.nx * 0 = omega arith in
+    record {
+      cases_are = record { count = ap length started; within = λ r low. absurd (omega arith); each = λ x y z hx hy hz low. absurd (omega arith) };
+      zeros = λ x low. ap (λ l. get_or l x 0) listed ∙ get_or-replicate v.grid.nx x 0 0 low;
+      some = omega (arith, ap length listed, length-replicate {A = ℕ} v.grid.nx 0);
+      few = omega (arith, ap length listed, length-replicate {A = ℕ} v.grid.nx 0);
+      counted = subst (λ q. AreCounts v q cases.counts) none (none_counted v cases.counts centres faces);
+    }

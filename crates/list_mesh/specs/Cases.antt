@@ -1,12 +1,16 @@
 -- The cases of the cells of a volume, row of points after row of points.
-use Rattle.std.specs.Prelude.{◌≡◌, ℕ, ◌+◌, ◌*◌, ◌<◌, ◌≤◌, [], length, slice_index}
+use Rattle.std.specs.Prelude.{◌≡◌, ℕ, ◌+◌, ◌*◌, ◌/◌, ◌<◌, ◌≤◌, [], List, length, min, slice_index}
+use Rattle.iso_defs.specs.Bricks.{bits_of}
 use Rattle.iso_defs.specs.Grid.{Grid, index}
 use Rattle.iso_defs.specs.Rows.{row_count}
+use Rattle.flat_mesh.specs.Cases.{signs_at}
 use Rattle.flat_mesh.specs.Faces.{loops_at}
 use Rattle.flat_mesh.specs.Lattice.{Leveled}
-use Rattle.mesh_rows.specs.Rows.{IsCaseOf}
+use Rattle.flat_mesh.specs.Rows.{row_start}
+use Rattle.mesh_rows.specs.Counts.{AreCounts}
+use Rattle.mesh_rows.specs.Rows.{AreCasesTo, IsCaseOf}
+use Rattle.mesh_rows.specs.declared.counts.Counts.{Counts}
 use Rattle.list_mesh.specs.declared.cases.CellCases.{CellCases}
-use Rattle.list_mesh.specs.declared.cases.RowBuffers.{RowBuffers}
 
 -- a row of points begins no cells, or cells without loops
 pub record HasNoLoops (v : Leveled) (y z : ℕ) : Type 0 where
@@ -20,18 +24,30 @@ pub record HaveCases (v : Leveled) (rows : ℕ) (cases : CellCases) : Type 0 whe
       → IsCaseOf v (index v.grid x y z) (slice_index cases.list.items
       (slice_index cases.starts.items (y + v.grid.ny * z) + x))
 
--- likewise, with a row of zeros in front and no more than one row of numbers for each row of points
+-- likewise, with a row of zeros in front and no more than one row of numbers for each row of points, and the counts of the cells
 pub record HaveFirstCases (v : Leveled) (rows : ℕ) (cases : CellCases) : Type 0 where
   pub cases_are : HaveCases v rows cases
   pub zeros : (x : ℕ) → x < v.grid.nx → slice_index cases.list.items x ≡ 0
   pub some : v.grid.nx ≤ length cases.list.items
   pub few : length cases.list.items ≤ v.grid.nx * (rows + 1)
+  pub counted : AreCounts v (v.grid.nx * rows) cases.counts
 
 -- those of all rows
 abbrev pub HaveAllCases : Leveled → CellCases → Type 0
 HaveAllCases v cases = HaveFirstCases v (row_count v.grid) cases
 
--- buffers for the cells of a row
-pub record HaveRoom (g : Grid) (row : RowBuffers) : Type 0 where
-  pub bytes : length row.bytes.items ≡ g.nx
-  pub cases : length row.cases.items ≡ g.nx
+-- room for a byte for each point of a row and for some more, up to a multiple of 64: zeros from the last point on
+pub record HaveRoom (g : Grid) (bytes : List ℕ) : Type 0 where
+  pub count : length bytes ≡ (g.nx + 63) / 64 * 64
+  pub rest : (x : ℕ) → g.nx ≤ x + 1 → slice_index bytes x ≡ 0
+
+-- the sign bytes of the cells of a row. What stands behind them is open
+abbrev pub AreBytes : Leveled → ℕ → ℕ → List ℕ → Type 0
+AreBytes v y z bytes = (x : ℕ) → x + 1 < v.grid.nx
+    → bits_of 8 (slice_index bytes x) ≡ signs_at v (index v.grid x y z)
+
+-- the cases of the first cells of a row, zeros behind them, and the counts of all cells before
+pub record ArePut (v : Leveled) (y z count : ℕ) (cases : List ℕ) (counts : Counts) : Type 0 where
+  pub cases_are : AreCasesTo v y z count cases
+  pub zeros : (x : ℕ) → count ≤ x → slice_index cases x ≡ 0
+  pub counted : AreCounts v (row_start v.grid y z + min count v.grid.nx) counts

@@ -1,11 +1,13 @@
 //! Where the crossing edges of all rows of points are crossed.
-ghost use Rattle.std.specs.Prelude.{◌≡◌, ◌+◌, ◌*◌, ◌<◌, ◌≤◌, ◌^◌, ◌++◌, ◌∷◌, [], IfOk, length, take};
+ghost use Rattle.std.specs.Prelude.{◌≡◌, ◌+◌, ◌*◌, ◌<◌, ◌≤◌, ◌^◌, ◌++◌, ◌∷◌, [], All, IfOk, length, take};
+ghost use Rattle.std.specs.List.{sum_by};
+ghost use Rattle.crossing_edges.specs.Flags.{edges_in};
 ghost use Rattle.mesh_rows.specs.Rows.{AreEdges, AreFlags, row_places};
 ghost use Rattle.list_mesh.specs.Kept.{AreAllFlags};
 ghost use Rattle.list_mesh.specs.Places.{HaveAllPlaces, HavePlaces};
 
 use crate::field::ListField;
-use crate::slices::{begin_no_edges, flag_row};
+use crate::slices::{are_all, are_many, flag_row};
 use crossing_edges::count_all_edges;
 use flat_mesh::Heights;
 use mesh_walk::{ROOM, put_row};
@@ -66,7 +68,7 @@ fn put_places<S: Samples>(
     ensures room { length row.new.ends.items ≡ 3 * field.now.grid.nx }
 {
     let _ = field.sizes();
-    if begin_no_edges(flags) {
+    if are_all(flags, 0) {
         return 0;
     }
     let count = put_row(flags, &mut row.edges);
@@ -83,8 +85,11 @@ fn keep_row(row_places: &[u16], places: &mut CrossingPlaces) -> Result<(), Alloc
         IfOk result (λ _. places.new.starts.items ≡ places.old.starts.items ++ (start ∷ [])) }
 {
     let start = places.list.len() as u32;
-    places.list.extend_from_slice(row_places)?;
-    places.starts.extend_from_slice(&[start])
+    if row_places.len() > 0 {
+        places.list.extend_from_slice(row_places)?;
+    }
+    places.starts.push(start)?;
+    Ok(())
 }
 
 /// Adds the places of a row.
@@ -132,6 +137,50 @@ fn add_rows<S: Samples>(
     Ok(())
 }
 
+/// How many crossing edges begin at a point of these flags.
+#[inline(always)]
+fn edges_at(flags: u8) -> u8
+    requires { flags < 8 }
+    ensures value { result ≡ edges_in flags }
+    ensures bound { result ≤ 3 }
+{
+    flags % 2 + (flags / 2 % 2 + flags / 4)
+}
+
+/// How many crossing edges begin at the 64 points from a place on: so few that a byte holds it, and many flags are looked at in one
+/// step.
+#[inline(always)]
+fn count_many(flags: &[u8], from: usize) -> u8
+    requires flags { All (λ f. f < 8) flags.now }
+    requires few { length flags.now ≤ 160000000 }
+    requires many { from + 64 ≤ length flags.now }
+    ensures value { sum_by edges_in (take (from + 64) flags.now) ≡ sum_by edges_in (take from flags.now) + result }
+    ensures bound { result ≤ 192 }
+{
+    if are_many(flags, from, 0) {
+        return 0;
+    }
+    let mut count = 0;
+    for i in from..from + 64 {
+        count += edges_at(flags[i]);
+    }
+    count
+}
+
+/// How many crossing edges begin at points of these flags, of which most are 0.
+fn count_edges(flags: &[u8]) -> u32
+    requires flags { All (λ f. f < 8) flags.now }
+    requires few { length flags.now ≤ 160000000 }
+    ensures { result ≡ sum_by edges_in flags.now }
+{
+    let runs = flags.len() / 64;
+    let mut count = 0;
+    for run in 0..runs {
+        count += u32::from(count_many(flags, 64 * run));
+    }
+    count + count_all_edges(&flags[64 * runs..])
+}
+
 /// The places of no rows, with room for those of all and for no more.
 fn no_places<S: Samples>(
     alloc: Global,
@@ -144,7 +193,7 @@ fn no_places<S: Samples>(
     let sizes = field.sizes();
     let _ = sizes.count();
     Ok(CrossingPlaces {
-        list: Vec::with_capacity(alloc, count_all_edges(flags) as usize)?,
+        list: Vec::with_capacity(alloc, count_edges(flags) as usize)?,
         starts: Vec::with_capacity(alloc, (sizes.ny() * sizes.nz()) as usize)?,
     })
 }

@@ -4,7 +4,6 @@ ghost use Rattle.iso_defs.specs.Grid.{point_count};
 ghost use Rattle.iso_base.specs.Samples.{IsSample};
 
 use crate::cases::{CellCases, all_cases};
-use crate::counts::count_all;
 use crate::field::ListField;
 use crate::places::{CrossingPlaces, all_places, place_row};
 use crate::slices::{case_row, flag_row};
@@ -105,6 +104,6 @@ impl<'a, S: Samples> MeshRows for ListRows<'a, S> {
     }
 
     fn count_cells(&mut self) -> Counts {
-        count_all(&self.field, &self.cases)
+        self.cases.counts
     }
 }

@@ -1,5 +1,5 @@
 //! Rows of points of the lists of all points.
-ghost use Rattle.std.specs.Prelude.{◌≡◌, ℕ, ◌+◌, ◌*◌, ◌<◌, IsTrue, length, map, slice_index};
+ghost use Rattle.std.specs.Prelude.{◌≡◌, ℕ, ◌+◌, ◌*◌, ◌<◌, ◌≤◌, IsTrue, length, map, slice_index};
 ghost use Rattle.crossing_edges.specs.Signs.{sign_of};
 ghost use Rattle.flat_mesh.specs.Rows.{AreSigns};
 ghost use Rattle.mesh_rows.specs.Rows.{AreCases, AreFlags};
@@ -7,8 +7,8 @@ ghost use Rattle.list_mesh.specs.Cases.{HaveAllCases};
 ghost use Rattle.list_mesh.specs.Kept.{AreAllFlags};
 
 use crate::cases::CellCases;
-use crossing_edges::begin_none;
 use flat_mesh::Heights;
+use std::simd::prelude::*;
 
 /// The flags of the points of a row.
 pub fn flag_row<'a, H: Heights>(field: &H, flags: &'a [u8], y: u32, z: u32) -> &'a [u8]
@@ -50,20 +50,40 @@ pub fn case_row<'a, H: Heights>(field: &H, cases: &'a CellCases, y: u32, z: u32)
     &cases.list[start..start + sizes.nx() as usize]
 }
 
-/// Whether no crossing edge begins at points of these flags. `false` is free: where it comes too often, work is lost and no text.
-pub fn begin_no_edges(flags: &[u8]) -> bool
-    ensures { IsTrue result → (x : ℕ) → x < length flags.now → slice_index flags.now x ≡ 0 }
+/// Whether the 64 bytes from a place on are this one. `false` is free: where it comes too often, work is lost and no text.
+#[inline(always)]
+pub fn are_many(bytes: &[u8], from: usize, byte: u8) -> bool
+    requires { from + 64 ≤ length bytes.now }
+    ensures { IsTrue result → (k : ℕ) → k < 64 → slice_index bytes.now (from + k) ≡ byte }
 {
-    let eights = flags.len() / 8;
-    for eight in 0..eights {
-        if !begin_none(flags, 8 * eight) {
+    let many = u8x64::from_slice(&bytes[from..]);
+    many.simd_eq(u8x64::splat(byte)).all()
+}
+
+/// Whether the bytes from a place on are this one. `false` is free, as above.
+#[inline(always)]
+fn are_from(bytes: &[u8], from: usize, byte: u8) -> bool
+    requires { from ≤ length bytes.now }
+    ensures { IsTrue result → (x : ℕ) → from ≤ x → x < length bytes.now → slice_index bytes.now x ≡ byte }
+{
+    // No branch leaves the loop, so that many bytes are looked at in one step.
+    let mut alike = true;
+    for x in from..bytes.len() {
+        alike = alike & (bytes[x] == byte);
+    }
+    alike
+}
+
+/// Whether each of the signs or the flags of a row is this one. `false` is free, as above.
+#[inline(always)]
+pub fn are_all(bytes: &[u8], byte: u8) -> bool
+    ensures { IsTrue result → (x : ℕ) → x < length bytes.now → slice_index bytes.now x ≡ byte }
+{
+    let runs = bytes.len() / 64;
+    for run in 0..runs {
+        if !are_many(bytes, 64 * run, byte) {
             return false;
         }
     }
-    for x in 8 * eights..flags.len() {
-        if flags[x] != 0 {
-            return false;
-        }
-    }
-    true
+    are_from(bytes, 64 * runs, byte)
 }

@@ -5,9 +5,9 @@ use Rattle.mesh_walk.proofs.RowNames.{edges_are}
 use Rattle.list_mesh.proofs.RowPlaces.{none_here}
 use Rattle.list_mesh.proofs.places.put_places.Goals as goal
 
-pub returns-then-begin_no_edges-clause-places : goal.returns-then-begin_no_edges-clause-places
-returns-then-begin_no_edges-clause-places g c =
-    sym (none_here c.args.field.now c.args.y c.args.z c.args.flags.now c.requires.count c.requires.flags (c.begin_no_edges.ensures c.if-begin_no_edges.true))
+pub returns-then-are_all-clause-places : goal.returns-then-are_all-clause-places
+returns-then-are_all-clause-places g c =
+    sym (none_here c.args.field.now c.args.y c.args.z c.args.flags.now c.requires.count c.requires.flags (c.are_all.ensures c.if-are_all.true))
 
 pub put_row-count-requires-clause-flags : goal.put_row-count-requires-clause-flags
 put_row-count-requires-clause-flags g c = flags_small c.args.field.now c.args.y c.args.z c.args.flags.now c.requires.count c.requires.flags
