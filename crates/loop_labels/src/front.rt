@@ -1,6 +1,7 @@
 //! The labels of the lattice edges round the row of cells at hand.
 
-ghost use Rattle.std.specs.Prelude.{◌≡◌, ◌≢◌, ◌⊎◌, ℕ, ◌+◌, ◌*◌, ◌%◌, ◌<◌, ◌≤◌, All, IfOk, IsTrue, length, slice_index, slice_set};
+ghost use Rattle.std.specs.Prelude.{◌≡◌, ◌≢◌, ◌⊎◌, ℕ, ◌+◌, ◌*◌, ◌%◌, ◌<◌, ◌≤◌, All, IfOk, length, slice_index, slice_set};
+ghost use Rattle.std.specs.Int.{bit_at};
 ghost use Rattle.iso_defs.specs.Cell.{cell_edge};
 ghost use Rattle.loop_labels.specs.Fronts.{none, room, row_name, slot_of};
 ghost use Rattle.loop_labels.specs.Labelling.{Stands, stand_of};
@@ -32,14 +33,15 @@ impl Model for Front {
     ghost invariant = { λ f. length f.labels.items ≡ room f.sizes };
 }
 
-/// Whether the eight labels from a place on stand for none.
+/// Which of the eight labels from a place on stand for one: each has a bit, the first the lowest.
 #[inline(always)]
-fn are_none(labels: &[u32], from: usize) -> bool
+fn some_of(labels: &[u32], from: usize) -> u64
     requires { from + 8 ≤ length labels.now }
-    ensures { IsTrue result → (k : ℕ) → k < 8 → slice_index labels.now (from + k) ≡ none }
+    ensures bits { (k : ℕ) → k < 8 → bit_at result k ≡ 0 → slice_index labels.now (from + k) ≡ none }
+    ensures bound { result < 256 }
 {
     let eight = u32x8::from_slice(&labels[from..]);
-    eight.simd_eq(u32x8::splat(NONE)).all()
+    eight.simd_ne(u32x8::splat(NONE)).to_bitmask()
 }
 
 impl Front {
@@ -114,13 +116,14 @@ impl Front {
         self.labels[place as usize] = label;
     }
 
-    /// Whether none of the eight edges from a place on has a label.
+    /// Which of the eight edges from a place on have labels: each has a bit, the first the lowest.
     #[inline(always)]
-    pub fn eight_have_none(&self, place: u32) -> bool
+    pub fn eight_with_labels(&self, place: u32) -> u64
         requires { place + 8 ≤ room self.now.grid }
-        ensures { IsTrue result → (k : ℕ) → k < 8 → slice_index self.now.labels (place + k) ≡ none }
+        ensures bits { (k : ℕ) → k < 8 → bit_at result k ≡ 0 → slice_index self.now.labels (place + k) ≡ none }
+        ensures bound { result < 256 }
     {
-        are_none(&self.labels, place as usize)
+        some_of(&self.labels, place as usize)
     }
 }
 

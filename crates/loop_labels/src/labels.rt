@@ -1,6 +1,7 @@
 //! Labels of loops, and which of them meet.
 
-ghost use Rattle.std.specs.Prelude.{◌≡◌, ◌≢◌, ℕ, ◌+◌, ◌*◌, ◌%◌, ◌<◌, ◌≤◌, All, IfOk, IsTrue, OnOk, [], length, slice_index, slice_set};
+ghost use Rattle.std.specs.Prelude.{◌≡◌, ◌≢◌, ℕ, ◌+◌, ◌*◌, ◌%◌, ◌<◌, ◌≤◌, All, IfOk, OnOk, [], length, slice_index, slice_set};
+ghost use Rattle.std.specs.Int.{bit_at};
 ghost use Rattle.iso_defs.specs.Cell.{cell_edge};
 ghost use Rattle.part_laws.specs.Meets.{least_joined};
 ghost use Rattle.label_joins.specs.Chains.{ArePaired};
@@ -221,13 +222,14 @@ impl Labels {
         self.front.row_place(row)
     }
 
-    /// Whether none of the eight edges from a place on has a label.
+    /// Which of the eight edges from a place on have labels: each has a bit, the first the lowest.
     #[inline(always)]
-    pub fn eight_have_none(&self, place: u32) -> bool
+    pub fn eight_with_labels(&self, place: u32) -> u64
         requires { place + 8 ≤ room self.now.marks.grid }
-        ensures { IsTrue result → (k : ℕ) → k < 8 → slice_index self.now.marks.labels (place + k) ≡ none }
+        ensures bits { (k : ℕ) → k < 8 → bit_at result k ≡ 0 → slice_index self.now.marks.labels (place + k) ≡ none }
+        ensures bound { result < 256 }
     {
-        self.front.eight_have_none(place)
+        self.front.eight_with_labels(place)
     }
 
     /// The label at a place, which is given up.

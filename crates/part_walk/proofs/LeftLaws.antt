@@ -210,12 +210,20 @@ pub has_none : (place : ℕ) (l : Known) (e : Passed) → HasLeft place 0 l e l 
 has_none place l e = λ k n inside at h. subst (λ m. IsLeft k m l e) (let z : n ≡ n + 0 = omega arith in z) h
 
 -- some are left behind after others
-pub has_more : (place a some : ℕ) (l l' l'' : Known) (e e' e'' : Passed) → place + (a + some) ≤ room l.marks.grid → 0 < some → HasLeft place a l e l' e' → HasLeft (place + a) some l' e' l'' e''
+pub has_more : (place a some : ℕ) (l l' l'' : Known) (e e' e'' : Passed) → place + a < room l.marks.grid → HasLeft place a l e l' e' → HasLeft (place + a) some l' e' l'' e''
     → HasLeft place (a + some) l e l'' e''
-has_more place a some l l' l'' e e' e'' fits more first second = λ k n inside at h.
+has_more place a some l l' l'' e e' e'' fits first second = λ k n inside at h.
     (let r : room l.marks.grid ≡ room k.volume.grid = ap room h.grid in
     subst (λ m. IsLeft k m l'' e'') (let z : n + a + some ≡ n + (a + some) = omega arith in z)
-    (second k (n + a) (omega (arith, inside)) (next_place (room k.volume.grid) n place a at (omega (arith, r, fits, more))) (first k n (omega (arith, inside)) at h)))
+    (second k (n + a) (omega (arith, inside)) (next_place (room k.volume.grid) n place a at (omega (arith, r, fits))) (first k n (omega (arith, inside)) at h)))
+
+-- so many that have no label
+pub has_still : (place count : ℕ) (l : Known) (e : Passed) → place + count ≤ room l.marks.grid → 0 < room l.marks.grid
+    → ((i : ℕ) → i < count → get_or l.marks.labels (place + i) 0 ≡ none) → HasLeft place count l e l e
+has_still place count l e fits some each = λ k n inside at h.
+    (let r : room l.marks.grid ≡ room k.volume.grid = ap room h.grid in
+    left_stills k n l e count h inside (omega (arith, r, some))
+    (λ i low. ap (λ p. get_or l.marks.labels p 0) (sym (next_place (room k.volume.grid) n place i at (omega (arith, r, fits, low)))) ∙ each i low))
 
 pub can_more : (place count a some : ℕ) (l l' : Known) (e e' : Passed) → place + count ≤ room l.marks.grid → 0 < some → a + some ≤ count → CanLeave place count l e → HasLeft place a l e l' e'
     → CanLeave (place + a) some l' e'
@@ -233,3 +241,28 @@ pub room_same : (place count a : ℕ) (l l' : Known) (e e' : Passed) → a ≤ c
 room_same place count a l l' e e' few c h =
     let i : IsLeft c.leaving (c.name + a) l' e' = h c.leaving c.name (omega (arith, c.inside, few)) c.at c.left in
     ap room (i.grid ∙ sym c.left.grid)
+
+-- labels that were not left behind are as they were
+pub label_kept : (place count a j : ℕ) (l l' : Known) (e e' : Passed) → place + count ≤ room l.marks.grid → a ≤ j → j < count → CanLeave place count l e → HasLeft place a l e l' e'
+    → get_or l'.marks.labels (place + j) 0 ≡ get_or l.marks.labels (place + j) 0
+label_kept place count a j l l' e e' fits from low c h =
+    let k : Leaving = c.leaving in
+    let R : ℕ = room k.volume.grid in
+    let r : room l.marks.grid ≡ R = ap room c.left.grid in
+    let at : place + j ≡ (c.name + j) % R = next_place R c.name place j c.at (omega (arith, r, fits, low)) in
+    let w : 3 * k.volume.grid.nx ≤ 6 * (k.volume.grid.nx * k.volume.grid.ny) = row_within k.volume.grid.nx k.volume.grid.ny (omega (arith, r, fits, low)) in
+    let after : IsLeft k (c.name + a) l' e' = h k c.name (omega (arith, c.inside, from, low)) c.at c.left in
+    ap (λ p. get_or l'.marks.labels p 0) at
+    ∙ (after.still (c.name + j) (omega (arith, from)) (omega (arith, w, c.inside, low))
+    ∙ (sym (c.left.still (c.name + j) (omega arith) (omega (arith, w, c.inside, low))) ∙ ap (λ p. get_or l.marks.labels p 0) (sym at)))
+
+-- so many are left behind that have no label, after others
+pub has_over : (place count a some : ℕ) (l l' : Known) (e e' : Passed) → place + count ≤ room l.marks.grid → a < count → a + some ≤ count → CanLeave place count l e → HasLeft place a l e l' e'
+    → ((k : ℕ) → k < some → get_or l.marks.labels (place + (a + k)) 0 ≡ none) → HasLeft place (a + some) l e l' e'
+has_over place count a some l l' e e' fits low few c h each =
+    let r : room l'.marks.grid ≡ room l.marks.grid = room_same place count a l l' e e' (omega (arith, low)) c h in
+    has_more place a some l l' l' e e' e' (omega (arith, fits, low)) h
+    (has_still (place + a) some l' e' (omega (arith, r, fits, few)) (omega (arith, r, fits, low))
+    (λ k i.
+    ap (λ p. get_or l'.marks.labels p 0) (let z : place + a + k ≡ place + (a + k) = omega arith in z)
+    ∙ (label_kept place count a (a + k) l l' e e' fits (omega arith) (omega (arith, i, few)) c h ∙ each k i)))

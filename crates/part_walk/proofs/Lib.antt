@@ -1,3 +1,4 @@
+pub mod BitLaws
 pub mod BorderSteps
 pub mod CountLaws
 pub mod PassedLaws

@@ -1,5 +1,5 @@
 -- Where the vertices of a loop of a cell are, from the cell's lowest point.
-use Rattle.std.specs.Prelude.{ℕ, ◌+◌, ◌*◌, ◌/◌, ℤ, pos, List, [], ◌∷◌, map, length, nat_lt, slice_index, slice_index_or, if◌then◌else◌}
+use Rattle.std.specs.Prelude.{ℕ, ◌≤◌, ◌+◌, ◌*◌, ◌/◌, ℤ, pos, List, [], ◌∷◌, map, length, nat_lt, slice_index, slice_index_or, if◌then◌else◌}
 use Rattle.std.specs.List.{sum_by}
 use Rattle.iso_defs.specs.Cell.{edge_corner}
 use Rattle.iso_defs.specs.Place.{Position, mean, place}
@@ -32,13 +32,23 @@ upper_value values e = slice_index_or values (upper_corner e) (pos 0)
 abbrev pub local_place : List ℤ → ℕ → ℕ
 local_place values e = place (lower_value values e) (upper_value values e)
 
--- where the vertex on an edge is
+-- where the vertex on an edge is, by the places on the edges
+abbrev pub vertex_at : (ℕ → ℕ) → ℕ → Position
+vertex_at place e = (local_coordinate place 0 e, local_coordinate place 1 e, local_coordinate place 2 e)
+
+-- and by the values at the corners
 unfoldable pub local_vertex : List ℤ → ℕ → Position
-local_vertex values e = (
-  local_coordinate (local_place values) 0 e,
-  local_coordinate (local_place values) 1 e,
-  local_coordinate (local_place values) 2 e,
-)
+local_vertex values e = vertex_at (local_place values) e
+
+-- no coordinate is beyond a bound
+pub record IsNear (most : ℕ) (p : Position) : Type 0 where
+  pub x : p.0 ≤ most
+  pub y : p.1 ≤ most
+  pub z : p.2 ≤ most
+
+-- the three coordinates of a position as one number
+abbrev pub lanes_of : Position → ℕ
+lanes_of p = p.0 + (65536 * p.1 + 4294967296 * p.2)
 
 -- the sum of the positions of vertices
 abbrev pub position_sum : (ℕ → Position) → List ℕ → Position

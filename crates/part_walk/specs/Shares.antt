@@ -9,7 +9,7 @@ use Rattle.part_walk.specs.declared.sweep.Swept.{Swept}
 -- the numbers are so small that a volume may be moved
 pub record CanMove (c : Component Swept) : Type 0 where
   pub six : unsigned_abs c.tally.six ≤ 2 ^ 100
-  pub area : IsWithin (2 ^ 80) (vector_of c.tally.area)
+  pub area : IsWithin (2 ^ 60) (vector_of c.tally.area)
 
 -- Six times a volume from the first point off a pad's layer: it is less by the scalar product of that point with the area.
 abbrev pub off_layer : ℤ → Vector → ℤ

@@ -48,7 +48,7 @@ measured_of v (suc (suc (suc (suc (suc _))))) l = pos 0
 -- those of loops with so many steps are small
 pub record AreSmall (n : ℕ) (s : Swept) : Type 0 where
   pub six : unsigned_abs s.six ≤ 2 ^ 60 * n
-  pub x : unsigned_abs (slice_index_or s.area 0 (pos 0)) ≤ 2 ^ 40 * n
-  pub y : unsigned_abs (slice_index_or s.area 1 (pos 0)) ≤ 2 ^ 40 * n
-  pub z : unsigned_abs (slice_index_or s.area 2 (pos 0)) ≤ 2 ^ 40 * n
+  pub x : unsigned_abs (slice_index_or s.area 0 (pos 0)) ≤ 2 ^ 24 * n
+  pub y : unsigned_abs (slice_index_or s.area 1 (pos 0)) ≤ 2 ^ 24 * n
+  pub z : unsigned_abs (slice_index_or s.area 2 (pos 0)) ≤ 2 ^ 24 * n
   pub border : s.border ≤ n

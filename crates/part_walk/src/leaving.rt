@@ -1,7 +1,8 @@
 //! The edges that begin in a row of points are left behind: they give up their labels, and are counted.
 
-ghost use Rattle.std.specs.Prelude.{◌≡◌, ℕ, ◌+◌, ◌*◌, ◌<◌, ◌≤◌, OnOk};
-ghost use Rattle.loop_labels.specs.Fronts.{room};
+ghost use Rattle.std.specs.Prelude.{◌≡◌, ℕ, ◌+◌, ◌*◌, ◌^◌, ◌<◌, ◌≤◌, OnOk, slice_index};
+ghost use Rattle.std.specs.Int.{bit_at};
+ghost use Rattle.loop_labels.specs.Fronts.{none, room};
 ghost use Rattle.part_walk.specs.Passed.{CanLeave, HasLeft};
 
 use crate::passed::Passed;
@@ -23,34 +24,56 @@ fn leave(labels: &mut Labels, edges: &mut Passed, place: u32) -> Result<(), Memo
     Ok(())
 }
 
-/// Leaves so many edges behind from a place on.
+/// Which of 24 edges from a place on have labels, as many as begin at the points of a whole brick in a row: each has a bit, the first the lowest.
 #[inline(always)]
-fn leave_run(labels: &mut Labels, edges: &mut Passed, place: u32, count: u32) -> Result<(), Memory>
+fn labelled_of_brick(labels: &Labels, place: u32) -> u64
+    requires place { place + 24 ≤ room labels.now.marks.grid }
+    requires low { place + 24 < 2 ^ 32 }
+    ensures bits { (k : ℕ) → k < 24 → bit_at result k ≡ 0 → slice_index labels.now.marks.labels (place + k) ≡ none }
+    ensures bound { result < 2 ^ 24 }
+{
+    labels.eight_with_labels(place)
+        + 256 * labels.eight_with_labels(place + 8)
+        + 65_536 * labels.eight_with_labels(place + 16)
+}
+
+/// Which of so many edges from a place on may have labels. It is known of 24 edges alone: the last brick of a row has more or fewer.
+#[inline(always)]
+fn labelled_among(labels: &Labels, place: u32, count: u32) -> u64
+    requires place { place + count ≤ room labels.now.marks.grid }
+    requires few { count ≤ 24 }
+    requires low { place + count < 2 ^ 32 }
+    ensures bits { (k : ℕ) → k < count → bit_at result k ≡ 0 → slice_index labels.now.marks.labels (place + k) ≡ none }
+    ensures bound { result < 2 ^ count }
+{
+    if count == 24 {
+        return labelled_of_brick(labels, place);
+    }
+    (1 << count) - 1
+}
+
+/// Leaves up to 24 edges behind from a place on, those that may have labels one by one. So there is one branch whose way a processor would have to
+/// guess for all of them.
+#[inline(always)]
+fn leave_some(labels: &mut Labels, edges: &mut Passed, place: u32, count: u32) -> Result<(), Memory>
     requires place { place + count ≤ room labels.old.marks.grid }
+    requires some { 0 < count }
+    requires few { count ≤ 24 }
     requires state { CanLeave place count labels.old edges.old }
     ensures { OnOk result (HasLeft place count labels.old edges.old labels.new edges.new) }
 {
-    for at in 0..count {
-        leave(labels, edges, place + at)?;
+    let mut bits = labelled_among(labels, place, count);
+    let mut at = 0;
+    while bits != 0 {
+        let skipped = bits.trailing_zeros();
+        leave(labels, edges, place + (at + skipped))?;
+        at += skipped + 1;
+        bits = (bits >> skipped) / 2;
     }
     Ok(())
 }
 
-/// Leaves eight edges behind from a place on: at once where none of them has a label.
-#[inline(always)]
-fn leave_eight(labels: &mut Labels, edges: &mut Passed, place: u32) -> Result<(), Memory>
-    requires place { place + 8 ≤ room labels.old.marks.grid }
-    requires state { CanLeave place 8 labels.old edges.old }
-    ensures { OnOk result (HasLeft place 8 labels.old edges.old labels.new edges.new) }
-{
-    if labels.eight_have_none(place) {
-        return Ok(());
-    }
-    leave_run(labels, edges, place, 8)?;
-    Ok(())
-}
-
-/// Leaves so many edges behind, eight at a time.
+/// Leaves so many edges behind from a place on.
 pub fn leave_edges(
     labels: &mut Labels,
     edges: &mut Passed,
@@ -61,14 +84,11 @@ pub fn leave_edges(
     requires state { CanLeave place count labels.old edges.old }
     ensures { OnOk result (HasLeft place count labels.old edges.old labels.new edges.new) }
 {
-    let eights = count / 8;
-    for eight in 0..eights {
-        leave_eight(labels, edges, place + 8 * eight)?;
+    let mut at = 0;
+    while at < count {
+        let some = (count - at).min(24);
+        leave_some(labels, edges, place + at, some)?;
+        at += some;
     }
-    let rest = count - 8 * eights;
-    if rest == 0 {
-        return Ok(());
-    }
-    leave_run(labels, edges, place + 8 * eights, rest)?;
     Ok(())
 }

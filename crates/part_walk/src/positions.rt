@@ -2,9 +2,10 @@
 
 ghost use Rattle.std.specs.Prelude.{◌≡◌, ℕ, ◌+◌, ◌*◌, ◌<◌, ◌≤◌, ◌^◌, All, IsTrue, length, nat_lt, slice_index, unsigned_abs, ◌∷◌, [], if◌then◌else◌};
 ghost use Rattle.iso_defs.specs.Cell.{crosses, edge_corner, signs_of};
-ghost use Rattle.part_walk.specs.Local.{listed, local_vertex, moved, position_of, rounded, upper_corner as corner_above};
+ghost use Rattle.iso_defs.specs.Place.{Position};
+ghost use Rattle.part_walk.specs.Local.{IsNear, lanes_of, listed, local_vertex, moved, position_of, rounded, upper_corner as corner_above, vertex_at};
 
-use edge_points::{place_or_any, rounded_mean, x_in_cell, y_in_cell, z_in_cell};
+use edge_points::{place, rounded_mean};
 use flat_mesh::Cell;
 
 /// The corner of a cell at the lower end of each of its edges.
@@ -33,22 +34,75 @@ fn upper_corner(edge: u8) -> u8
     UPPER[edge as usize]
 }
 
+/// Where the edges of a cell begin, in thousandths from its lowest point. One number has all three coordinates, that along x in its lowest 16
+/// bits, then that along y and that along z. So the three sums of a loop are one sum.
+const BEGIN: [u64; 12] = [
+    0,
+    65_536_000,
+    4_294_967_296_000,
+    4_295_032_832_000,
+    0,
+    1000,
+    4_294_967_296_000,
+    4_294_967_297_000,
+    0,
+    1000,
+    65_536_000,
+    65_537_000,
+];
+
+/// And what a thousandth along each edge adds to that.
+const UNITS: [u64; 12] = [
+    1,
+    1,
+    1,
+    1,
+    65_536,
+    65_536,
+    65_536,
+    65_536,
+    4_294_967_296,
+    4_294_967_296,
+    4_294_967_296,
+    4_294_967_296,
+];
+
+/// The position of the crossing of an edge of a cell from the cell's lowest point, by its place on the edge.
+#[inline(always)]
+fn lanes(edge: u8, at: u16) -> u64
+    requires edge { edge < 12 }
+    requires at { at ≤ 1000 }
+    ensures value { result ≡ lanes_of (vertex_at (λ _. at) edge) }
+    ensures bound { result < 2 ^ 42 }
+{
+    BEGIN[edge as usize] + UNITS[edge as usize] * u64::from(at)
+}
+
 /// The position of the vertex on a crossing edge of a cell from the cell's lowest point, by the shifted values at the corners.
 #[inline(always)]
-pub fn local_position(heights: &[i64; 8], edge: u8) -> [u32; 3]
+pub fn local_lanes(heights: &[i64; 8], edge: u8) -> u64
     requires edge { edge < 12 }
     requires bound { All (λ h. unsigned_abs h < 2 ^ 44) heights.now }
     requires crossing { IsTrue (crosses (signs_of heights.now) edge) }
-    ensures value { result ≡ listed (local_vertex heights.now edge) }
-    ensures bound { All (λ c. c ≤ 1000) result }
+    ensures value { result ≡ lanes_of (local_vertex heights.now edge) }
+    ensures near { IsNear 1000 (local_vertex heights.now edge) }
+    ensures bound { result < 2 ^ 42 }
 {
     let lower = heights[lower_corner(edge) as usize];
     let upper = heights[upper_corner(edge) as usize];
-    let at = place_or_any(lower, upper);
+    lanes(edge, place(lower, upper))
+}
+
+/// The three coordinates of a position.
+#[inline(always)]
+pub fn parts(lanes: u64) -> [u32; 3]
+    requires { lanes < 2 ^ 48 }
+    ensures { (p : Position) → IsNear 65535 p → lanes ≡ lanes_of p → result ≡ listed p }
+{
     [
-        x_in_cell(edge, at),
-        y_in_cell(edge, at),
-        z_in_cell(edge, at),
+        (lanes % 65_536) as u32,
+        (lanes / 65_536 % 65_536) as u32,
+        (lanes / 65_536 / 65_536) as u32,
     ]
 }
 

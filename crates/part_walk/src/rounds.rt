@@ -9,7 +9,7 @@ ghost use Rattle.part_laws.specs.Swept.{swept as swept_by};
 ghost use Rattle.part_walk.specs.Local.{listed, local_tip, local_vertex, position_of};
 ghost use Rattle.part_walk.specs.Sweep.{vector_at};
 
-use crate::positions::{local_position, moved_by, tip_of};
+use crate::positions::{local_lanes, parts, tip_of};
 
 /// What a loop of a cell spans.
 #[derive(Clone, Copy)]
@@ -62,19 +62,20 @@ pub fn round_of(heights: &[i64; 8], edges: &[u8]) -> Round
     ensures bound { All (λ c. c ≤ 1000) result.tip }
 {
     let count = edges.len();
-    let first = local_position(heights, edges[0]);
+    let mut sum = local_lanes(heights, edges[0]);
+    let first = parts(sum);
     let mut swept = [0; 3];
-    let mut sum = first;
     let mut last = first;
     for at in 1..count {
-        let next = local_position(heights, edges[at]);
+        let lanes = local_lanes(heights, edges[at]);
+        let next = parts(lanes);
         swept = with_cross(&swept, &last, &next);
-        sum = moved_by(&sum, &next);
+        sum += lanes;
         last = next;
     }
     Round {
         swept: with_cross(&swept, &last, &first),
-        tip: tip_of(&sum, &first, count as u32),
+        tip: tip_of(&parts(sum), &first, count as u32),
     }
 }
 

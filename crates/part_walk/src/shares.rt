@@ -1,7 +1,7 @@
 //! The shares of components, at the positions that are printed.
 
 ghost use Rattle.std.specs.Prelude.{◌≡◌, ◌≤◌, ◌^◌, All, IfOk, map, unsigned_abs};
-ghost use Rattle.measure.specs.Positions.{IsWithin, vector_of};
+ghost use Rattle.measure.specs.Positions.{IsWithin, coordinates, vector_of};
 ghost use Rattle.part_walk.specs.Shares.{CanMove, off_layer as six_off_layer, share_at};
 
 use crate::components::Component;
@@ -12,6 +12,19 @@ use std::alloc::Global;
 
 /// A pad's layer along an axis, in thousandths.
 const LAYER: i128 = 1000;
+
+/// An area as wide as a share has it.
+fn widened(area: &[i64; 3]) -> [i128; 3]
+    requires { IsWithin (2 ^ 60) (vector_of area.now) }
+    ensures value { result ≡ coordinates (vector_of area.now) }
+    ensures within { IsWithin (2 ^ 80) (vector_of result) }
+{
+    [
+        i128::from(area[0]),
+        i128::from(area[1]),
+        i128::from(area[2]),
+    ]
+}
 
 /// Six times a volume from the first point off the layer.
 fn off_layer(six: i128, area: &[i128; 3]) -> i128
@@ -28,6 +41,7 @@ fn share_of(padded: bool, component: &Component<Swept>) -> Share
     ensures { result ≡ share_at padded component.now }
 {
     let Swept { six, area, border } = component.tally;
+    let area = widened(&area);
     Share {
         least: component.least,
         six: if padded { off_layer(six, &area) } else { six },

@@ -31,7 +31,7 @@ use stitch_rows::CellRows;
 #[derive(Clone, Copy, Drop)]
 pub struct Swept {
     pub six: i128,
-    pub area: [i128; 3],
+    pub area: [i64; 3],
     pub border: u64,
 }
 
@@ -68,11 +68,7 @@ fn of_one<H: Heights>(field: &H, cell: Cell, edges: &[u8]) -> Swept
     let six = six_over(&moved_by(&cell_position(cell), &tip), &swept);
     Swept {
         six: i128::from(six),
-        area: [
-            i128::from(swept[0]),
-            i128::from(swept[1]),
-            i128::from(swept[2]),
-        ],
+        area: swept,
         border: u64::from(border_steps(&sizes, cell, edges)),
     }
 }

@@ -1,6 +1,12 @@
-use Rattle.std.proofs.Common.{◌*◌}
+use Rattle.std.proofs.Common.{◌≤◌, ◌-◌}
 use Rattle.part_walk.specs.Passed.{HasLeft}
 use Rattle.part_walk.proofs.leaving.leave_edges.Given as goal
 
-abbrev pub invariant-loop-eight : goal.invariant-loop-eight
-invariant-loop-eight l = HasLeft l.place (8 * l.eight) l.initial.labels l.initial.edges l.labels l.edges
+abbrev pub invariant-loop-at : goal.invariant-loop-at
+invariant-loop-at l = record {
+  most : l.at ≤ l.count;
+  left : HasLeft l.place l.at l.initial.labels l.initial.edges l.labels l.edges;
+}
+
+abbrev pub decreases-loop-at : goal.decreases-loop-at
+decreases-loop-at l = l.count - l.at

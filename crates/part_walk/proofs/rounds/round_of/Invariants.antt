@@ -1,10 +1,10 @@
-use Rattle.std.proofs.Common.{◌≡◌, ◌-◌, ◌*◌, ◌≤◌, All, get_or, take}
+use Rattle.std.proofs.Common.{◌≡◌, ◌-◌, ◌*◌, ◌^◌, ◌<◌, ◌≤◌, All, get_or}
 use Rattle.measure.specs.Positions.{IsWithin, vector_of}
 use Rattle.measure_laws.specs.Vectors.{plus}
 use Rattle.part_laws.specs.Swept.{swept}
-use Rattle.part_walk.specs.Local.{listed, local_vertex, position_sum}
+use Rattle.part_walk.specs.Local.{listed, local_vertex}
 use Rattle.part_walk.specs.Sweep.{vector_at}
-use Rattle.part_walk.proofs.RoundLaws.{left}
+use Rattle.part_walk.proofs.RoundLaws.{IsSumTo, left}
 use Rattle.part_walk.proofs.rounds.round_of.Given as goal
 
 abbrev pub invariant-loop-at : goal.invariant-loop-at
@@ -13,7 +13,7 @@ invariant-loop-at l = record {
   last : l.last ≡ listed (local_vertex l.heights (get_or l.edges (l.at - 1) 0));
   swept : plus (vector_of l.swept) (left (λ e. vector_at (local_vertex l.heights e)) l.edges l.at) ≡ swept (λ e. vector_at (local_vertex l.heights e)) l.edges;
   small : IsWithin (1000000 * (l.at - 1)) (vector_of l.swept);
-  sum : l.sum ≡ listed (position_sum (local_vertex l.heights) (take l.at l.edges));
+  sum : IsSumTo (local_vertex l.heights) l.edges l.at l.sum;
   low : All (λ c. c ≤ 1000) l.last;
-  few : All (λ c. c ≤ 1000 * l.at) l.sum;
+  few : l.sum < 2 ^ 42 * l.at;
 }

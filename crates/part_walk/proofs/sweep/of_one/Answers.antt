@@ -1,4 +1,4 @@
-use Rattle.std.proofs.Common.{◌≡◌, ◌∙◌, ℕ, ◌*◌, ◌<◌, ◌^◌, ℤ, pos, List, All, true, ◌∷◌, [], sym, subst, ap, arith, slice_index_or, unsigned_abs}
+use Rattle.std.proofs.Common.{◌≡◌, ◌∙◌, ℕ, ◌*◌, ◌<◌, ◌^◌, ℤ, List, All, true, sym, subst, ap, arith, unsigned_abs}
 use Rattle.std.proofs.lemmas.Int.{ints}
 use Rattle.iso_defs.specs.Cell.{cell_values, crosses, signs_of}
 use Rattle.iso_defs.specs.Grid.{Grid}
@@ -55,11 +55,7 @@ returns-clause-values g c = λ l is.
     ∙ (ap (λ (p : Position). dot (vector_at p) (vector_of c.round_of.result.swept)) moved_tip
     ∙ (ap (dot (vector_at (moved corner (local_tip (local_vertex values) es)))) spanned ∙ sym (six_is v c.args.cell c.requires.cell es c.requires.edges l is))) in
     let wide : kept c.from.result ≡ c.six_over-six.result = widened c.six_over-six.result c.from.result c.six_over-six.ensures.within c.from.ensures in
-    let x = widened (slice_index_or c.round_of.result.swept 0 (pos 0)) c.from-2.result (omega (arith, c.round_of.ensures.within.0)) c.from-2.ensures in
-    let y = widened (slice_index_or c.round_of.result.swept 1 (pos 0)) c.from-3.result (omega (arith, c.round_of.ensures.within.1)) c.from-3.ensures in
-    let z = widened (slice_index_or c.round_of.result.swept 2 (pos 0)) c.from-4.result (omega (arith, c.round_of.ensures.within.2)) c.from-4.ensures in
-    let area : ◌≡◌ {A = Vector} (kept c.from-2.result, kept c.from-3.result, kept c.from-4.result) (vector_of c.round_of.result.swept) = λ i. (x i, y i, z i) in
-    let border : c.from-5.result ≡ steps_on v.grid q es = c.from-5.ensures ∙ (c.border_steps.ensures.value ∙ ap (λ (s : Grid). steps_on s q es) c.sizes-sizes.ensures.value) in
+    let border : c.from-2.result ≡ steps_on v.grid q es = c.from-2.ensures ∙ (c.border_steps.ensures.value ∙ ap (λ (s : Grid). steps_on s q es) c.sizes-sizes.ensures.value) in
     measured_is v c.args.cell c.requires.cell es c.requires.edges l is
-    record { six = kept c.from.result; area = kept c.from-2.result ∷ kept c.from-3.result ∷ kept c.from-4.result ∷ []; border = c.from-5.result }
-    (wide ∙ six) (area ∙ (spanned ∙ sym (swept_is v c.args.cell c.requires.cell es c.requires.edges l is))) border
+    record { six = kept c.from.result; area = c.round_of.result.swept; border = c.from-2.result }
+    (wide ∙ six) (spanned ∙ sym (swept_is v c.args.cell c.requires.cell es c.requires.edges l is)) border

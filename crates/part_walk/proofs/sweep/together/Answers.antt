@@ -1,19 +1,23 @@
 use Rattle.std.proofs.Common.{◌≡◌, ℕ, suc, zero, ◌+◌, ◌*◌, ◌<◌, ◌≤◌, ◌^◌, ℤ, pos, ◌+ℤ◌, ◌∷◌, [], sym, subst, arith, slice_index_or, unsigned_abs}
 use Rattle.std.proofs.lemmas.Int.{ints}
-use Rattle.measure.proofs.Exact.{abs_sum, kept}
+use Rattle.measure.proofs.Exact.{abs_sum, kept, stored}
 use Rattle.part_walk.specs.Sweep.{AreSmall, measure_at}
 use Rattle.part_walk.specs.declared.sweep.Swept.{Swept}
 use Rattle.part_walk.proofs.sweep.together.Goals as goal
 
--- what the code computes of two numbers
+-- what the code computes of two numbers, in the wider type
 abbrev added : ℤ → ℤ → ℤ
 added x y = kept (kept x +ℤ kept y)
+
+-- and in the other
+abbrev narrow : ℤ → ℤ → ℤ
+narrow x y = stored (stored x +ℤ stored y)
 
 -- it is exact
 six_is : (n m : ℕ) (x y : ℤ) → n + m < 2 ^ 31 → unsigned_abs x ≤ 2 ^ 60 * n → unsigned_abs y ≤ 2 ^ 60 * m → added x y ≡ x +ℤ y
 six_is n m x y room f g = omega (arith, ints)
 
-area_is : (n m : ℕ) (x y : ℤ) → n + m < 2 ^ 31 → unsigned_abs x ≤ 2 ^ 40 * n → unsigned_abs y ≤ 2 ^ 40 * m → added x y ≡ x +ℤ y
+area_is : (n m : ℕ) (x y : ℤ) → n + m < 2 ^ 31 → unsigned_abs x ≤ 2 ^ 24 * n → unsigned_abs y ≤ 2 ^ 24 * m → narrow x y ≡ x +ℤ y
 area_is n m x y room f g = omega (arith, ints)
 
 -- and small
@@ -29,7 +33,7 @@ module _ (n m : ℕ) (room : n + m < 2 ^ 31) (a b : Swept) (f : AreSmall n a) (h
   abbrev sum : Swept
   sum = record {
     six = added a.six b.six;
-    area = added (along a 0) (along b 0) ∷ added (along a 1) (along b 1) ∷ added (along a 2) (along b 2) ∷ [];
+    area = narrow (along a 0) (along b 0) ∷ narrow (along a 1) (along b 1) ∷ narrow (along a 2) (along b 2) ∷ [];
     border = a.border + b.border;
   }
 
@@ -56,9 +60,9 @@ module _ (n m : ℕ) (room : n + m < 2 ^ 31) (a b : Swept) (f : AreSmall n a) (h
   sum_fits : (k l : ℕ) → AreSmall k a → AreSmall l b → AreSmall (k + l) sum
   sum_fits k l p q = record {
     six = sum_small (2 ^ 60) k l a.six b.six sum.six six_exact p.six q.six;
-    x = sum_small (2 ^ 40) k l (along a 0) (along b 0) (along sum 0) x_exact p.x q.x;
-    y = sum_small (2 ^ 40) k l (along a 1) (along b 1) (along sum 1) y_exact p.y q.y;
-    z = sum_small (2 ^ 40) k l (along a 2) (along b 2) (along sum 2) z_exact p.z q.z;
+    x = sum_small (2 ^ 24) k l (along a 0) (along b 0) (along sum 0) x_exact p.x q.x;
+    y = sum_small (2 ^ 24) k l (along a 1) (along b 1) (along sum 1) y_exact p.y q.y;
+    z = sum_small (2 ^ 24) k l (along a 2) (along b 2) (along sum 2) z_exact p.z q.z;
     border = omega (arith, p.border, q.border);
   }
 
