@@ -8,7 +8,7 @@ use Rattle.bench_core.specs.Keeping.{Refreshes, Workbench, fill_area, first_area
 use Rattle.bench_core.specs.Machine.{State, three_from}
 use Rattle.script.specs.Commands.{read_of}
 use Rattle.script.specs.declared.command.Command.{Command}
-use Rattle.script.specs.declared.command.Command.TheVariants.{Set, Fill, Undo, Redo, Work, Ply, Obj}
+use Rattle.script.specs.declared.command.Command.TheVariants.{Set, Fill, Level, Undo, Redo, Work, Ply, Obj, Save, SaveText, SaveHex, Window, Contour, Report, Measure, Quit}
 use Rattle.session.specs.Following.{LineTurn}
 use Rattle.session.specs.Lines.{Saying}
 
@@ -24,7 +24,18 @@ area_of s (Set at value) = set_area s (three_from at 0)
 area_of s (Fill corners value) = fill_area s (three_from corners 0) (three_from corners 3)
 area_of s Undo = first_area s.past
 area_of s Redo = first_area s.future
-area_of s _ = None
+area_of s (Level value) = None
+area_of s (Work n) = None
+area_of s (Ply name) = None
+area_of s (Obj name) = None
+area_of s (Save name) = None
+area_of s (SaveText name) = None
+area_of s (SaveHex name) = None
+area_of s (Window corners format name) = None
+area_of s (Contour k) = None
+area_of s Report = None
+area_of s Measure = None
+area_of s Quit = None
 
 -- whether a change was done, by its reply
 abbrev pub is_done : List ℕ → Bool
@@ -35,13 +46,29 @@ abbrev pub cache_after : Workbench → Command → List ℕ → Cache
 cache_after b command reply = if is_done reply
     then without_points b.state.volume.grid (area_of b.state command) b.cache else b.cache
 
+-- a command that offers no brick, and classifies no cell
+abbrev pub CacheFollows : Scene → Command → List ℕ → Scene → Type 0
+CacheFollows w command reply v = (v.bench.cache ≡ cache_after w.bench command reply) × (v.steps ≡ w.steps)
+
 -- A command and its reply. A refresh turn and the writing of a mesh offer bricks, whatever the reply, and they alone
 -- classify cells.
 abbrev pub CommandKeeps : Scene → Command → List ℕ → Scene → Type 0
 CommandKeeps w (Work n) reply v = Refreshes w.bench v.bench (take n (waiting_bricks w.bench)) turn_steps w.steps v.steps
 CommandKeeps w (Ply name) reply v = Refreshes w.bench v.bench (waiting_bricks w.bench) write_steps w.steps v.steps
 CommandKeeps w (Obj name) reply v = Refreshes w.bench v.bench (waiting_bricks w.bench) write_steps w.steps v.steps
-CommandKeeps w command reply v = (v.bench.cache ≡ cache_after w.bench command reply) × (v.steps ≡ w.steps)
+CommandKeeps w (Set at value) reply v = CacheFollows w (Set at value) reply v
+CommandKeeps w (Fill corners value) reply v = CacheFollows w (Fill corners value) reply v
+CommandKeeps w (Level value) reply v = CacheFollows w (Level value) reply v
+CommandKeeps w Undo reply v = CacheFollows w Undo reply v
+CommandKeeps w Redo reply v = CacheFollows w Redo reply v
+CommandKeeps w (Save name) reply v = CacheFollows w (Save name) reply v
+CommandKeeps w (SaveText name) reply v = CacheFollows w (SaveText name) reply v
+CommandKeeps w (SaveHex name) reply v = CacheFollows w (SaveHex name) reply v
+CommandKeeps w (Window corners format name) reply v = CacheFollows w (Window corners format name) reply v
+CommandKeeps w (Contour k) reply v = CacheFollows w (Contour k) reply v
+CommandKeeps w Report reply v = CacheFollows w Report reply v
+CommandKeeps w Measure reply v = CacheFollows w Measure reply v
+CommandKeeps w Quit reply v = CacheFollows w Quit reply v
 
 -- What a line says and its replies. Cache and counter stay where it is no command.
 abbrev pub LineKeeps : Scene → Saying → List (List ℕ) → Scene → Type 0

@@ -12,7 +12,7 @@ use Rattle.plane_contour.specs.Texts.{contours_text}
 use Rattle.mesh_report.specs.Report.{Summary}
 use Rattle.measure.specs.declared.share.Share.{Share}
 use Rattle.script.specs.declared.command.Command.{Command}
-use Rattle.script.specs.declared.command.Command.TheVariants.{Set, Fill, Level, Undo, Redo, Ply, Obj, Save, SaveText, SaveHex, Window, Contour, Report, Measure}
+use Rattle.script.specs.declared.command.Command.TheVariants.{Set, Fill, Level, Undo, Redo, Work, Ply, Obj, Save, SaveText, SaveHex, Window, Contour, Report, Measure, Quit}
 use Rattle.iso_base.specs.declared.fault.Written.{Written}
 use Rattle.script.specs.declared.reply.Reply.{Reply}
 use Rattle.script.specs.declared.reply.Reply.TheVariants.{Done, Meshed, Saved, Refused}
@@ -30,7 +30,15 @@ step_of s Undo = undo_step s
 step_of s Redo = redo_step s
 step_of s (Contour k) = contour_step s k
 step_of s (Window corners format name) = window_step s corners
-step_of s command = Ok s
+step_of s (Work n) = Ok s
+step_of s (Ply name) = Ok s
+step_of s (Obj name) = Ok s
+step_of s (Save name) = Ok s
+step_of s (SaveText name) = Ok s
+step_of s (SaveHex name) = Ok s
+step_of s Report = Ok s
+step_of s Measure = Ok s
+step_of s Quit = Ok s
 
 -- the file that a command writes, and its text
 abbrev pub writes_of : State → Command → Option (List ℕ × List ℕ)
@@ -43,7 +51,16 @@ writes_of s (Window corners format name) = Some (
   name,
   window_text s.volume s.level (window_area s.volume corners) format,
 )
-writes_of s command = None
+writes_of s (Set at value) = None
+writes_of s (Fill corners value) = None
+writes_of s (Level value) = None
+writes_of s Undo = None
+writes_of s Redo = None
+writes_of s (Work n) = None
+writes_of s (Contour k) = None
+writes_of s Report = None
+writes_of s Measure = None
+writes_of s Quit = None
 
 -- contour lines, and then `ok`
 abbrev pub contour_reply : Bool → List DrawnLine → List ℕ
@@ -69,7 +86,13 @@ says_of s (Window corners format name) = line
 says_of s (Contour k) = contour_reply (is_some s.volume.pad) (contour_of s k)
 says_of s Report = report_reply (report_of s)
 says_of s Measure = measures_reply (measure_of s)
-says_of s command = line (codes "ok")
+says_of s (Set at value) = line (codes "ok")
+says_of s (Fill corners value) = line (codes "ok")
+says_of s (Level value) = line (codes "ok")
+says_of s Undo = line (codes "ok")
+says_of s Redo = line (codes "ok")
+says_of s (Work n) = line (codes "ok")
+says_of s Quit = line (codes "ok")
 
 -- the asking lines: those that may be answered that memory is wanting
 abbrev pub may_want_memory : Command → Bool
@@ -78,7 +101,17 @@ may_want_memory (Contour k) = true
 may_want_memory Report = true
 may_want_memory Measure = true
 may_want_memory (Window corners format name) = true
-may_want_memory command = false
+may_want_memory (Set at value) = false
+may_want_memory (Level value) = false
+may_want_memory Undo = false
+may_want_memory Redo = false
+may_want_memory (Work n) = false
+may_want_memory (Ply name) = false
+may_want_memory (Obj name) = false
+may_want_memory (Save name) = false
+may_want_memory (SaveText name) = false
+may_want_memory (SaveHex name) = false
+may_want_memory Quit = false
 
 -- the files after a command
 abbrev pub after_writing : Option (List ℕ × List ℕ) → Option Files → Option Files
