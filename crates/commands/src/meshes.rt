@@ -61,7 +61,9 @@ fn put_text<S: Samples, K: Sink>(
     mesh.write(asked.style(), sink)
 }
 
-/// Writes the mesh of a volume, from its sizes and its samples, those of the pad that is asked for among them.
+/// Writes the mesh of a volume, from its sizes and its samples, those of the pad that is asked for among them. Never inlined: what
+/// stands on the stack while a mesh is written would stand there twice, in a caller that writes volumes without a pad too.
+#[inline(never)]
 fn write_mesh<S: Samples, K: Sink>(
     alloc: Global,
     asked: Asked,
