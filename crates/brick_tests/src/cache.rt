@@ -1,6 +1,5 @@
 //! Kept entries of bricks.
 use crate::stores::level_of;
-use arrayvec::ArrayVec;
 use brick_store::BrickId;
 use iso_base::{Level, Memory};
 use mesh_cache::{Capacity, MeshCache, Offer};
@@ -105,28 +104,17 @@ fn forty() -> [u32; 40] {
     entries
 }
 
-/// What is copied of a brick, in place of what was there.
-fn check_copy(rt: &impl Abort, cache: &MeshCache, entries: &[u32]) {
-    let mut copy = ArrayVec::new();
-    copy.push(9);
-    cache.copy_to(BrickId(7), &mut copy);
-    assert_eq!(rt; copy.as_slice(), entries);
-}
-
 fn check_entries(rt: &impl Abort, cache: &MeshCache) {
     assert_eq!(rt; cache.kept(BrickId(7), level_of(rt, 5_000)), Some(40));
     assert_eq!(rt; cache.entry(BrickId(7), 39), 5);
-    let run = cache.run(BrickId(7), 1);
-    assert_eq!(rt; run, [3, 3, 3, 3, 3, 3, 3, 5].as_slice());
 }
 
 fn check_handed_out(rt: &impl Abort, cache: &mut MeshCache) {
     let offer = offered(cache, 7, level_of(rt, 5_000), &forty());
     assert_eq!(rt; offer, Some(Offer::Kept));
     check_entries(rt, cache);
-    check_copy(rt, cache, &forty());
     cache.drop_brick(BrickId(7));
-    check_copy(rt, cache, &[]);
+    check_kept(rt, cache, &[(7, 5_000, None)]);
 }
 
 #[test]
@@ -140,7 +128,8 @@ fn entries_are_handed_out(rt: HostRuntime) {
 fn check_lent(rt: &impl Abort, cache: &MeshCache) {
     let five = cache.kept_entries(BrickId(7), level_of(rt, 5_000));
     let lent = five.expect(rt, "they are kept");
-    assert_eq!(rt; lent.rest().front(), [3; 8].as_slice());
+    assert_eq!(rt; lent.front(), [3; 32].as_slice());
+    assert_eq!(rt; lent.rest().front(), [3, 3, 3, 3, 3, 3, 3, 5].as_slice());
     let six = cache.kept_entries(BrickId(7), level_of(rt, 6_000));
     assert!(rt; six.is_none());
 }
@@ -148,7 +137,8 @@ fn check_lent(rt: &impl Abort, cache: &MeshCache) {
 #[test]
 fn entries_are_lent_at_their_level(rt: HostRuntime) {
     let mut cache = cache_of(rt.alloc(), 2, 16).expect(&rt, "memory suffices");
-    check_offers(&rt, &mut cache, &[(7, 5_000, &[3; 40], Offer::Kept)]);
+    let offer = offered(&mut cache, 7, level_of(&rt, 5_000), &forty());
+    assert_eq!(rt; offer, Some(Offer::Kept));
     check_lent(&rt, &cache);
 }
 

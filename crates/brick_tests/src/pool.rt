@@ -1,7 +1,6 @@
 //! Pages that lists are stored in.
 ghost use Rattle.page_pool.specs.Chains.{Has};
 
-use arrayvec::ArrayVec;
 use page_pool::{Chain, Pool, pages_needed};
 use std::process::Abort;
 
@@ -66,39 +65,20 @@ fn check_entries(rt: &impl Abort, pool: &Pool, chain: &Chain)
     }
 }
 
-/// The entries of a page of a chain.
-fn page<'a>(pool: &'a Pool, chain: &Chain, number: u32) -> &'a [u32]
-    requires { Has pool.now chain.now }
-{
-    if number < pages_needed(pool.length(chain) as usize) {
-        return pool.page(chain, number);
-    }
-    &[]
-}
-
-fn check_copies(rt: &impl Abort, pool: &Pool, chain: &Chain)
-    requires { Has pool.now chain.now }
-{
-    assert_eq!(rt; page(pool, chain, 1), [9].as_slice());
-    let mut copy = ArrayVec::new();
-    copy.push(5);
-    pool.copy_to(chain, &mut copy);
-    assert_eq!(rt; copy.as_slice(), entries().as_slice());
-}
-
 #[test]
 fn a_chain_is_read(rt: HostRuntime) {
     let mut pool = Pool::new(rt.alloc(), 16).expect(&rt, "memory suffices");
     let chain = stored(&rt, &mut pool);
     check_entries(&rt, &pool, &chain);
-    check_copies(&rt, &pool, &chain);
 }
 
 fn check_lent(rt: &impl Abort, pool: &Pool, chain: &Chain)
     requires { Has pool.now chain.now }
 {
     let lent = pool.entries(chain);
-    assert_eq!(rt; lent.front().len(), 32);
+    let mut page = [7; 32];
+    page[31] = 8;
+    assert_eq!(rt; lent.front(), page.as_slice());
     let rest = lent.rest();
     assert_eq!(rt; rest.front(), [9].as_slice());
     assert!(rt; rest.rest().front().is_empty());

@@ -1,10 +1,11 @@
-ghost use Rattle.std.specs.Prelude.{◌≡◌, ◌-◌, ◌*◌, ◌<◌, ◌≤◌, length, take, drop, slice_index, option_map, None, IfOk, IfSome};
+//! The cache of the entries of bricks, each at a level.
+
+ghost use Rattle.std.specs.Prelude.{◌≡◌, ◌-◌, ◌<◌, ◌≤◌, length, take, slice_index, option_map, None, IfOk, IfSome};
 ghost use Rattle.std.specs.Ordering.{int_eq};
 ghost use Rattle.page_pool.specs.Chains.{need};
 ghost use Rattle.mesh_cache.specs.Cache.{IsCache, empty_cache, with_items, item_of, entries_of, kept_at, without, looked_up, has_room, gives_way, room_made};
 
 use crate::Capacity;
-use arrayvec::ArrayVec;
 use brick_store::BrickId;
 use iso_base::{Level, Memory};
 use lru::LruCache;
@@ -139,27 +140,6 @@ impl MeshCache {
         match self.filed.peek(&brick.0) {
             Some(filed) => self.pool.read(&filed.chain, place),
             None => unreachable!(),
-        }
-    }
-
-    /// A run of the entries of a brick that is kept: the next 32 after `32 * number`, or what is left.
-    pub fn run(&self, brick: BrickId, number: u32) -> &[u32]
-        requires { 32 * number < length (entries_of brick.0 self.now.items) }
-        ensures { result.now ≡ take 32 (drop (32 * number) (entries_of brick.0 self.now.items)) }
-    {
-        match self.filed.peek(&brick.0) {
-            Some(filed) => self.pool.page(&filed.chain, number),
-            None => unreachable!(),
-        }
-    }
-
-    /// Replaces a list by the entries of a brick, or by none where it is not kept.
-    pub fn copy_to(&self, brick: BrickId, into: &mut ArrayVec<u32, 512>)
-        ensures { into.new.items ≡ entries_of brick.0 self.now.items }
-    {
-        match self.filed.peek(&brick.0) {
-            Some(filed) => self.pool.copy_to(&filed.chain, into),
-            None => into.clear(),
         }
     }
 

@@ -1,3 +1,5 @@
+//! How much a cache keeps.
+
 ghost use Rattle.std.specs.Prelude.{◌≡◌, ◌^◌, ◌≤◌, ◌↔◌, IsSome, IfSome};
 ghost use Rattle.mesh_cache.specs.Cache.{AreLimits};
 

@@ -63,6 +63,7 @@ pub fn refresh<B: Bricks, L: Ledger>(
         };
         if cache.kept(brick, level).is_none() {
             bricks.extract(brick, level, &mut entries, steps);
+            // Whatever becomes of the offer, the walk goes on.
             let _ = cache.offer(brick, level, entries.as_slice());
             left -= 1;
         }

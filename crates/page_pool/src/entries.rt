@@ -2,9 +2,7 @@
 ghost use Rattle.std.specs.Prelude.{◌≡◌, take, drop};
 ghost use Rattle.page_pool.specs.Layout.{AreLinked, chain_from};
 
-use crate::layout::PAGE_ENTRIES;
-use crate::page_links::Links;
-use crate::pages::Pages;
+use crate::layout::{Links, PAGE_ENTRIES, Pages, page_at};
 use std::marker::Model;
 
 /// So many entries of a chain, from one of its pages on. Contracts see the list of them. To go on to the next page follows one
@@ -49,7 +47,7 @@ impl<'a> Entries<'a> {
         ensures { result.now ≡ take 32 self.now }
     {
         let count = (self.left as usize).min(PAGE_ENTRIES);
-        &self.pages.at(self.page)[..count]
+        &page_at(self.pages, self.page)[..count]
     }
 
     /// The entries behind the first page.

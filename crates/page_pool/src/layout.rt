@@ -1,16 +1,64 @@
 //! Pages, and the links that lead from one to the next.
-ghost use Rattle.std.specs.Prelude.{◌≡◌, ℕ, ◌+◌, ◌-◌, ◌/◌, ◌<◌, ◌≤◌, ◌≢◌, [], length, take, slice_index_or, All};
+ghost use Rattle.std.specs.Prelude.{◌≡◌, ℕ, ◌+◌, ◌-◌, ◌/◌, ◌<◌, ◌≤◌, ◌≢◌, [], None, length, take, slice_index_or, All};
 ghost use Rattle.page_pool.specs.Chains.{need};
-ghost use Rattle.page_pool.specs.Layout.{follow, content};
+ghost use Rattle.page_pool.specs.Layout.{follow, content, blank};
 
-use crate::page_links::Links;
-use crate::pages::Pages;
+use crate::late_list::{Item, LateList};
 
 /// How many entries a page has room for.
 pub(crate) const PAGE_ENTRIES: usize = 32;
 
 /// A page of the pool.
 pub(crate) type Page = [u32; PAGE_ENTRIES];
+
+/// A page that nothing was written to.
+const BLANK: Page = [0; PAGE_ENTRIES];
+
+impl Item for Page {
+    ghost blank = { λ _. blank };
+
+    fn blank(_at: u32) -> Page {
+        BLANK
+    }
+}
+
+/// A link leads to the next page at first.
+impl Item for u32 {
+    ghost blank = { λ page. page + 1 };
+
+    fn blank(at: u32) -> u32 {
+        at + 1
+    }
+}
+
+/// At first no chain begins at a page, so that there is no number of its entries.
+impl Item for Option<u16> {
+    ghost blank = { λ _. None };
+
+    fn blank(_at: u32) -> Option<u16> {
+        None
+    }
+}
+
+/// The pages of a pool.
+pub(crate) type Pages = LateList<Page>;
+
+/// For each page of a pool the one that follows it.
+pub(crate) type Links = LateList<u32>;
+
+/// For each page of a pool the number of entries of the chain that begins there, if one does.
+pub(crate) type Lengths = LateList<Option<u16>>;
+
+/// A page of a pool.
+pub(crate) fn page_at(pages: &Pages, page: u32) -> &Page
+    requires { page < length pages.now }
+    ensures { result.now ≡ slice_index_or pages.now page [] }
+{
+    match pages.get(page) {
+        Some(page) => page,
+        None => &BLANK,
+    }
+}
 
 /// How many pages a list of so many entries needs, which is one at least.
 pub fn pages_needed(entries: usize) -> u32

@@ -1,12 +1,12 @@
+//! The pool: lists of numbers in chains of pages.
+
 ghost use Rattle.std.specs.Prelude.{◌≡◌, ◌*◌, ◌^◌, ◌<◌, ◌≤◌, ◌↔◌, length, take, drop, slice_index, None, Some, IsErr, IfOk, IfErr, OnErr};
 ghost use Rattle.page_pool.specs.Chains.{need, chain_at, Has, entries_at, with_chain, without_chain, no_chains, IsWhole};
 
 use crate::entries::Entries;
-use crate::layout::{PAGE_ENTRIES, follow, pages_needed, write_over};
-use crate::lengths::Lengths;
-use crate::page_links::Links;
-use crate::pages::Pages;
-use arrayvec::ArrayVec;
+use crate::layout::{
+    Lengths, Links, PAGE_ENTRIES, Pages, follow, page_at, pages_needed, write_over,
+};
 use iso_base::Memory;
 use std::alloc::Global;
 use std::marker::Model;
@@ -136,14 +136,14 @@ impl Pool {
 
     /// The entries in a page of a chain, by the number of the page in the chain: the next 32 after `32 * number`, or what is
     /// left.
-    pub fn page(&self, chain: &Chain, number: u32) -> &[u32]
+    fn page(&self, chain: &Chain, number: u32) -> &[u32]
         requires chain { Has self.now chain.now }
         requires number { number < need (length (entries_at self.now chain.now)) }
         ensures { result.now ≡ take 32 (drop (32 * number) (entries_at self.now chain.now)) }
     {
         let left = self.length(chain) as usize - PAGE_ENTRIES * number as usize;
         let page = follow(&self.links, chain.first, number);
-        &self.pages.at(page)[..left.min(PAGE_ENTRIES)]
+        &page_at(&self.pages, page)[..left.min(PAGE_ENTRIES)]
     }
 
     /// The entries of a chain, lent page by page.
@@ -154,18 +154,6 @@ impl Pool {
     {
         let left = self.length(chain);
         Entries::new(&self.pages, &self.links, chain.first, left)
-    }
-
-    /// Replaces a list by the entries of a chain.
-    pub fn copy_to(&self, chain: &Chain, into: &mut ArrayVec<u32, 512>)
-        requires { Has self.now chain.now }
-        ensures { into.new.items ≡ entries_at self.now chain.now }
-    {
-        into.clear();
-        for number in 0..self.length(chain).div_ceil(PAGE_ENTRIES as u32) {
-            into.try_extend_from_slice(self.page(chain, number))
-                .unwrap();
-        }
     }
 
     /// Gives the pages of a chain back. Its name is gone.

@@ -5,6 +5,6 @@ use Rattle.page_pool.proofs.entries.Entries.front.Goals as goal
 pub returns : goal.returns
 returns c =
     let e = c.self.inside in
-    ap (λ i. take i c.at.result.now) c.min-count.ensures
-    ∙ (ap (take (min e.left 32)) c.at.ensures
+    ap (λ i. take i c.page_at.result.now) c.min-count.ensures
+    ∙ (ap (take (min e.left 32)) c.page_at.ensures
     ∙ (sym (linked_page e.pages.now e.links.now e.page e.left c.self.invariant) ∙ ap (take 32) c.self.view_is))
