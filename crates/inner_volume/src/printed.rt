@@ -4,7 +4,7 @@ ghost use Rattle.std.specs.Prelude.{◌≡◌, ◌+◌, ◌*◌, ◌<◌, ◌≤
 ghost use Rattle.iso_base.specs.Volume.{inner_grid};
 ghost use Rattle.iso_base.specs.Samples.{IsOfKind};
 ghost use Rattle.byte_streams.specs.Seen.{Puts, Stages};
-ghost use Rattle.iso_io.specs.Shelves.{Stores, file_tape};
+ghost use Rattle.iso_io.specs.Shelves.{Stores};
 ghost use Rattle.nrrd_read.specs.Nrrd.{nrrd_of};
 ghost use Rattle.nrrd.specs.Writing.{coded_line, rows_of};
 ghost use Rattle.brick_store.specs.Copies.{AreAllCopies};
@@ -15,7 +15,7 @@ use crate::places::inner_sizes;
 use crate::rows::copy_rows;
 use brick_store::BrickStore;
 use iso_base::{SampleKind, Sizes};
-use iso_io::{Failed, Shelf, ShelfFile, Sink, write_all_of};
+use iso_io::{Failed, FileText, Shelf, Sink, write_all_of, write_file};
 use mesh_text::Fours;
 use nrrd::{coded_head_bytes, put_coded_head};
 use nrrd_text::{SampleLines, gather_hex, gather_text};
@@ -53,6 +53,7 @@ fn hold_row<T: Packed>(
     ensures first { result.first ≤ number }
     ensures holds { number < result.end }
 {
+    // Reading a size brings in that the sizes are those of a grid.
     let _ = sizes.nx();
     if number < held.end {
         return held;
@@ -81,6 +82,7 @@ fn held_row<'a, T: Packed>(
         (drop (number * sizes.now.nx) (inner_samples store.now)) }
     ensures each { All (IsOfKind store.now.kind) (map T.value result.now) }
 {
+    // Reading the sizes brings in what is true of every volume.
     let _ = store.sizes();
     let width = sizes.nx() as usize;
     let from = (number - held.first) as usize * width;
@@ -233,6 +235,7 @@ fn put_printed<K: Sink>(
     ensures text { Puts (K.seen sink.old) (K.seen sink.new) result (saved_in_print hex store.now) }
     ensures bytes { IfOk result (λ n. n ≡ length (saved_in_print hex store.now)) }
 {
+    // Reading a size brings in that the sizes are those of a grid.
     let _ = sizes.nx();
     let kind = store.kind();
     put_coded_head(sink, sizes, kind, hex)?;
@@ -240,20 +243,26 @@ fn put_printed<K: Sink>(
     Ok(coded_head_bytes(sizes, kind, hex) + bytes)
 }
 
-// Apart, so that its caller learns that it is the same shelf afterwards.
-fn fill_file<H: Shelf>(
-    file: &mut ShelfFile<H>,
-    store: &BrickStore,
+/// The text of the file.
+#[derive(Drop)]
+struct PrintedText<'a> {
+    store: &'a BrickStore,
     hex: bool,
-) -> Result<u64, Failed>
-    ensures text { Puts (file_tape file.old.shelf.ghost_name (H.seen file.old.shelf.now) file.old.name.now)
-        (file_tape file.new.shelf.ghost_name (H.seen file.new.shelf.now) file.new.name.now) result
-        (saved_in_print hex store.now) }
-    ensures bytes { IfOk result (λ n. n ≡ length (saved_in_print hex store.now)) }
-    ensures same_reference { file.new.shelf.ghost_name ≡ file.old.shelf.ghost_name }
-{
-    let sizes = inner_sizes(store);
-    put_printed(file, store, &sizes, hex)
+}
+
+impl<'a> FileText for PrintedText<'a> {
+    type Told = u64;
+
+    ghost text = { λ t. saved_in_print t.hex t.store.now };
+
+    ghost tells = { λ t bytes. bytes ≡ length (saved_in_print t.hex t.store.now) };
+
+    ghost stays = { λ _. tt };
+
+    fn put<K: Sink>(&mut self, sink: &mut K) -> Result<u64, Failed> {
+        let sizes = inner_sizes(self.store);
+        put_printed(sink, self.store, &sizes, self.hex)
+    }
 }
 
 /// Makes the name's file the volume without its pad in print, and says how many bytes it has.
@@ -267,10 +276,9 @@ fn write_printed<H: Shelf>(
     ensures bytes { IfOk result (λ n. n ≡ length (saved_in_print hex store.now)) }
     ensures read_again { nrrd_of (saved_in_print hex store.now) ≡ Ok (inner_voxels store.now, 1) }
 {
+    // Reading the sizes brings in what is true of every volume.
     let _ = store.sizes();
-    shelf.start(name)?;
-    let mut file = ShelfFile::new(shelf, name);
-    fill_file(&mut file, store, hex)
+    write_file(shelf, name, &mut PrintedText { store, hex })
 }
 
 /// Makes the name's file the volume without its pad as lines of numbers, and says how many bytes it has. `Failed` comes

@@ -99,6 +99,7 @@ fn copy_from_brick<T: Packed>(
     requires before { HasColumns store.now rows.now at (map T.value samples.old) }
     ensures { HasColumns store.now rows.now (at + count) (map T.value samples.new) }
 {
+    // Reading the sizes brings in what is true of every volume.
     let _ = store.sizes();
     let from = offset + (9 * (rows.y + 9 * rows.z)) as usize;
     copy_pieces(
@@ -130,6 +131,7 @@ fn copy_eights<T: Packed>(
     ensures within { result ≤ sizes.now.nx }
     ensures few { sizes.now.nx < result + 8 }
 {
+    // Reading the sizes brings in what is true of every volume.
     let _ = store.sizes();
     let width = sizes.nx() as usize;
     let mut x = 0;
@@ -199,6 +201,7 @@ pub(crate) fn copy_rows<T: Packed>(
     ensures value { AreSamples (inner_samples store.now) (row * sizes.now.nx) ((result - row) * sizes.now.nx)
         (map T.value samples.new) }
 {
+    // Reading both brings in what is true of every volume and of every grid.
     let _ = (store.sizes(), sizes.nx());
     let rows = brick_rows(store, sizes, row);
     let x = copy_eights(store, copies, sizes, &rows, samples);

@@ -4,7 +4,7 @@ ghost use Rattle.std.specs.Prelude.{◌≡◌, ◌⊎◌, ◌+◌, ◌-◌, ◌�
 ghost use Rattle.iso_base.specs.Volume.{inner_grid};
 ghost use Rattle.iso_base.specs.Samples.{IsOfKind};
 ghost use Rattle.byte_streams.specs.Seen.{Puts};
-ghost use Rattle.iso_io.specs.Shelves.{Stores, file_tape};
+ghost use Rattle.iso_io.specs.Shelves.{Stores};
 ghost use Rattle.nrrd_read.specs.Nrrd.{nrrd_of};
 ghost use Rattle.nrrd.specs.Writing.{samples_text};
 ghost use Rattle.brick_store.specs.Copies.{AreAllCopies};
@@ -14,7 +14,7 @@ use crate::places::inner_sizes;
 use crate::rows::copy_rows;
 use brick_store::BrickStore;
 use iso_base::{SampleKind, Sizes};
-use iso_io::{Failed, Shelf, ShelfFile, Sink};
+use iso_io::{Failed, FileText, Shelf, Sink, write_file};
 use nrrd::{put_nrrd_head, put_packed_samples, volume_bytes};
 use packed_samples::PackedRun;
 use samples::Packed;
@@ -60,6 +60,7 @@ fn put_rows<K: Sink, T: Packed>(
     requires room { length block.old ≡ 16384 }
     ensures { Puts (K.seen sink.old) (K.seen sink.new) result (samples_text store.now.kind (inner_samples store.now)) }
 {
+    // Reading the sizes brings in what is true of every volume.
     let _ = store.sizes();
     let kind = store.kind();
     let width = sizes.nx() as usize;
@@ -102,26 +103,36 @@ fn put_volume<K: Sink>(sink: &mut K, store: &BrickStore, sizes: &Sizes) -> Resul
     put_inner_samples(sink, store, sizes)
 }
 
-// Apart, so that its caller learns that it is the same shelf afterwards.
-fn fill_file<H: Shelf>(file: &mut ShelfFile<H>, store: &BrickStore) -> Result<u64, Failed>
-    ensures text { Puts (file_tape file.old.shelf.ghost_name (H.seen file.old.shelf.now) file.old.name.now)
-        (file_tape file.new.shelf.ghost_name (H.seen file.new.shelf.now) file.new.name.now) result
-        (saved_text store.now) }
-    ensures bytes { IfOk result (λ n. n ≡ length (saved_text store.now)) }
-    ensures same_reference { file.new.shelf.ghost_name ≡ file.old.shelf.ghost_name }
-{
-    let sizes = inner_sizes(store);
-    put_volume(file, store, &sizes)?;
-    Ok(saved_bytes(store, &sizes))
-}
-
 /// The number of bytes of the file.
 fn saved_bytes(store: &BrickStore, sizes: &Sizes) -> u64
     requires { sizes.now ≡ inner_grid store.now }
     ensures { result ≡ length (saved_text store.now) }
 {
+    // Reading the sizes brings in what is true of every volume.
     let _ = store.sizes();
     volume_bytes(sizes, store.kind())
+}
+
+/// The text of the file.
+#[derive(Drop)]
+struct SavedText<'a> {
+    store: &'a BrickStore,
+}
+
+impl<'a> FileText for SavedText<'a> {
+    type Told = u64;
+
+    ghost text = { λ t. saved_text t.store.now };
+
+    ghost tells = { λ t bytes. bytes ≡ length (saved_text t.store.now) };
+
+    ghost stays = { λ _. tt };
+
+    fn put<K: Sink>(&mut self, sink: &mut K) -> Result<u64, Failed> {
+        let sizes = inner_sizes(self.store);
+        put_volume(sink, self.store, &sizes)?;
+        Ok(saved_bytes(self.store, &sizes))
+    }
 }
 
 /// Makes the name's file the volume without its pad, and says how many bytes it has. `Failed` comes only where the
@@ -132,8 +143,7 @@ pub fn write_volume<H: Shelf>(shelf: &mut H, name: &str, store: &BrickStore) -> 
     ensures bytes { IfOk result (λ n. n ≡ length (saved_text store.now)) }
     ensures read_again { nrrd_of (saved_text store.now) ≡ Ok (inner_voxels store.now, 0) }
 {
+    // Reading the sizes brings in what is true of every volume.
     let _ = store.sizes();
-    shelf.start(name)?;
-    let mut file = ShelfFile::new(shelf, name);
-    fill_file(&mut file, store)
+    write_file(shelf, name, &mut SavedText { store })
 }

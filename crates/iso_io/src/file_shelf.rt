@@ -1,3 +1,5 @@
+//! The files of the system as a file store.
+
 ghost use Rattle.std.specs.Prelude.{◌≡◌, ◌≤◌, length, IfOk};
 ghost use Rattle.byte_streams.specs.Causes.{Rose};
 ghost use Rattle.byte_streams.specs.Causes.{one_more};

@@ -4,6 +4,7 @@
 #![tactic(auto)]
 
 mod file_shelf;
+mod file_text;
 mod memory_shelf;
 mod place;
 mod places;
@@ -15,6 +16,7 @@ pub use byte_streams::{
     read_all_of, stage, write_all_of,
 };
 pub use file_shelf::FileShelf;
+pub use file_text::{FileText, write_file};
 pub use memory_shelf::MemShelf;
 pub use shelf::{Shelf, ShelfError};
 pub use shelf_file::ShelfFile;

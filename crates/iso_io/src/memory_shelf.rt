@@ -1,3 +1,5 @@
+//! A file store in memory, some of whose calls fail.
+
 ghost use Rattle.std.specs.Prelude.{◌≡◌, ◌⊎◌, ◌*◌, ◌+◌, ◌^◌, ◌<◌, ◌≤◌, length, true, false, IfOk, IsTrue, IsErrOf, IsSome, ◌↔◌, Contains};
 ghost use Rattle.std.specs.FinMap.{get};
 ghost use Rattle.std.specs.Option.{option_map};

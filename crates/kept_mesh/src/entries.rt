@@ -50,6 +50,7 @@ fn put_run(entries: &[u32], z: u8, cases: &mut [u16; CELLS])
     ensures { (k : ℕ) → k < 64 → slice_index cases.new k
         ≡ last_case (slice_index cases.old k) entries.now (64 * z + k) }
 {
+    // The clauses alone speak of the plane.
     let _ = z;
     let first = (entries[0] / 1024 % 64) as usize;
     for i in 0..entries.len() {

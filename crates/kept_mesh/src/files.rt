@@ -3,7 +3,7 @@
 ghost use Rattle.std.specs.Prelude.{◌≡◌, ◌+◌, ◌*◌, ◌≤◌, IfOk, is_some, length};
 ghost use Rattle.iso_base.specs.Shifted.{field};
 ghost use Rattle.byte_streams.specs.Seen.{Puts};
-ghost use Rattle.iso_io.specs.Shelves.{Stores, file_tape};
+ghost use Rattle.iso_io.specs.Shelves.{Stores};
 ghost use Rattle.flat_mesh.specs.Mesh.{mesh_of};
 ghost use Rattle.mesh_lines.specs.Padded.{two_way_written};
 ghost use Rattle.mesh_cache.specs.Economy.{IsRight, waiting};
@@ -14,7 +14,7 @@ use crate::rows::KeptRows;
 use brick_store::BrickStore;
 use edge_points::RowRanks;
 use iso_base::{Level, Steps, Written};
-use iso_io::{Failed, Shelf, ShelfFile, Sink};
+use iso_io::{Failed, FileText, Shelf, Sink, write_file};
 use mesh_cache::MeshCache;
 use mesh_text::TwoWayFormat;
 use span_tree::SpanTree;
@@ -60,31 +60,65 @@ fn put_mesh<K: Sink, L: Ledger>(
     }
 }
 
-// Apart, so that its caller learns that it is the same shelf afterwards.
-fn fill_file<H: Shelf, L: Ledger>(
-    file: &mut ShelfFile<H>,
-    volume: &KeptVolume<'_>,
+/// The text of the mesh in a format, and what is lent to write it.
+#[derive(Drop)]
+struct MeshText<'a, L: Ledger> {
+    volume: &'a KeptVolume<'a>,
     format: TwoWayFormat,
-    ranks: &mut RowRanks,
-    steps: &mut Steps<L>,
-) -> Result<Written, Failed>
-    requires tree { IsRightFor volume.now.tree.now volume.now.store.now }
-    requires items { IsRight volume.now.store.now.grid volume.now.store.now.samples volume.now.cache.now.items }
-    requires ranks { ranks.old.grid ≡ volume.now.store.now.grid }
-    ensures text { Puts
-        (file_tape file.old.shelf.ghost_name (H.seen file.old.shelf.now) file.old.name.now)
-        (file_tape file.new.shelf.ghost_name (H.seen file.new.shelf.now) file.new.name.now)
-        result (scratch_text format volume.now.store.now volume.now.level) }
-    ensures written { let v = volume.now.store.now in
-        IfOk result (λ w. w ≡ two_way_written format (is_some v.pad)
-        (mesh_of v.grid (field v.samples volume.now.level))) }
-    ensures same_reference { file.new.shelf.ghost_name ≡ file.old.shelf.ghost_name }
-    ensures ranks { ranks.new.grid ≡ ranks.old.grid }
-    ensures least { steps.old ≤ steps.new }
-    ensures most { let v = volume.now.store.now in
-        steps.new ≤ steps.old + 1536 * length (waiting v.grid v.samples volume.now.level volume.now.cache.now.items) }
-{
-    put_mesh(file, volume, format, ranks, steps)
+    ranks: &'a mut RowRanks,
+    steps: &'a mut Steps<L>,
+}
+
+impl<'a, L: Ledger> MeshText<'a, L> {
+    /// The text of a volume's mesh. Writing keeps both loans, and what it does to them is seen by who made them.
+    fn new(
+        volume: &'a KeptVolume<'a>,
+        format: TwoWayFormat,
+        ranks: &'a mut RowRanks,
+        steps: &'a mut Steps<L>,
+    ) -> MeshText<'a, L>
+        ensures volume { result.volume.now ≡ volume.now }
+        ensures format { result.format ≡ format }
+        ensures same_ranks { result.ranks.ghost_name ≡ ranks.entry.ghost_name }
+        ensures same_steps { result.steps.ghost_name ≡ steps.entry.ghost_name }
+        ensures ranks { result.ranks.now ≡ ranks.old }
+        ensures steps { result.steps.now ≡ steps.old }
+    {
+        MeshText {
+            volume,
+            format,
+            ranks,
+            steps,
+        }
+    }
+}
+
+impl<'a, L: Ledger> FileText for MeshText<'a, L> {
+    ghost use Rattle.std.specs.Prelude.{◌≡◌, ◌*◌, length, refl};
+    ghost use Rattle.std.proofs.Math.Nat.{le_refl, le-add_right};
+    ghost use Rattle.kept_mesh.specs.Writers.{IsReadyText, KeepsLoans, text_of, waiting_in, written_of};
+
+    type Told = Written;
+
+    ghost text = { text_of };
+
+    ghost is_ready = { IsReadyText };
+
+    ghost tells = { λ t w. w ≡ written_of t };
+
+    ghost keeps = { KeepsLoans };
+
+    ghost stays = { λ t. record {
+      same_ranks = refl;
+      same_steps = refl;
+      ranks = refl;
+      least = le_refl t.steps.now;
+      most = le-add_right t.steps.now (1536 * length (waiting_in t));
+    } };
+
+    fn put<K: Sink>(&mut self, sink: &mut K) -> Result<Written, Failed> {
+        put_mesh(sink, self.volume, self.format, self.ranks, self.steps)
+    }
 }
 
 /// Makes the name's file the text of the mesh of a volume at a level, as it is from scratch. The text is written as it is made,
@@ -112,7 +146,6 @@ pub fn write_mesh<H: Shelf, L: Ledger>(
     ensures most { let v = volume.now.store.now in
         steps.new ≤ steps.old + 1536 * length (waiting v.grid v.samples volume.now.level volume.now.cache.now.items) }
 {
-    shelf.start(name)?;
-    let mut file = ShelfFile::new(shelf, name);
-    fill_file(&mut file, volume, format, ranks, steps)
+    let mut text = MeshText::new(volume, format, ranks, steps);
+    write_file(shelf, name, &mut text)
 }

@@ -68,7 +68,9 @@ pub fn plane_of(
     ensures z { result.z ≡ z }
     ensures plane { (items : List Item) → is_fresh brick.0 level items ≡ true → IsPlane store.now level items result }
 {
+    // Reading the sizes brings in what is true of every volume.
     let _ = store.sizes();
+    // The clauses alone speak of the level.
     let _ = level;
     let [along_x, _, _] = store.points_along(brick);
     Plane {

@@ -138,6 +138,7 @@ impl<'a> KeptRows<'a> {
         requires { IsRight store.now.grid store.now.samples cache.now.items }
         ensures { result ≡ record { volume = store.now; level = level; cache = cache.now } }
     {
+        // Reading the sizes brings in what is true of every volume.
         let _ = store.sizes();
         KeptRows {
             store,

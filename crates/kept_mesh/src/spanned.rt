@@ -47,7 +47,9 @@ impl<'a> Bricks for Spanned<'a> {
     ghost samples = { λ s. s.samples };
 
     fn next_active(&self, from: u32, level: Level) -> Option<BrickId> {
+        // Reading the sizes brings in what is true of every volume.
         let _ = self.store.sizes();
+        // Reading the number of bricks brings in that it fits its type.
         let _ = self.store.brick_count();
         self.tree.next_active(from, level)
     }
