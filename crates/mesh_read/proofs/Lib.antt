@@ -6,3 +6,5 @@ pub mod PlyBody
 pub mod PlyFolding
 pub mod PlyCounts
 mod Rows
+pub mod PlainLaws
+pub mod PlainLines

@@ -13,6 +13,7 @@ use Rattle.text_lines.specs.Lines.{lines_of}
 use Rattle.text_lines.specs.Words.{words_of}
 use Rattle.mesh_read.specs.Ply.{ply_words}
 use Rattle.mesh_read.specs.SeenPly.{inside}
+use Rattle.mesh_read.specs.Plain.{BeginsLine, BeginsFace}
 use Rattle.mesh_read.proofs.PlyLines.{words_first, words_none}
 use Rattle.text_lines.proofs.Places.{decide}
 
@@ -169,3 +170,33 @@ one_inside n t ht (suc k) d lt = absurd (omega (arith, lt))
 
 pub more_inside : (n : ℕ) (done : List (List ℕ)) (t : List ℕ) (items : List (List ℕ)) → items ≡ done ++ t ∷ [] → All (IsInside n) done → IsInside n t → All (IsInside n) items
 more_inside n done t items e h ht = subst (λ (ts : List (List ℕ)). All (IsInside n) ts) (sym e) (All-append (IsInside n) done (t ∷ []) h (one_inside n t ht))
+
+-- what is known between two lines: how many lines with words came, the number of the next line, the faces so far and what is left
+pub record IsRead (n before faces needed first : ℕ) (bytes : List ℕ) (present number : ℕ) (done : List (List ℕ)) (rest : List ℕ) : Type 0 where
+  pub walked : go n before (before + faces) needed present done (lines_from number rest) ≡ go n before (before + faces) needed 0 [] (lines_from first bytes)
+  pub within : All (IsInside n) done
+  pub line : number + length rest ≤ first + length bytes
+
+-- one more face, and it is in the plain form
+pub plain_taken : (n before faces needed first : ℕ) (bytes : List ℕ) (present number : ℕ) (done : List (List ℕ)) (rest triangle after left : List ℕ) (more : List (List ℕ)) → present < needed → inside before (before + faces) present ≡ true → BeginsFace n rest triangle after → IsInside n triangle → length after + 1 ≤ length rest → more ≡ done ++ triangle ∷ [] → left ≡ after → IsRead n before faces needed first bytes present number done rest → IsRead n before faces needed first bytes (present + 1) (number + 1) more left
+plain_taken n before faces needed first bytes present number done rest triangle after left more lt is face low shorter items same h =
+    let hi = before + faces in
+    let start = go n before hi needed 0 [] (lines_from first bytes) in
+    let some = a_word n before hi needed present number done rest face.text after face.word face.words start face.line face.split h.walked in
+    record {
+      walked = rw (items, same) (taken n before hi needed present number done face.word face.words after triangle start lt is (face.face number) some);
+      within = more_inside n done triangle more items h.within low;
+      line = omega (arith, h.line, ap length same);
+    }
+
+-- one more line that is no face
+pub plain_passed : (n before faces needed first : ℕ) (bytes : List ℕ) (present number : ℕ) (done : List (List ℕ)) (rest after left : List ℕ) (more : List (List ℕ)) → present < needed → inside before (before + faces) present ≡ false → BeginsLine rest after → length after + 1 ≤ length rest → more ≡ done → left ≡ after → IsRead n before faces needed first bytes present number done rest → IsRead n before faces needed first bytes (present + 1) (number + 1) more left
+plain_passed n before faces needed first bytes present number done rest after left more lt is line shorter items same h =
+    let hi = before + faces in
+    let start = go n before hi needed 0 [] (lines_from first bytes) in
+    let some = a_word n before hi needed present number done rest line.text after line.word line.words start line.line line.split h.walked in
+    record {
+      walked = rw (items, same) (outside n before hi needed present number done line.word line.words after start lt is some);
+      within = subst (λ (ts : List (List ℕ)). All (IsInside n) ts) (sym items) h.within;
+      line = omega (arith, h.line, ap length same);
+    }

@@ -1,6 +1,7 @@
 -- The triangle list that an OBJ text gives, or the first refusal.
 use Rattle.std.specs.Prelude.{ℕ, suc, ◌+◌, ◌-◌, Bool, true, false, ◌==◌, ◌&&◌, nat_le, nat_lt, List, [], ◌∷◌, map, take, length, filter_map, filter, bytes_eq, ℤ, pos, negsuc, Option, Some, None, ok_or, Result, Ok, if◌then◌else◌, codes}
 use Rattle.std.specs.List.{slice_get, range_with_len, before_first}
+use Rattle.byte_names.specs.Bytes.{slash}
 use Rattle.iso_base.specs.Triangles.{Mesh}
 use Rattle.mesh_read.specs.declared.fault.MeshFault.{MeshFault}
 use Rattle.mesh_read.specs.declared.fault.MeshFault.TheVariants.{BadNumber, NotTriangle, IndexOutside}
@@ -36,7 +37,7 @@ vertices says = length (filter is_vertex says)
 
 -- the number in front of the first slash
 abbrev pub reference_number : List ℕ → Option ℤ
-reference_number word = number_of (before_first (λ b. b == 47) word)
+reference_number word = number_of (before_first (λ b. b == slash) word)
 
 -- the vertex that a number names behind n vertices
 abbrev pub vertex_named : ℕ → ℤ → Option ℕ

@@ -10,6 +10,7 @@ ghost use Rattle.mesh_read.specs.Ply.{corners_of, three_first, below, face_of, p
 ghost use Rattle.mesh_read.specs.SeenPly.{inside};
 
 use crate::fault::MeshFault;
+use crate::plain::{behind_plain_line, plain_face};
 use iso_base::TriangleList;
 use std::alloc::Global;
 use text_lines::{digits, next_line, next_word};
@@ -114,6 +115,24 @@ pub fn read_body(
         }
         number += 1;
         rest = after;
+        'plain: while present < needed {
+            let behind = if is_face_line(before, faces, present) {
+                let Some(line) = plain_face(vertices, rest) else {
+                    break;
+                };
+                let triangle = line.0;
+                triangles.push(triangle)?;
+                line.1
+            } else {
+                let Some(behind) = behind_plain_line(rest) else {
+                    break;
+                };
+                behind
+            };
+            present += 1;
+            number += 1;
+            rest = behind;
+        }
     }
     Ok(TriangleList::new(vertices, triangles))
 }

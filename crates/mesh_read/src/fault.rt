@@ -1,3 +1,5 @@
+//! Why a text is not read as a mesh.
+
 ghost use Rattle.std.specs.Prelude.{◌≡◌};
 ghost use Rattle.mesh_read.specs.declared.fault.MeshFault.TheVariants.{Memory};
 

@@ -8,6 +8,7 @@ mod fault;
 mod header;
 mod heading;
 mod obj;
+mod plain;
 mod ply;
 
 pub use fault::MeshFault;

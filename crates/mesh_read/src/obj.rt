@@ -1,6 +1,7 @@
 //! Wavefront OBJ texts.
 ghost use Rattle.std.specs.Prelude.{◌≡◌, ◌<◌, ◌≤◌, ◌^◌, ◌==◌, length, position, IfOk, ok_or};
 ghost use Rattle.std.specs.List.{before_first};
+ghost use Rattle.byte_names.specs.Bytes.{slash};
 ghost use Rattle.mesh_read.specs.Corners.{IsInside};
 ghost use Rattle.mesh_read.specs.declared.fault.MeshFault.TheVariants.{BadNumber, IndexOutside};
 ghost use Rattle.text_lines.specs.Words.{words_of};
@@ -47,13 +48,13 @@ fn obj_line(text: &[u8]) -> ObjLine<'_>
 }
 
 fn slash_at(word: &[u8]) -> Option<usize>
-    ensures { result ≡ position (λ b. b == 47) word.now }
+    ensures { result ≡ position (λ b. b == slash) word.now }
 {
     word.iter().position(|b| *b == b'/')
 }
 
 fn before_slash(word: &[u8]) -> &[u8]
-    ensures { result.now ≡ before_first (λ b. b == 47) word.now }
+    ensures { result.now ≡ before_first (λ b. b == slash) word.now }
 {
     match slash_at(word) {
         Some(end) => &word[..end],

@@ -1,15 +1,18 @@
-use Rattle.std.proofs.Common.{◌≡◌, ◌+◌, ◌≤◌, [], length, All}
-use Rattle.mesh_read.specs.Corners.{IsInside}
-use Rattle.mesh_read.specs.Ply.{ply_words, numbered, with_words}
-use Rattle.mesh_read.proofs.PlyBody.{go}
+use Rattle.std.proofs.Common.{length, ◌≤◌}
+use Rattle.mesh_read.proofs.PlyBody.{IsRead}
 use Rattle.mesh_read.proofs.body.read_body.Given as goal
 
 abbrev pub invariant-loop-present : goal.invariant-loop-present
-invariant-loop-present l = record {
-  walked : go l.vertices l.before (l.before + l.faces) l.needed l.present l.triangles.items (with_words (numbered l.number (ply_words l.rest))) ≡ go l.vertices l.before (l.before + l.faces) l.needed 0 [] (with_words (numbered l.first (ply_words l.bytes)));
-  inside : All (IsInside l.vertices) l.triangles.items;
-  number : l.number + length l.rest ≤ l.first + length l.bytes;
-}
+invariant-loop-present l = IsRead l.vertices l.before l.faces l.needed l.first l.bytes l.present l.number l.triangles.items l.rest
 
 abbrev pub decreases-loop-present : goal.decreases-loop-present
 decreases-loop-present l = length l.rest
+
+abbrev pub invariant-plain : goal.invariant-plain
+invariant-plain l = record {
+  read : IsRead l.vertices l.before l.faces l.needed l.first l.bytes l.present l.number l.triangles.items l.rest;
+  shorter : length l.rest ≤ length l.initial.rest;
+}
+
+abbrev pub decreases-plain : goal.decreases-plain
+decreases-plain l = length l.rest
