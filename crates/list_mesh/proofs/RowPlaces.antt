@@ -1,20 +1,22 @@
 -- The places of the crossing edges of rows of points, one row after the other.
-use Rattle.std.proofs.Common.{◌≡◌, ℕ, ℤ, ◌+◌, ◌-◌, ◌*◌, ◌<◌, ◌≤◌, List, [], ◌∷◌, ◌++◌, length, take, drop, get_or, refl, sym, ◌∙◌, ap, ap₂, subst, arith, zero-add, append_assoc, inl, inr}
+use Rattle.std.proofs.Common.{◌≡◌, ℕ, ℤ, ◌+◌, ◌-◌, ◌*◌, ◌<◌, ◌≤◌, List, [], ◌∷◌, ◌++◌, length, take, drop, get_or, refl, sym, ◌∙◌, ap, ap₂, subst, arith, zero-add, append_assoc, add-zero, Bool, true, false, eqb, not, inl, inr}
 use Rattle.std.specs.List.{range_with_len}
 use Rattle.std.proofs.Math.Seq.{drop-append_seam}
-use Rattle.std.proofs.lemmas.Bool.{cases_lt}
-use Rattle.std.proofs.lemmas.List.{get_or-append_right, get_or_append_left, length-append, length-map, take_at}
+use Rattle.std.proofs.lemmas.Bool.{cases_lt, eqb-true}
+use Rattle.std.proofs.lemmas.List.{get_or-append_right, get_or_append_left, length-append, length-map, nil_from_length, take_at}
 use Rattle.std.proofs.lemmas.List.FromFn.{length-range_with_len}
 use Rattle.std.proofs.lemmas.List.Sums.{count_by-le-length, length-filter}
 use Rattle.iso_defs.specs.Grid.{Grid, point_count}
 use Rattle.iso_defs.specs.Rows.{row_count}
 use Rattle.iso_defs.specs.Signs.{is_crossing}
+use Rattle.verdict_laws.proofs.Lists.{In, in_filter}
+use Rattle.mesh_laws.proofs.Cells.{range_in}
 use Rattle.crossing_edges.specs.Flags.{edge_place, names_in, places_in}
 use Rattle.crossing_edges.proofs.Counting.{places_empty, places_more}
 use Rattle.crossing_edges.proofs.FlagParts.{no_places, row_in}
 use Rattle.flat_mesh.specs.Lattice.{Leveled, heights}
 use Rattle.flat_mesh.specs.Rows.{row_start}
-use Rattle.mesh_rows.specs.Rows.{AreEdges, AreFlags, row_names, row_places}
+use Rattle.mesh_rows.specs.Rows.{AreEdges, AreFlags, IsStill, row_names, row_places}
 use Rattle.list_mesh.specs.declared.places.CrossingPlaces.{CrossingPlaces}
 use Rattle.list_mesh.specs.Places.{HaveAllPlaces, HavePlaces, first_places}
 use Rattle.list_mesh.proofs.RowSlices.{row_low}
@@ -116,3 +118,49 @@ row_part v places y z a e have hy hz start end =
       within = omega (arith, at, end, ap length cut, length-append front (here ++ rest), length-append here rest);
       part = ap₂ (λ n l. take n l) few (ap₂ drop at cut ∙ drop-append_seam front (here ++ rest)) ∙ take_at here rest (length here) refl;
     }
+
+-- a row without places has no crossing edges
+still_here : (g : Grid) (s : ℕ → ℤ) (a n : ℕ) → places_in g s a n ≡ [] → (e : ℕ) → a ≤ e → e < a + n → is_crossing g s e ≡ false
+unfolding places_in names_in
+still_here g s a n none e least most = by (is_crossing g s e) refl
+  where
+    by : (b : Bool) → is_crossing g s e ≡ b → b ≡ false
+    by false is = refl
+    by true is =
+        let there : In e (names_in g s a n) = in_filter (is_crossing g s) e (range_with_len a n) (range_in a n e least most) is in
+        let empty : names_in g s a n ≡ [] = nil_from_length (names_in g s a n) (sym (length-map (names_in g s a n) (edge_place g s)) ∙ ap length none) in
+        absurd (subst (In e) empty there)
+
+pub still_row : (v : Leveled) (y z : ℕ) → row_places v y z ≡ [] → IsStill v y z
+still_row v y z none = record {
+  none = λ x low.
+      (let p : ℕ = row_start v.grid y z + x in
+      let at : (k : ℕ) → k < 3 → is_crossing v.grid (heights v) (3 * p + k) ≡ false
+      = λ k few. still_here v.grid (heights v) (3 * row_start v.grid y z) (3 * v.grid.nx) none (3 * p + k) (omega arith) (omega arith) in
+      let first : is_crossing v.grid (heights v) (3 * p) ≡ false = ap (is_crossing v.grid (heights v)) (sym (add-zero (3 * p))) ∙ at 0 (omega arith) in
+      rw (first, at 1 (omega arith), at 2 (omega arith)) refl);
+}
+
+-- and has its places from where it begins to where the next one does
+pub nothing_here : (v : Leveled) (places : CrossingPlaces) (y z : ℕ) → HaveAllPlaces v places → y < v.grid.ny → z < v.grid.nz
+    → (end : ℕ) → end ≡ get_or places.starts.items (y + v.grid.ny * z) 0
+    → (y + v.grid.ny * z + 1 < row_count v.grid → end ≡ get_or places.starts.items (y + v.grid.ny * z + 1) 0)
+    → (row_count v.grid ≤ y + v.grid.ny * z + 1 → end ≡ length places.list.items) → IsStill v y z
+nothing_here v places y z have hy hz end start next last =
+    let row : ℕ = y + v.grid.ny * z in
+    let low : row < row_count v.grid = row_low v.grid.ny v.grid.nz y z hy hz in
+    let ends : end ≡ length (first_places v (row + 1)) = elim (cases_lt (row + 1) (row_count v.grid)) [
+      | inl more ↦ next more ∙ have.starts (row + 1) more
+      | inr all ↦ (let is : row_count v.grid ≡ row + 1 = omega arith in last all ∙ (ap length have.list ∙ ap (λ n. length (first_places v n)) is))
+    ] in
+    let count : length (first_places v (row + 1)) ≡ length (first_places v row) + length (row_places v y z)
+    = ap length (row_next v y z) ∙ length-append (first_places v row) (row_places v y z) in
+    still_row v y z (nil_from_length (row_places v y z) (omega (arith, ends, count, start, have.starts row low)))
+
+-- what is told of two places that are not apart
+pub same_ends : (a b : ℕ) → not (eqb a b) ≡ false → a ≡ b
+same_ends a b same = eqb-true a b (by (eqb a b) same)
+  where
+    by : (t : Bool) → not t ≡ false → t ≡ true
+    by true e = refl
+    by false e = sym e

@@ -1,5 +1,5 @@
 -- The cases of the cells of a volume, row of points after row of points.
-use Rattle.std.specs.Prelude.{◌≡◌, ℕ, ◌+◌, ◌*◌, ◌/◌, ◌<◌, ◌≤◌, [], List, length, min, slice_index}
+use Rattle.std.specs.Prelude.{◌≡◌, ℕ, ◌+◌, ◌*◌, ◌/◌, ◌<◌, ◌≤◌, [], List, length, min, slice_index, slice_index_or}
 use Rattle.iso_defs.specs.Bricks.{bits_of}
 use Rattle.iso_defs.specs.Grid.{Grid, index}
 use Rattle.iso_defs.specs.Rows.{row_count}
@@ -10,26 +10,24 @@ use Rattle.flat_mesh.specs.Rows.{row_start}
 use Rattle.mesh_rows.specs.Counts.{AreCounts}
 use Rattle.mesh_rows.specs.Rows.{AreCasesTo, IsCaseOf}
 use Rattle.mesh_rows.specs.declared.counts.Counts.{Counts}
+use Rattle.sparse_rows.specs.Rows.{AreSparse, rows_of}
 use Rattle.list_mesh.specs.declared.cases.CellCases.{CellCases}
 
 -- a row of points begins no cells, or cells without loops
 pub record HasNoLoops (v : Leveled) (y z : ℕ) : Type 0 where
   pub none : (x : ℕ) → x + 1 < v.grid.nx → y + 1 < v.grid.ny → z + 1 < v.grid.nz → loops_at v (index v.grid x y z) ≡ []
 
--- for each of the first rows where its numbers begin, and there for each of its cells that of a case that has the cell's loops
+-- for each cell of the first rows the number of a case that has its loops
 pub record HaveCases (v : Leveled) (rows : ℕ) (cases : CellCases) : Type 0 where
-  pub count : length cases.starts.items ≡ rows
-  pub within : (row : ℕ) → row < rows → slice_index cases.starts.items row + v.grid.nx ≤ length cases.list.items
+  pub sparse : AreSparse cases.rows
+  pub width : cases.rows.width ≡ v.grid.nx
+  pub count : length (rows_of cases.rows) ≡ rows
   pub each : (x y z : ℕ) → x + 1 < v.grid.nx → y + 1 < v.grid.ny → z + 1 < v.grid.nz → y + v.grid.ny * z < rows
-      → IsCaseOf v (index v.grid x y z) (slice_index cases.list.items
-      (slice_index cases.starts.items (y + v.grid.ny * z) + x))
+      → IsCaseOf v (index v.grid x y z) (slice_index (slice_index_or (rows_of cases.rows) (y + v.grid.ny * z) []) x)
 
--- likewise, with a row of zeros in front and no more than one row of numbers for each row of points, and the counts of the cells
+-- likewise, with the counts of the cells
 pub record HaveFirstCases (v : Leveled) (rows : ℕ) (cases : CellCases) : Type 0 where
   pub cases_are : HaveCases v rows cases
-  pub zeros : (x : ℕ) → x < v.grid.nx → slice_index cases.list.items x ≡ 0
-  pub some : v.grid.nx ≤ length cases.list.items
-  pub few : length cases.list.items ≤ v.grid.nx * (rows + 1)
   pub counted : AreCounts v (v.grid.nx * rows) cases.counts
 
 -- those of all rows

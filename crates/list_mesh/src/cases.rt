@@ -1,5 +1,5 @@
 //! The cases of all cells.
-ghost use Rattle.std.specs.Prelude.{◌≡◌, ℕ, ◌+◌, ◌-◌, ◌*◌, ◌<◌, ◌≤◌, ◌==◌, ◌||◌, ◌++◌, ◌∷◌, [], cond, false, IfOk, IsTrue, length, map, replicate, slice_index};
+ghost use Rattle.std.specs.Prelude.{◌≡◌, ℕ, ◌+◌, ◌-◌, ◌*◌, ◌<◌, ◌≤◌, ◌^◌, ◌==◌, ◌||◌, ◌++◌, ◌∷◌, [], cond, false, IfOk, IsTrue, length, map, replicate, slice_index};
 ghost use Rattle.std.specs.Int.{bit_at};
 ghost use Rattle.iso_defs.specs.Bricks.{bits_of};
 ghost use Rattle.crossing_edges.specs.Signs.{sign_of};
@@ -8,6 +8,7 @@ ghost use Rattle.flat_mesh.specs.Centres.{IsCellAt};
 ghost use Rattle.flat_mesh.specs.Rows.{IsSignRow, byte_of, row_start};
 ghost use Rattle.mesh_rows.specs.Counts.{AreCounts};
 ghost use Rattle.mesh_rows.specs.Rows.{AreCases, IsCaseOf};
+ghost use Rattle.sparse_rows.specs.Rows.{AreSparse, rows_of};
 ghost use Rattle.list_mesh.specs.Cases.{AreBytes, ArePut, HasNoLoops, HaveAllCases, HaveFirstCases, HaveRoom};
 
 use crate::counts::count_cell;
@@ -15,6 +16,7 @@ use crate::slices::{are_all, sign_row};
 use flat_mesh::{Cell, Heights, cell_case, cell_row};
 use iso_base::{Point, Sizes};
 use mesh_rows::Counts;
+use sparse_rows::SparseRows;
 use std::alloc::{AllocError, Global};
 use std::simd::prelude::*;
 
@@ -182,47 +184,60 @@ fn may_have_loops<H: Heights>(field: &H, signs: &[u8], y: u32, z: u32) -> bool
     true
 }
 
-/// The cases of all cells. Of each row of points that begins a row of cells with loops there is a number for each point in
-/// `list`: where a cell begins, that of a case that has its loops. The other rows share the zeros in front. By row, `starts`
-/// says where the numbers begin. `counts` says how many centres and triangles the cells of these rows have.
+/// The cases of all cells. Of each row of points `rows` has a number for each point: where a cell begins, that of a case that has its
+/// loops. `counts` says how many centres and triangles the cells of these rows have.
 #[derive(Drop)]
 pub struct CellCases {
-    pub list: Vec<u16>,
-    pub starts: Vec<u32>,
+    pub rows: SparseRows,
     pub counts: Counts,
 }
 
-/// Puts the numbers of a row behind those of the rows before it, from its sign bytes.
+/// Buffers for a row of cells: their sign bytes, and the numbers of their cases.
+#[derive(Drop)]
+struct CaseBuffers {
+    bytes: Vec<u8>,
+    cases: Vec<u16>,
+}
+
+/// Puts the numbers of a row behind those of the rows before it, from its sign bytes. `row` is a buffer.
 fn keep_row<H: Heights>(
     field: &H,
     y: u32,
     z: u32,
     bytes: &[u8],
+    row: &mut [u16],
     cases: &mut CellCases,
 ) -> Result<(), AllocError>
     requires y { y + 1 < (H.leveled field.now).grid.ny }
     requires z { z + 1 < (H.leveled field.now).grid.nz }
     requires room { HaveRoom (H.leveled field.now).grid bytes.now }
     requires bytes { AreBytes (H.leveled field.now) y z bytes.now }
+    requires count { length row.old ≡ (H.leveled field.now).grid.nx }
     requires cases { HaveFirstCases (H.leveled field.now) (y + (H.leveled field.now).grid.ny * z) cases.old }
     ensures { let v = H.leveled field.now in
         IfOk result (λ _. HaveFirstCases v (y + v.grid.ny * z + 1) cases.new) }
 {
-    let nx = field.sizes().nx() as usize;
-    let start = cases.list.len();
-    cases.list.resize(start + nx, 0)?;
-    cases.starts.push(start as u32)?;
-    cases.counts = put_cases(field, y, z, bytes, &mut cases.list[start..], cases.counts);
+    let _ = field.sizes();
+    row.fill(0);
+    let before = cases.counts.faces;
+    cases.counts = put_cases(field, y, z, bytes, row, cases.counts);
+    // A cell with loops has a triangle at least, and most have two.
+    let faces = cases.counts.faces.saturating_sub(before) as usize;
+    cases.rows.push(row, faces > row.len())?;
     Ok(())
 }
 
-/// Lets a row share the zeros in front.
-fn share_zeros(cases: &mut CellCases) -> Result<(), AllocError>
-    ensures list { cases.new.list.items ≡ cases.old.list.items }
+/// Puts a row of cells without loops behind the others.
+fn keep_zeros(cases: &mut CellCases) -> Result<(), AllocError>
+    requires sparse { AreSparse cases.old.rows }
+    requires room { cases.old.rows.width * length (rows_of cases.old.rows) < 2 ^ 32 }
+    ensures sparse { IfOk result (λ _. AreSparse cases.new.rows) }
+    ensures width { IfOk result (λ _. cases.new.rows.width ≡ cases.old.rows.width) }
+    ensures rows { let zeros = replicate cases.old.rows.width 0 in
+        IfOk result (λ _. rows_of cases.new.rows ≡ rows_of cases.old.rows ++ (zeros ∷ [])) }
     ensures counts { cases.new.counts ≡ cases.old.counts }
-    ensures starts { IfOk result (λ _. cases.new.starts.items ≡ cases.old.starts.items ++ (0 ∷ [])) }
 {
-    cases.starts.push(0)?;
+    cases.rows.push_zeros()?;
     Ok(())
 }
 
@@ -232,66 +247,67 @@ fn add_row<H: Heights>(
     signs: &[u8],
     y: u32,
     z: u32,
-    bytes: &mut [u8],
+    row: &mut CaseBuffers,
     cases: &mut CellCases,
 ) -> Result<(), AllocError>
     requires y { y < (H.leveled field.now).grid.ny }
     requires z { z < (H.leveled field.now).grid.nz }
     requires signs { signs.now ≡ map (sign_of (H.leveled field.now).level) (H.leveled field.now).samples }
-    requires room { HaveRoom (H.leveled field.now).grid bytes.old }
+    requires room { HaveRoom (H.leveled field.now).grid row.old.bytes.items }
+    requires count { length row.old.cases.items ≡ (H.leveled field.now).grid.nx }
     requires cases { HaveFirstCases (H.leveled field.now) (y + (H.leveled field.now).grid.ny * z) cases.old }
     ensures cases { let v = H.leveled field.now in
         IfOk result (λ _. HaveFirstCases v (y + v.grid.ny * z + 1) cases.new) }
-    ensures room { HaveRoom (H.leveled field.now).grid bytes.new }
+    ensures room { HaveRoom (H.leveled field.now).grid row.new.bytes.items }
+    ensures count { length row.new.cases.items ≡ (H.leveled field.now).grid.nx }
 {
     let _ = field.sizes();
     if !may_have_loops(field, signs, y, z) {
-        share_zeros(cases)?;
+        keep_zeros(cases)?;
         return Ok(());
     }
-    put_bytes(field, signs, y, z, bytes);
-    keep_row(field, y, z, bytes, cases)
+    put_bytes(field, signs, y, z, &mut row.bytes);
+    keep_row(field, y, z, &row.bytes, &mut row.cases, cases)
 }
 
 /// Adds the cases of all rows.
 fn add_rows<H: Heights>(
     field: &H,
     signs: &[u8],
-    bytes: &mut [u8],
+    row: &mut CaseBuffers,
     cases: &mut CellCases,
 ) -> Result<(), AllocError>
     requires signs { signs.now ≡ map (sign_of (H.leveled field.now).level) (H.leveled field.now).samples }
-    requires room { HaveRoom (H.leveled field.now).grid bytes.old }
+    requires room { HaveRoom (H.leveled field.now).grid row.old.bytes.items }
+    requires count { length row.old.cases.items ≡ (H.leveled field.now).grid.nx }
     requires none { HaveFirstCases (H.leveled field.now) 0 cases.old }
     ensures { IfOk result (λ _. HaveAllCases (H.leveled field.now) cases.new) }
 {
     let sizes = field.sizes();
     for z in 0..sizes.nz() {
         for y in 0..sizes.ny() {
-            add_row(field, signs, y, z, bytes, cases)?;
+            add_row(field, signs, y, z, row, cases)?;
         }
     }
     Ok(())
 }
 
-/// The cases of no rows, with room for those of all.
+/// The cases of no rows.
 fn no_cases(alloc: Global, sizes: &Sizes) -> Result<CellCases, AllocError>
-    ensures list { IfOk result (λ c. c.list.items ≡ replicate sizes.now.nx 0) }
-    ensures starts { IfOk result (λ c. c.starts.items ≡ []) }
+    ensures sparse { IfOk result (λ c. AreSparse c.rows) }
+    ensures width { IfOk result (λ c. c.rows.width ≡ sizes.now.nx) }
+    ensures rows { IfOk result (λ c. rows_of c.rows ≡ []) }
     ensures centres { IfOk result (λ c. c.counts.centres ≡ 0) }
     ensures faces { IfOk result (λ c. c.counts.faces ≡ 0) }
 {
-    let nx = sizes.nx() as usize;
-    let mut cases = CellCases {
-        list: Vec::with_capacity(alloc, sizes.count() as usize + nx)?,
-        starts: Vec::with_capacity(alloc, (sizes.ny() * sizes.nz()) as usize)?,
+    let count = (sizes.ny() * sizes.nz()) as usize;
+    Ok(CellCases {
+        rows: SparseRows::new(alloc, sizes.nx() as usize, count)?,
         counts: Counts {
             centres: 0,
             faces: 0,
         },
-    };
-    cases.list.resize(nx, 0)?;
-    Ok(cases)
+    })
 }
 
 /// The cases of all cells.
@@ -305,8 +321,11 @@ pub fn all_cases<H: Heights>(
 {
     let sizes = field.sizes();
     let nx = sizes.nx() as usize;
-    let mut bytes = vec![in alloc; 0u8; (nx + 63) / 64 * 64]?;
+    let mut row = CaseBuffers {
+        bytes: vec![in alloc; 0u8; (nx + 63) / 64 * 64]?,
+        cases: vec![in alloc; 0u16; nx]?,
+    };
     let mut cases = no_cases(alloc, &sizes)?;
-    add_rows(field, signs, &mut bytes, &mut cases)?;
+    add_rows(field, signs, &mut row, &mut cases)?;
     Ok(cases)
 }

@@ -1,14 +1,11 @@
 //! Where the crossing edges of all rows of points are crossed.
-ghost use Rattle.std.specs.Prelude.{◌≡◌, ◌+◌, ◌*◌, ◌<◌, ◌≤◌, ◌^◌, ◌++◌, ◌∷◌, [], All, IfOk, length, take};
-ghost use Rattle.std.specs.List.{sum_by};
-ghost use Rattle.crossing_edges.specs.Flags.{edges_in};
-ghost use Rattle.mesh_rows.specs.Rows.{AreEdges, AreFlags, row_places};
+ghost use Rattle.std.specs.Prelude.{◌≡◌, ◌+◌, ◌*◌, ◌<◌, ◌≤◌, ◌^◌, ◌++◌, ◌∷◌, [], IfOk, false, length, take};
+ghost use Rattle.mesh_rows.specs.Rows.{AreEdges, AreFlags, IsStill, row_places};
 ghost use Rattle.list_mesh.specs.Kept.{AreAllFlags};
 ghost use Rattle.list_mesh.specs.Places.{HaveAllPlaces, HavePlaces};
 
 use crate::field::ListField;
-use crate::slices::{are_all, are_many, flag_row};
-use crossing_edges::count_all_edges;
+use crate::slices::{are_all, flag_row};
 use flat_mesh::Heights;
 use mesh_walk::{ROOM, put_row};
 use samples::Samples;
@@ -137,63 +134,13 @@ fn add_rows<S: Samples>(
     Ok(())
 }
 
-/// How many crossing edges begin at a point of these flags.
-#[inline(always)]
-fn edges_at(flags: u8) -> u8
-    requires { flags < 8 }
-    ensures value { result ≡ edges_in flags }
-    ensures bound { result ≤ 3 }
-{
-    flags % 2 + (flags / 2 % 2 + flags / 4)
-}
-
-/// How many crossing edges begin at the 64 points from a place on: so few that a byte holds it, and many flags are looked at in one
-/// step.
-#[inline(always)]
-fn count_many(flags: &[u8], from: usize) -> u8
-    requires flags { All (λ f. f < 8) flags.now }
-    requires few { length flags.now ≤ 160000000 }
-    requires many { from + 64 ≤ length flags.now }
-    ensures value { sum_by edges_in (take (from + 64) flags.now) ≡ sum_by edges_in (take from flags.now) + result }
-    ensures bound { result ≤ 192 }
-{
-    if are_many(flags, from, 0) {
-        return 0;
-    }
-    let mut count = 0;
-    for i in from..from + 64 {
-        count += edges_at(flags[i]);
-    }
-    count
-}
-
-/// How many crossing edges begin at points of these flags, of which most are 0.
-fn count_edges(flags: &[u8]) -> u32
-    requires flags { All (λ f. f < 8) flags.now }
-    requires few { length flags.now ≤ 160000000 }
-    ensures { result ≡ sum_by edges_in flags.now }
-{
-    let runs = flags.len() / 64;
-    let mut count = 0;
-    for run in 0..runs {
-        count += u32::from(count_many(flags, 64 * run));
-    }
-    count + count_all_edges(&flags[64 * runs..])
-}
-
-/// The places of no rows, with room for those of all and for no more.
-fn no_places<S: Samples>(
-    alloc: Global,
-    field: &ListField<S>,
-    flags: &[u8],
-) -> Result<CrossingPlaces, AllocError>
-    requires { AreAllFlags field.now flags.now }
+/// The places of no rows, with room for some: a list that begins small is copied as it grows.
+fn no_places<S: Samples>(alloc: Global, field: &ListField<S>) -> Result<CrossingPlaces, AllocError>
     ensures { IfOk result (HavePlaces field.now 0) }
 {
     let sizes = field.sizes();
-    let _ = sizes.count();
     Ok(CrossingPlaces {
-        list: Vec::with_capacity(alloc, count_edges(flags) as usize)?,
+        list: Vec::with_capacity(alloc, sizes.count() as usize / 4)?,
         starts: Vec::with_capacity(alloc, (sizes.ny() * sizes.nz()) as usize)?,
     })
 }
@@ -213,7 +160,7 @@ pub fn all_places<S: Samples>(
         edges: [0; ROOM],
         places: [0; ROOM],
     };
-    let mut places = no_places(alloc, field, flags)?;
+    let mut places = no_places(alloc, field)?;
     add_rows(field, flags, &mut row, &mut places)?;
     Ok(places)
 }
@@ -235,4 +182,22 @@ pub fn place_row<'a, H: Heights>(
     let sizes = field.sizes();
     let start = places.starts[(y + sizes.ny() * z) as usize] as usize;
     &places.list[start..start + count]
+}
+
+/// Whether crossing edges begin in a row of points.
+pub fn has_places<H: Heights>(field: &H, places: &CrossingPlaces, y: u32, z: u32) -> bool
+    requires y { y < (H.leveled field.now).grid.ny }
+    requires z { z < (H.leveled field.now).grid.nz }
+    requires places { HaveAllPlaces (H.leveled field.now) places.now }
+    ensures { result ≡ false → IsStill (H.leveled field.now) y z }
+{
+    let sizes = field.sizes();
+    let row = (y + sizes.ny() * z) as usize;
+    let start = places.starts[row] as usize;
+    let end = if row + 1 < places.starts.len() {
+        places.starts[row + 1] as usize
+    } else {
+        places.list.len()
+    };
+    start != end
 }

@@ -5,8 +5,8 @@ ghost use Rattle.iso_base.specs.Samples.{IsSample};
 
 use crate::cases::{CellCases, all_cases};
 use crate::field::ListField;
-use crate::places::{CrossingPlaces, all_places, place_row};
-use crate::slices::{case_row, flag_row};
+use crate::places::{CrossingPlaces, all_places, has_places, place_row};
+use crate::slices::{flag_row, put_case_row};
 use crossing_edges::put_flags;
 use flat_mesh::{Cell, Heights};
 use iso_base::{Level, Memory, Sizes};
@@ -88,8 +88,10 @@ impl<'a, S: Samples> MeshRows for ListRows<'a, S> {
 
     ghost spent = { λ _. 0 };
 
-    // Whether no crossing edge begins in the row is seen by who lists them, in the same time.
     fn fill_flags(&mut self, y: u32, z: u32, flags: &mut [u8]) -> bool {
+        if !has_places(&self.field, &self.places, y, z) {
+            return false;
+        }
         flags.copy_from_slice(flag_row(&self.field, &self.flags, y, z));
         true
     }
@@ -100,7 +102,7 @@ impl<'a, S: Samples> MeshRows for ListRows<'a, S> {
     }
 
     fn fill_cases(&mut self, y: u32, z: u32, cases: &mut [u16]) {
-        cases.copy_from_slice(case_row(&self.field, &self.cases, y, z));
+        put_case_row(&self.field, &self.cases, y, z, cases);
     }
 
     fn count_cells(&mut self) -> Counts {

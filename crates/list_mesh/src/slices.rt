@@ -37,22 +37,21 @@ pub fn sign_row<'a, H: Heights>(field: &H, signs: &'a [u8], y: u32, z: u32) -> &
     &signs[start..start + nx as usize]
 }
 
-/// The cases of a row of cells.
-pub fn case_row<'a, H: Heights>(field: &H, cases: &'a CellCases, y: u32, z: u32) -> &'a [u16]
+/// Fills in the cases of a row of cells.
+pub fn put_case_row<H: Heights>(field: &H, cases: &CellCases, y: u32, z: u32, row: &mut [u16])
     requires y { y + 1 < (H.leveled field.now).grid.ny }
     requires z { z + 1 < (H.leveled field.now).grid.nz }
     requires cases { HaveAllCases (H.leveled field.now) cases.now }
-    ensures count { length result.now ≡ (H.leveled field.now).grid.nx }
-    ensures cases { AreCases (H.leveled field.now) y z result.now }
+    requires count { length row.old ≡ (H.leveled field.now).grid.nx }
+    ensures { AreCases (H.leveled field.now) y z row.new }
 {
     let sizes = field.sizes();
-    let start = cases.starts[(y + sizes.ny() * z) as usize] as usize;
-    &cases.list[start..start + sizes.nx() as usize]
+    cases.rows.fill((y + sizes.ny() * z) as usize, row);
 }
 
 /// Whether the 64 bytes from a place on are this one. `false` is free: where it comes too often, work is lost and no text.
 #[inline(always)]
-pub fn are_many(bytes: &[u8], from: usize, byte: u8) -> bool
+fn are_many(bytes: &[u8], from: usize, byte: u8) -> bool
     requires { from + 64 ≤ length bytes.now }
     ensures { IsTrue result → (k : ℕ) → k < 64 → slice_index bytes.now (from + k) ≡ byte }
 {

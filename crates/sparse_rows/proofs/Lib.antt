@@ -1,0 +1,4 @@
+pub mod Scattering
+pub mod Placing
+pub mod Parts
+pub mod Eights
