@@ -1,6 +1,7 @@
 -- The text of a mesh in a style: its format, and where its coordinates are counted from.
 use Rattle.std.specs.Prelude.{ℕ, ◌+◌, ◌*◌, ℤ, pos, List, [], ◌∷◌, ◌++◌, length, slice_index, true}
 use Rattle.std.specs.List.{flat_map}
+use Rattle.byte_names.specs.Bytes.{space, digit_three, lower_f, lower_v}
 use Rattle.iso_defs.specs.Cell.{Triangle}
 use Rattle.iso_defs.specs.Place.{Position}
 use Rattle.iso_defs.specs.Texts.{line, numbers_text, printed}
@@ -28,7 +29,7 @@ origin_text origin p = coordinates_text (origin_coordinate origin 0 p.0) (origin
 -- what stands before these numbers: OBJ names the line
 abbrev pub vertex_letter : MeshFormat → List ℕ
 vertex_letter Ply = []
-vertex_letter Obj = 118 ∷ 32 ∷ []
+vertex_letter Obj = lower_v ∷ space ∷ []
 vertex_letter Off = []
 vertex_letter Vtk = []
 
@@ -38,10 +39,10 @@ vertex_line style v = line (vertex_letter style.format ++ origin_text style.orig
 
 -- the line of a triangle: OBJ names it and counts vertices from 1, the others say that it has three corners
 unfoldable pub face_line : MeshFormat → Triangle → List ℕ
-face_line Ply t = line (51 ∷ 32 ∷ numbers_text 0 t)
-face_line Obj t = line (102 ∷ 32 ∷ numbers_text 1 t)
-face_line Off t = line (51 ∷ 32 ∷ numbers_text 0 t)
-face_line Vtk t = line (51 ∷ 32 ∷ numbers_text 0 t)
+face_line Ply t = line (digit_three ∷ space ∷ numbers_text 0 t)
+face_line Obj t = line (lower_f ∷ space ∷ numbers_text 1 t)
+face_line Off t = line (digit_three ∷ space ∷ numbers_text 0 t)
+face_line Vtk t = line (digit_three ∷ space ∷ numbers_text 0 t)
 
 -- what stands before the vertices
 abbrev pub head_of : MeshFormat → ℕ → ℕ → List ℕ

@@ -1,5 +1,6 @@
 -- The lines of vertices in the parts that those of a row of points have in common.
 use Rattle.std.specs.Prelude.{◌≡◌, ℕ, ◌+◌, ◌-◌, ◌*◌, ◌/◌, ◌%◌, ◌<◌, ◌≤◌, ◌==◌, Bool, false, cond, if◌then◌else◌, List, [], ◌∷◌, ◌++◌, decimal, slice_index, slice_index_or}
+use Rattle.byte_names.specs.Bytes.{space, minus, dot, digit_zero}
 use Rattle.iso_defs.specs.Place.{Position}
 use Rattle.iso_defs.specs.Texts.{line}
 use Rattle.mesh_text.specs.Pieces.{piece_text}
@@ -43,7 +44,7 @@ whole_size (Window at) axis n = slice_index (at.x ∷ at.y ∷ at.z ∷ []) axis
 
 -- the sign, the number and the point
 abbrev pub whole_text : Origin → ℕ → ℕ → List ℕ
-whole_text origin axis n = cond (is_layer origin n) (45 ∷ []) [] ++ (decimal (whole_size origin axis n) ++ 46 ∷ [])
+whole_text origin axis n = cond (is_layer origin n) (minus ∷ []) [] ++ (decimal (whole_size origin axis n) ++ dot ∷ [])
 
 -- a line up to the decimals of its first number
 abbrev pub front_text : Style → ℕ → List ℕ
@@ -64,19 +65,19 @@ AreFronts style count fronts = (x : ℕ) → x < count → IsPiece (slice_index_
 
 -- the coordinates 1 and 2 with the blanks before them
 abbrev pub y_text : Origin → ℕ → List ℕ
-y_text origin y = 32 ∷ whole_text origin 1 y
+y_text origin y = space ∷ whole_text origin 1 y
 
 abbrev pub z_text : Origin → ℕ → List ℕ
-z_text origin z = 32 ∷ whole_text origin 2 z
+z_text origin z = space ∷ whole_text origin 2 z
 
 -- two pieces have the text of a coordinate along an axis and that of the next one, with the blank before it
 pub record AreWholes (origin : Origin) (axis n : ℕ) (pieces : List (Piece 16)) : Type 0 where
-  pub lower : IsPiece (slice_index_or pieces 0 no_piece) (32 ∷ whole_text origin axis n) 12
-  pub upper : IsPiece (slice_index_or pieces 1 no_piece) (32 ∷ whole_text origin axis (n + 1)) 12
+  pub lower : IsPiece (slice_index_or pieces 0 no_piece) (space ∷ whole_text origin axis n) 12
+  pub upper : IsPiece (slice_index_or pieces 1 no_piece) (space ∷ whole_text origin axis (n + 1)) 12
 
 -- three zeros
 abbrev pub zeros : List ℕ
-zeros = 48 ∷ 48 ∷ 48 ∷ []
+zeros = digit_zero ∷ digit_zero ∷ digit_zero ∷ []
 
 -- what stands between the first number's point and the decimals of a place along an axis
 abbrev pub middle_text : Origin → ℕ → ℕ → ℕ → List ℕ

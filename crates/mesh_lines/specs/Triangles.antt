@@ -1,5 +1,6 @@
 -- The lines of triangles in their parts.
-use Rattle.std.specs.Prelude.{ℕ, ◌+◌, List, decimal}
+use Rattle.std.specs.Prelude.{ℕ, ◌+◌, List, [], ◌∷◌, ◌++◌, decimal}
+use Rattle.byte_names.specs.Bytes.{space}
 use Rattle.iso_base.specs.declared.format.MeshFormat.{MeshFormat}
 use Rattle.iso_base.specs.declared.format.MeshFormat.TheVariants.{Ply, Obj, Off, Vtk}
 
@@ -17,6 +18,6 @@ first_of Obj = 1
 first_of Off = 0
 first_of Vtk = 0
 
--- the text of a corner
+-- the text of a corner, with a blank behind it
 abbrev pub corner_text : MeshFormat → ℕ → List ℕ
-corner_text format n = decimal (first_of format + n)
+corner_text format n = decimal (first_of format + n) ++ space ∷ []

@@ -1,5 +1,6 @@
 //! The parts that the lines of vertices on a row of points have in common, made once for the row.
 ghost use Rattle.std.specs.Prelude.{◌≡◌, ℕ, ◌+◌, ◌*◌, ◌/◌, ◌%◌, ◌==◌, ◌<◌, ◌≤◌, ◌^◌, ◌∷◌, ◌++◌, [], All, cond, false, length, if◌then◌else◌, slice_index};
+ghost use Rattle.byte_names.specs.Bytes.{space, minus};
 ghost use Rattle.iso_defs.specs.Texts.{line};
 ghost use Rattle.mesh_text.specs.Pieces.{piece_text};
 ghost use Rattle.mesh_lines.specs.Lines.{vertex_letter, vertex_line};
@@ -44,7 +45,7 @@ fn whole_size(origin: Origin, axis: usize, whole: u32) -> u64
 /// Puts the sign of a whole coordinate behind a text.
 fn push_sign(piece: &mut Piece<16>, origin: Origin, whole: u32)
     requires { piece.old.len ≤ 2 }
-    ensures text { piece_text piece.new ≡ piece_text piece.old ++ cond (is_layer origin whole) (45 ∷ []) [] }
+    ensures text { piece_text piece.new ≡ piece_text piece.old ++ cond (is_layer origin whole) (minus ∷ []) [] }
     ensures count { piece.new.len ≡ piece.old.len + (if is_layer origin whole then 1 else 0) }
 {
     if is_layer(origin, whole) {
@@ -93,7 +94,7 @@ fn front_of(style: Style, x: u32, digits: &Fours) -> Piece<16>
 fn behind_blank(origin: Origin, axis: usize, whole: u32, digits: &Fours) -> Piece<16>
     requires axis { axis < 3 }
     requires whole { whole ≤ 1027 }
-    ensures text { piece_text result ≡ 32 ∷ whole_text origin axis whole }
+    ensures text { piece_text result ≡ space ∷ whole_text origin axis whole }
     ensures few { result.len ≤ 12 }
 {
     let mut piece = Piece::new();

@@ -5,10 +5,10 @@ ghost use Rattle.mesh_text.specs.Lines.{letter_line};
 ghost use Rattle.mesh_text.specs.Numbers.{IsShort, number_text};
 ghost use Rattle.mesh_lines.specs.Lines.{origin_coordinate, vertex_line};
 ghost use Rattle.mesh_lines.specs.declared.style.Origin.TheVariants.{Window};
-ghost use Rattle.mesh_lines.specs.Triangles.{corner_text, first_of, letter_of};
+ghost use Rattle.mesh_lines.specs.Triangles.{first_of, letter_of};
 
 use iso_base::{MeshFormat, Point, Thousandth};
-use mesh_text::{Lines, Number};
+use mesh_text::{Counter, Lines, Number};
 
 /// A pad's layer along an axis, in thousandths.
 const LAYER: i64 = 1000;
@@ -116,22 +116,12 @@ impl Style {
         }
     }
 
-    /// The text of a corner of triangles.
+    /// Counts corners of triangles in text, from one on.
     #[inline(always)]
-    pub fn corner_text(self, corner: u32, lines: &Lines) -> Number
-        ensures text { number_text result ≡ corner_text self.format corner }
-        ensures short { IsShort result }
+    pub fn count_corners(self, corner: u32, lines: &Lines) -> Counter
+        ensures { result ≡ first_of self.format + corner }
     {
-        lines.number(self.first() + u64::from(corner))
-    }
-
-    /// Sets a text to that of a corner of triangles.
-    #[inline(always)]
-    pub fn set_corner_text(self, corner: u32, lines: &Lines, number: &mut Number)
-        ensures text { number_text number.new ≡ corner_text self.format corner }
-        ensures short { IsShort number.new }
-    {
-        lines.set_number(self.first() + u64::from(corner), number);
+        Counter::from(self.first() + u64::from(corner), lines.digits())
     }
 
     /// Puts the line of a triangle, whose corners' texts are at hand, behind others.

@@ -1,10 +1,11 @@
 -- Heads of OFF and VTK texts.
 use Rattle.std.specs.Prelude.{ℕ, ◌*◌, List, ◌∷◌, ◌++◌, codes, decimal}
+use Rattle.byte_names.specs.Bytes.{space}
 use Rattle.iso_defs.specs.Texts.{counted, counted_twice, line}
 
 -- the two lines of an OFF text before its vertices: the last number is that of edges, which is not told
 unfoldable pub off_head : ℕ → ℕ → List ℕ
-off_head vertices faces = line (codes "OFF") ++ line (decimal vertices ++ 32 ∷ (decimal faces ++ codes " 0"))
+off_head vertices faces = line (codes "OFF") ++ line (decimal vertices ++ space ∷ (decimal faces ++ codes " 0"))
 
 -- the lines of a VTK text before its vertices
 unfoldable pub vtk_head : ℕ → List ℕ

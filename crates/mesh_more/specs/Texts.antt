@@ -1,6 +1,7 @@
 -- Meshes as OFF and VTK texts, and in each format with their positions moved.
 use Rattle.std.specs.Prelude.{ℕ, ◌+◌, ◌*◌, List, ◌∷◌, ◌++◌, length, map, false}
 use Rattle.std.specs.List.{flat_map}
+use Rattle.byte_names.specs.Bytes.{space, digit_three}
 use Rattle.iso_defs.specs.Cell.{Triangle}
 use Rattle.iso_defs.specs.Place.{Position}
 use Rattle.iso_defs.specs.Texts.{line, position_text, numbers_text, ply_text, obj_text}
@@ -13,7 +14,7 @@ abbrev pub vertex_lines : List (ℕ × Position) → List ℕ
 vertex_lines vs = flat_map (λ (v : ℕ × Position). line (position_text false v.1)) vs
 
 abbrev pub face_lines : List Triangle → List ℕ
-face_lines ts = flat_map (λ (t : Triangle). line (51 ∷ 32 ∷ numbers_text 0 t)) ts
+face_lines ts = flat_map (λ (t : Triangle). line (digit_three ∷ space ∷ numbers_text 0 t)) ts
 
 -- a mesh as OFF
 abbrev pub off_text : List (ℕ × Position) → List Triangle → List ℕ

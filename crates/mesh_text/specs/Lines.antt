@@ -1,9 +1,10 @@
 -- Lines of mesh texts.
-use Rattle.std.specs.Prelude.{ℕ, ◌+◌, ◌*◌, List, ◌∷◌, ◌++◌, codes, decimal, ℤ, pos, slice_index, slice_index_or}
-use Rattle.iso_defs.specs.Texts.{line, decimal_text, thousandths, numbers_text, vertex_head, face_head}
+use Rattle.std.specs.Prelude.{ℕ, ◌+◌, List, ◌∷◌, ◌++◌, codes, decimal, ℤ, pos, slice_index, slice_index_or}
+use Rattle.byte_names.specs.Bytes.{space, digit_three, lower_f, lower_v}
+use Rattle.iso_defs.specs.Texts.{line, decimal_text, numbers_text, vertex_head, face_head}
 use Rattle.iso_base.specs.Triangles.{triangle_of}
 use Rattle.iso_base.specs.declared.decimal.Thousandth.{Thousandth}
-use Rattle.mesh_text.specs.declared.split.Split.{Split}
+use Rattle.mesh_text.specs.Numbers.{numbers_line}
 
 -- the coordinate along an axis
 abbrev pub along : List Thousandth → ℕ → ℤ
@@ -11,35 +12,27 @@ along at axis = (slice_index_or at axis (record { 0 = pos 0 })).0
 
 -- the three coordinates of a vertex
 abbrev pub coordinates_text : ℤ → ℤ → ℤ → List ℕ
-coordinates_text x y z = decimal_text x ++ 32 ∷ (decimal_text y ++ 32 ∷ decimal_text z)
+coordinates_text x y z = decimal_text x ++ space ∷ (decimal_text y ++ space ∷ decimal_text z)
 
 -- the line of a vertex in PLY
 abbrev pub ply_vertex_line : List Thousandth → List ℕ
 ply_vertex_line at = line (coordinates_text (along at 0) (along at 1) (along at 2))
 
--- the coordinate along an axis of a point whose coordinates are split, in thousandths
-abbrev pub joined : Split → ℕ → ℕ
-joined at axis = 1000 * slice_index at.whole axis + slice_index at.rest axis
-
--- its line in PLY
-abbrev pub point_line : Split → List ℕ
-point_line at = line (thousandths (joined at 0) ++ 32 ∷ (thousandths (joined at 1) ++ 32 ∷ thousandths (joined at 2)))
-
 -- the line of a vertex in OBJ
 abbrev pub obj_vertex_line : List Thousandth → List ℕ
-obj_vertex_line at = line (118 ∷ 32 ∷ coordinates_text (along at 0) (along at 1) (along at 2))
+obj_vertex_line at = line (lower_v ∷ space ∷ coordinates_text (along at 0) (along at 1) (along at 2))
 
 -- the line of a face in PLY, its corners counted from 0
 abbrev pub ply_face_line : List ℕ → List ℕ
-ply_face_line corners = line (51 ∷ 32 ∷ numbers_text 0 (triangle_of corners))
+ply_face_line corners = line (digit_three ∷ space ∷ numbers_text 0 (triangle_of corners))
 
 -- the line of a face in OBJ, its corners counted from 1
 abbrev pub obj_face_line : List ℕ → List ℕ
-obj_face_line corners = line (102 ∷ 32 ∷ numbers_text 1 (triangle_of corners))
+obj_face_line corners = line (lower_f ∷ space ∷ numbers_text 1 (triangle_of corners))
 
--- the line of a letter and of the texts of three numbers
+-- the line of a letter and of the texts of three numbers, each with a blank behind it
 abbrev pub letter_line : ℕ → List ℕ → List ℕ → List ℕ → List ℕ
-letter_line letter a b c = line (letter ∷ 32 ∷ (a ++ 32 ∷ (b ++ 32 ∷ c)))
+letter_line letter a b c = letter ∷ space ∷ numbers_line a b c
 
 -- the head of a PLY text of vertices alone
 unfoldable pub points_head : ℕ → List ℕ

@@ -1,6 +1,7 @@
 //! Numbers and coordinates, written from a place of a text on: each call gives the place behind what it wrote.
 
 ghost use Rattle.std.specs.Prelude.{◌≡◌, ◌+◌, ◌*◌, ◌≤◌, ◌<◌, ◌^◌, ◌∷◌, ◌++◌, [], take, length, decimal, unsigned_abs};
+ghost use Rattle.byte_names.specs.Bytes.{space, minus};
 ghost use Rattle.iso_defs.specs.Texts.{decimal_text, thousandths, three_digits, numbers_text, line};
 ghost use Rattle.iso_base.specs.Triangles.{triangle_of};
 ghost use Rattle.mesh_text.specs.Lines.{along, coordinates_text};
@@ -31,7 +32,7 @@ fn put_negative<D: Digits>(digits: &D, size: u64, room: &mut [u8], at: usize) ->
     requires space { at + 18 ≤ length room.old }
     ensures end { result ≤ at + 17 }
     ensures behind { at ≤ result }
-    ensures written { take result room.new ≡ take at room.old ++ 45 ∷ thousandths size }
+    ensures written { take result room.new ≡ take at room.old ++ minus ∷ thousandths size }
 {
     let at = put_byte(b'-', room, at);
     put_thousandths(digits, size, room, at)
@@ -121,7 +122,7 @@ fn put_three<D: Digits>(digits: &D, a: u64, b: u64, c: u64, room: &mut [u8], at:
     ensures end { result ≤ at + 39 }
     ensures behind { at ≤ result }
     ensures written { take result room.new ≡ take at room.old
-        ++ line (decimal a ++ 32 ∷ (decimal b ++ 32 ∷ decimal c)) }
+        ++ line (decimal a ++ space ∷ (decimal b ++ space ∷ decimal c)) }
 {
     let at = digits.put_number(a, room, at);
     let at = put_byte(b' ', room, at);
@@ -161,7 +162,7 @@ pub fn put_numbers<D: Digits>(
 pub fn put_letter(letter: u8, room: &mut [u8], at: usize) -> usize
     requires space { at + 2 ≤ length room.old }
     ensures end { result ≡ at + 2 }
-    ensures written { take result room.new ≡ take at room.old ++ letter ∷ 32 ∷ [] }
+    ensures written { take result room.new ≡ take at room.old ++ letter ∷ space ∷ [] }
 {
     let at = put_byte(letter, room, at);
     put_byte(b' ', room, at)

@@ -1,3 +1,5 @@
+//! The formats of meshes that are both read and written.
+
 /// A format of meshes that is both read and written: what `extract` and sessions write, `check` reads.
 #[derive(Clone, Copy, Debug, PartialEq, Eq)]
 pub enum TwoWayFormat {

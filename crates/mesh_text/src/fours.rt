@@ -1,11 +1,9 @@
 //! The digits of the numbers below 10,000, four to a number.
 
-ghost use Rattle.std.specs.Prelude.{◌≡◌, ◌+◌, ◌*◌, ◌≤◌, ◌<◌, ◌^◌, ◌++◌, All, take, drop, length, decimal};
-ghost use Rattle.iso_defs.specs.Texts.{thousandths, three_digits};
+ghost use Rattle.std.specs.Prelude.{◌≡◌, ◌+◌, ◌*◌, ◌≤◌, ◌<◌, ◌^◌, ◌++◌, take, drop, length, decimal};
+ghost use Rattle.iso_defs.specs.Texts.{three_digits};
 ghost use Rattle.mesh_text.specs.Fours.{AreCounts, AreFours, four_digits};
-ghost use Rattle.mesh_text.specs.Lines.{point_line};
 
-use crate::split::Split;
 use number_digits::{Digits, count_short, put_array, put_byte};
 use std::marker::Model;
 
@@ -153,40 +151,6 @@ pub(crate) fn put_last_three(fours: &Fours, n: u64, room: &mut [u8], at: usize) 
 {
     put_four_bytes(&fours.bytes, 4 * n as usize + 1, room, at);
     at + 3
-}
-
-/// Writes a coordinate from its whole part and its thousandths.
-#[inline(always)]
-fn put_split(fours: &Fours, whole: u32, rest: u32, room: &mut [u8], at: usize) -> usize
-    requires whole { whole < 10000 }
-    requires rest { rest < 1000 }
-    requires space { at + 9 ≤ length room.old }
-    ensures end { result ≤ at + 8 }
-    ensures behind { at ≤ result }
-    ensures written { take result room.new ≡ take at room.old ++ thousandths (1000 * whole + rest) }
-{
-    let at = put_short(fours, u64::from(whole), room, at);
-    let at = put_byte(b'.', room, at);
-    put_last_three(fours, u64::from(rest), room, at)
-}
-
-/// Writes the coordinates of a point and the end of its line.
-#[inline(always)]
-pub(crate) fn put_point_line(fours: &Fours, point: &Split, room: &mut [u8], at: usize) -> usize
-    requires whole { All (λ n. n < 10000) point.now.whole }
-    requires rest { All (λ n. n < 1000) point.now.rest }
-    requires space { at + 27 ≤ length room.old }
-    ensures end { result ≤ at + 27 }
-    ensures behind { at ≤ result }
-    ensures written { take result room.new ≡ take at room.old ++ point_line point.now }
-{
-    let (whole, rest) = (point.whole, point.rest);
-    let at = put_split(fours, whole[0], rest[0], room, at);
-    let at = put_byte(b' ', room, at);
-    let at = put_split(fours, whole[1], rest[1], room, at);
-    let at = put_byte(b' ', room, at);
-    let at = put_split(fours, whole[2], rest[2], room, at);
-    put_byte(b'\n', room, at)
 }
 
 /// The digits of each number below 10,000, four to a number, and how many it has: numbers are written four digits at a

@@ -1,3 +1,5 @@
+//! One line of a mesh text.
+
 ghost use Rattle.std.specs.Prelude.{◌≡◌, ◌≤◌, length};
 
 use std::marker::Model;

@@ -1,15 +1,16 @@
-ghost use Rattle.std.specs.Prelude.{◌≡◌, ◌+◌, ◌<◌, ◌≤◌, ◌^◌, ◌++◌, [], All, IsTrue, length, decimal, unsigned_abs, ◌↔◌};
+//! Lines that are gathered in a buffer, with the tables that their numbers are made of.
+
+ghost use Rattle.std.specs.Prelude.{◌≡◌, ◌+◌, ◌<◌, ◌≤◌, ◌^◌, ◌++◌, [], All, length, decimal, unsigned_abs};
 ghost use Rattle.mesh_text.specs.Pieces.{parts_line, thirds_line};
-ghost use Rattle.mesh_text.specs.Lines.{along, letter_line, obj_face_line, obj_vertex_line, ply_face_line, ply_vertex_line, point_line};
+ghost use Rattle.mesh_text.specs.Lines.{along, letter_line, obj_face_line, obj_vertex_line, ply_face_line, ply_vertex_line};
 ghost use Rattle.mesh_text.specs.Numbers.{IsShort, number_text};
 
 use crate::digits::put_letter;
-use crate::fours::{Fours, put_last_three, put_point_line};
+use crate::fours::{Fours, put_last_three};
 use crate::number::{Number, put_line};
 use crate::obj::{write_obj_face, write_obj_vertex};
 use crate::piece::Piece;
 use crate::ply::{write_ply_face, write_ply_vertex};
-use crate::split::Split;
 use iso_base::Thousandth;
 use number_digits::put_byte;
 use std::marker::Model;
@@ -68,14 +69,6 @@ impl Lines {
         self.end
     }
 
-    /// Whether there is room for one more line.
-    #[inline(always)]
-    pub fn has_room(&self) -> bool
-        ensures { IsTrue result ↔ (length self.now + 64 ≤ 4096) }
-    {
-        self.end <= PAGE - 64
-    }
-
     /// Lets all lines go.
     #[inline(always)]
     pub fn clear(&mut self)
@@ -95,18 +88,6 @@ impl Lines {
         ensures few { length self.new ≤ length self.old + 64 }
     {
         self.end = write_ply_vertex(&self.digits, vertex, &mut self.bytes, self.end);
-    }
-
-    /// The same of a point whose coordinates are split: none is below zero or has more than four digits before its point.
-    #[inline(always)]
-    pub fn push_ply_point(&mut self, point: &Split)
-        requires whole { All (λ n. n < 10000) point.now.whole }
-        requires rest { All (λ n. n < 1000) point.now.rest }
-        requires room { length self.old + 64 ≤ 4096 }
-        ensures line { self.new ≡ self.old ++ point_line point.now }
-        ensures few { length self.new ≤ length self.old + 64 }
-    {
-        self.end = put_point_line(&self.digits, point, &mut self.bytes, self.end);
     }
 
     /// Puts the line of a vertex in OBJ behind the others.
@@ -140,16 +121,6 @@ impl Lines {
         ensures few { length self.new ≤ length self.old + 64 }
     {
         self.end = write_obj_face(&self.digits, corners, &mut self.bytes, self.end);
-    }
-
-    /// The text of a number, out of the table.
-    #[inline(always)]
-    pub fn number(&self, n: u64) -> Number
-        requires { n < 10 ^ 11 }
-        ensures text { number_text result ≡ decimal n }
-        ensures short { IsShort result }
-    {
-        Number::of(&self.digits, n)
     }
 
     /// The table of digits.
@@ -194,16 +165,6 @@ impl Lines {
         let end = z.put(&mut self.bytes, end);
         let end = put_last_three(&self.digits, u64::from(at[2]), &mut self.bytes, end);
         self.end = put_byte(b'\n', &mut self.bytes, end);
-    }
-
-    /// Sets a text to that of a number, out of the table.
-    #[inline(always)]
-    pub fn set_number(&self, n: u64, number: &mut Number)
-        requires { n < 10 ^ 11 }
-        ensures text { number_text number.new ≡ decimal n }
-        ensures short { IsShort number.new }
-    {
-        number.set(&self.digits, n);
     }
 
     /// Puts the line of a letter and three numbers behind the others.

@@ -1,17 +1,21 @@
+//! Texts of numbers that are put into lines more than once.
+
 ghost use Rattle.std.specs.Prelude.{◌≡◌, ◌+◌, ◌≤◌, ◌<◌, ◌^◌, ◌∷◌, ◌++◌, [], take, length, decimal};
-ghost use Rattle.iso_defs.specs.Texts.{line};
-ghost use Rattle.mesh_text.specs.Numbers.{IsShort, number_text};
+ghost use Rattle.byte_names.specs.Bytes.{space};
+ghost use Rattle.mesh_text.specs.Numbers.{IsShort, number_text, numbers_line};
 
 use number_digits::{Digits, put_array, put_byte};
 
 /// The bytes of an array in which a number's digits stand: it is moved at once.
-const ROOM: usize = 16;
+pub(crate) const ROOM: usize = 16;
 
-/// The text of a number, to be put into lines more than once.
+/// The place of the byte that says how long a text is.
+const LENGTH: usize = 15;
+
+/// The digits of a number and a blank behind them, to be put into lines more than once. The last byte says how many they are.
 #[derive(Clone, Copy)]
 pub struct Number {
-    bytes: [u8; ROOM],
-    len: usize,
+    pub(crate) bytes: [u8; ROOM],
 }
 
 impl Number {
@@ -19,32 +23,28 @@ impl Number {
     pub fn none() -> Number
         ensures { number_text result ≡ [] }
     {
-        Number {
-            bytes: [0; ROOM],
-            len: 0,
-        }
+        Number { bytes: [0; ROOM] }
+    }
+
+    /// Ends the text behind the digits that stand at its front. They are written where they stay, since a copy of so few bytes
+    /// would wait for them.
+    #[inline(always)]
+    pub(crate) fn end_at(&mut self, end: usize)
+        requires { end ≤ 11 }
+        ensures { number_text self.new ≡ take end self.old.bytes ++ space ∷ [] }
+    {
+        self.bytes[end] = b' ';
+        self.bytes[LENGTH] = end as u8 + 1;
     }
 
     /// Sets the text.
     #[inline(always)]
     pub(crate) fn set<D: Digits>(&mut self, digits: &D, n: u64)
-        requires { n < 10 ^ 11 }
-        ensures text { number_text self.new ≡ decimal n }
-        ensures short { IsShort self.new }
+        requires { n < 10 ^ 10 }
+        ensures { number_text self.new ≡ decimal n ++ space ∷ [] }
     {
-        self.len = digits.put_number(n, &mut self.bytes, 0);
-    }
-
-    /// The text of a number.
-    #[inline(always)]
-    pub(crate) fn of<D: Digits>(digits: &D, n: u64) -> Number
-        requires { n < 10 ^ 11 }
-        ensures text { number_text result ≡ decimal n }
-        ensures short { IsShort result }
-    {
-        let mut number = Number::none();
-        number.set(digits, n);
-        number
+        let end = digits.put_number(n, &mut self.bytes, 0);
+        self.end_at(end);
     }
 
     /// Writes the text.
@@ -52,31 +52,28 @@ impl Number {
     pub(crate) fn put(&self, room: &mut [u8], at: usize) -> usize
         requires short { IsShort self.now }
         requires space { at + 16 ≤ length room.old }
-        ensures end { result ≤ at + 12 }
-        ensures behind { at ≤ result }
+        ensures end { result ≡ at + length (number_text self.now) }
         ensures written { take result room.new ≡ take at room.old ++ number_text self.now }
     {
         put_array(&self.bytes, room, at);
-        at + self.len
+        at + self.bytes[LENGTH] as usize
     }
 }
 
-/// Writes three numbers and the end of their line.
+/// Writes three numbers and the end of their line, over the blank behind the last one.
 #[inline(always)]
 pub(crate) fn put_line(a: &Number, b: &Number, c: &Number, room: &mut [u8], at: usize) -> usize
     requires first { IsShort a.now }
     requires second { IsShort b.now }
     requires third { IsShort c.now }
-    requires space { at + 44 ≤ length room.old }
-    ensures end { result ≤ at + 39 }
+    requires space { at + 40 ≤ length room.old }
+    ensures end { result ≤ at + 36 }
     ensures behind { at ≤ result }
     ensures written { take result room.new
-        ≡ take at room.old ++ line (number_text a.now ++ 32 ∷ (number_text b.now ++ 32 ∷ number_text c.now)) }
+        ≡ take at room.old ++ numbers_line (number_text a.now) (number_text b.now) (number_text c.now) }
 {
     let at = a.put(room, at);
-    let at = put_byte(b' ', room, at);
     let at = b.put(room, at);
-    let at = put_byte(b' ', room, at);
     let at = c.put(room, at);
-    put_byte(b'\n', room, at)
+    put_byte(b'\n', room, at - 1)
 }

@@ -1,7 +1,7 @@
 -- The lines of triangles, loop by loop and cell by cell.
-use Rattle.std.proofs.Common.{◌≡◌, ℕ, ◌+◌, ◌*◌, ◌≤◌, Bool, true, false, cond, List, [], ◌∷◌, ◌++◌, map, length, refl, sym, ◌∙◌, ap, arith, ltb, zero-add, append-nil}
+use Rattle.std.proofs.Common.{◌≡◌, ℕ, ◌+◌, ◌-◌, ◌*◌, ◌≤◌, Bool, true, false, cond, List, [], ◌∷◌, ◌++◌, map, take, length, refl, sym, ◌∙◌, ap, arith, ltb, zero-add, append-nil, append_assoc}
 use Rattle.std.specs.List.{count_by, enumerate_from, filter, flat_map, sum_by}
-use Rattle.std.proofs.lemmas.List.{length-map}
+use Rattle.std.proofs.lemmas.List.{length-append, length-map, take_at}
 use Rattle.std.proofs.lemmas.List.Concat.{flat_map-append}
 use Rattle.std.proofs.lemmas.List.Sums.{sum_by-cons}
 use Rattle.iso_defs.specs.Lists.{below}
@@ -19,7 +19,9 @@ use Rattle.flat_mesh.specs.Faces.{cell_faces, centres_of, corners_of, loops_at}
 use Rattle.flat_mesh.specs.Found.{centres_below, numbered}
 use Rattle.flat_mesh.specs.Numbers.{AreNumbers}
 use Rattle.flat_mesh.proofs.CellAdds.{no_triangles, triangles_are}
+use Rattle.iso_defs.specs.Texts.{line}
 use Rattle.mesh_text.specs.Lines.{letter_line}
+use Rattle.mesh_text.specs.Numbers.{numbers_line}
 use Rattle.iso_base.specs.declared.format.MeshFormat.{MeshFormat}
 use Rattle.iso_base.specs.declared.format.MeshFormat.TheVariants.{Ply, Obj, Off, Vtk}
 use Rattle.mesh_lines.specs.Lines.{face_line}
@@ -44,13 +46,21 @@ pub one_line : (format : MeshFormat) (t : List ℕ) → face_line format (triang
 unfolding face_lines
 one_line format t = sym (append-nil (face_line format (triangle_of t)))
 
+-- a text less the blank behind it
+unblanked : (d : List ℕ) → take (length (d ++ 32 ∷ []) - 1) (d ++ 32 ∷ []) ≡ d
+unblanked d = take_at d (32 ∷ []) (length (d ++ 32 ∷ []) - 1) (omega (arith, length-append d (32 ∷ [])))
+
+-- the line of three texts with a blank behind each
+numbers_ended : (a b d : List ℕ) → numbers_line (a ++ 32 ∷ []) (b ++ 32 ∷ []) (d ++ 32 ∷ []) ≡ line (a ++ 32 ∷ (b ++ 32 ∷ d))
+numbers_ended a b d = ap (λ (l : List ℕ). (a ++ 32 ∷ []) ++ ((b ++ 32 ∷ []) ++ line l)) (unblanked d) ∙ simp append_assoc
+
 -- the line of the texts of a triangle's corners
 of_texts : (format : MeshFormat) (x y z : ℕ) → letter_line (letter_of format) (corner_text format x) (corner_text format y) (corner_text format z) ≡ face_line format (x, y, z)
 unfolding face_line
-of_texts Ply x y z = refl
-of_texts Obj x y z = refl
-of_texts Off x y z = refl
-of_texts Vtk x y z = refl
+of_texts Ply x y z = ap (λ (l : List ℕ). 51 ∷ 32 ∷ l) (numbers_ended _ _ _)
+of_texts Obj x y z = ap (λ (l : List ℕ). 102 ∷ 32 ∷ l) (numbers_ended _ _ _)
+of_texts Off x y z = ap (λ (l : List ℕ). 51 ∷ 32 ∷ l) (numbers_ended _ _ _)
+of_texts Vtk x y z = ap (λ (l : List ℕ). 51 ∷ 32 ∷ l) (numbers_ended _ _ _)
 
 pub texts_put : (format : MeshFormat) (before after : Gathered) (a b c : List ℕ) (x y z : ℕ) → a ≡ corner_text format x → b ≡ corner_text format y → c ≡ corner_text format z
     → IsBehind before after (letter_line (letter_of format) a b c) → IsBehind before after (face_lines format ((x ∷ y ∷ z ∷ []) ∷ []))

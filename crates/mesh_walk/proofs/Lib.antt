@@ -7,6 +7,7 @@ pub mod AnyName
 pub mod EdgeLines
 pub mod RowNames
 pub mod FlagBits
+pub mod PairEdges
 pub mod CellRuns
 pub mod FaceLines
 pub mod TextSlots

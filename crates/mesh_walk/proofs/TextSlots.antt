@@ -1,8 +1,8 @@
 -- The texts of the numbers of edges in their slots.
-use Rattle.std.proofs.Common.{◌≡◌, ℕ, ◌+◌, ◌*◌, ◌^◌, ◌<◌, ◌≤◌, All, true, inl, inr, List, [], map, set, length, get_or, sym, ◌∙◌, ap, subst, arith, zero-add}
+use Rattle.std.proofs.Common.{◌≡◌, ℕ, ◌+◌, ◌*◌, ◌^◌, ◌<◌, ◌≤◌, All, true, inl, inr, List, [], ◌∷◌, map, set, length, decimal, get_or, sym, ◌∙◌, ap, subst, arith, zero-add}
 use Rattle.std.proofs.lemmas.Bool.{cases_lt}
 use Rattle.std.proofs.lemmas.Fmt.{length-decimal-le}
-use Rattle.std.proofs.lemmas.List.{get_or-map, get_or-set_other, get_or-set_same, get_or_default}
+use Rattle.std.proofs.lemmas.List.{length-append, get_or-map, get_or-set_other, get_or-set_same, get_or_default}
 use Rattle.std.proofs.lemmas.List.FromFn.{get_or-map-range_with_len}
 use Rattle.iso_defs.specs.Cell.{cell_edge, cell_signs, crosses}
 use Rattle.iso_defs.specs.Grid.{name_bound}
@@ -26,9 +26,9 @@ use Rattle.flat_mesh.proofs.FirstNumbers.{rank_low}
 use Rattle.flat_mesh.proofs.Loops.{loop_crosses, loop_is}
 use Rattle.mesh_rows.specs.Rows.{AreEdges}
 use Rattle.mesh_text.specs.declared.number.Number.{Number}
-use Rattle.mesh_text.specs.Numbers.{number_text, text_at}
+use Rattle.mesh_text.specs.Numbers.{IsShort, number_text, text_at}
 use Rattle.mesh_lines.specs.declared.style.Style.{Style}
-use Rattle.mesh_lines.specs.Triangles.{corner_text}
+use Rattle.mesh_lines.specs.Triangles.{corner_text, first_of}
 use Rattle.mesh_walk.specs.declared.faces.CellTexts.{CellTexts}
 use Rattle.mesh_walk.specs.Slots.{AreApart}
 use Rattle.mesh_walk.specs.Texts.{AreTexts, AreTextsAround, HasText, cell_slot, cell_text}
@@ -38,10 +38,10 @@ use Rattle.mesh_walk.proofs.SlotRows.{edge_laid, slot_low}
 -- one text more is set
 module _ (texts new : List Number) (at : ℕ) (n : Number) (here : at < length texts) (set_is : new ≡ set texts at n) where
   pub text_set : text_at new at ≡ number_text n
-  text_set = ap (λ l. text_at l at) set_is ∙ ap number_text (get_or-set_same texts at n (record { bytes = []; len = 0 }) here)
+  text_set = ap (λ l. text_at l at) set_is ∙ ap number_text (get_or-set_same texts at n (record { bytes = [] }) here)
 
   pub text_kept : (k : ℕ) → ¬ (k ≡ at) → text_at new k ≡ text_at texts k
-  text_kept k other = ap (λ l. text_at l k) set_is ∙ ap number_text (get_or-set_other texts at k n (record { bytes = []; len = 0 }) other)
+  text_kept k other = ap (λ l. text_at l k) set_is ∙ ap number_text (get_or-set_other texts at k n (record { bytes = [] }) other)
 
 -- the texts of the first edges of a list are set
 pub record AreSet (format : MeshFormat) (number first : ℕ) (edges : List ℕ) (old new : List Number) (count : ℕ) : Type 0 where
@@ -81,11 +81,28 @@ edges_apart v y z edges are = record {
 }
 
 -- the text of a number is short
-pub short_text : (format : MeshFormat) (n : ℕ) → n < 2 ^ 32 → length (corner_text format n) ≤ 12
-short_text Ply n low = let k = length-decimal-le 11 (0 + n) (omega arith) (omega arith) (omega arith) in omega (arith, k)
-short_text Obj n low = let k = length-decimal-le 11 (1 + n) (omega arith) (omega arith) (omega arith) in omega (arith, k)
-short_text Off n low = let k = length-decimal-le 11 (0 + n) (omega arith) (omega arith) (omega arith) in omega (arith, k)
-short_text Vtk n low = let k = length-decimal-le 11 (0 + n) (omega arith) (omega arith) (omega arith) in omega (arith, k)
+pub first_few : (format : MeshFormat) → first_of format ≤ 1
+first_few Ply = omega arith
+first_few Obj = omega arith
+first_few Off = omega arith
+first_few Vtk = omega arith
+
+pub record IsBrief (text : List ℕ) : Type 0 where
+  pub some : 1 ≤ length text
+  pub few : length text ≤ 12
+
+pub short_text : (format : MeshFormat) (n : ℕ) → n < 2 ^ 32 → IsBrief (corner_text format n)
+short_text format n low =
+    let first = first_few format in
+    let digits : List ℕ = decimal (first_of format + n) in
+    let k = length-decimal-le 11 (first_of format + n) (omega arith) (omega (arith, first, low)) (omega (arith, first, low)) in
+    let all = length-append digits (32 ∷ []) in
+    record { some = omega (arith, all); few = omega (arith, all, k) }
+
+pub short_number : (format : MeshFormat) (n : ℕ) (number : Number) → n < 2 ^ 32 → number_text number ≡ corner_text format n → IsShort number
+short_number format n number low is =
+    let brief = subst IsBrief (sym is) (short_text format n low) in
+    record { some = brief.some; few = brief.few }
 
 -- the text of a vertex of a loop
 pub text_there : (format : MeshFormat) (cell : CellTexts) (numbers edges text : List ℕ) (k e : ℕ) → AreTexts format cell numbers edges → k < length edges → e ≡ get_or edges k 0
@@ -126,7 +143,8 @@ module _ (v : Leveled) (is : IsGrid v.grid) (style : Style) (cell : Cell) (h : I
     has_text = record {
       edge = low;
       slot = omega (arith, slot_is e low, are.each e low, slot_low cell.low.y cell.low.z e low, h.x, is.x.most);
-      short = subst (λ l. length l ≤ 12) (sym text_is) (short_text style.format (number v cell.index e) number_low);
+      some = (subst IsBrief (sym text_is) (short_text style.format (number v cell.index e) number_low)).some;
+      few = (subst IsBrief (sym text_is) (short_text style.format (number v cell.index e) number_low)).few;
     }
 
   module _ (ls : List (List ℕ)) (same : ls ≡ loops_at v cell.index) where

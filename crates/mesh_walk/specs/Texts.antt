@@ -30,7 +30,8 @@ cell_text cell e = text_at cell.texts.now (cell_slot cell e)
 pub record HasText (cell : CellTexts) (e : ℕ) : Type 0 where
   pub edge : e < 12
   pub slot : cell_slot cell e < 12312
-  pub short : length (cell_text cell e) ≤ 12
+  pub some : 1 ≤ length (cell_text cell e)
+  pub few : length (cell_text cell e) ≤ 12
 
 -- the texts of the edges of a loop are those of these numbers
 abbrev pub AreTexts : MeshFormat → CellTexts → List ℕ → List ℕ → Type 0

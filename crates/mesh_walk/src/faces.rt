@@ -57,7 +57,8 @@ fn put_fan(style: Style, texts: CellTexts<'_>, edges: &[u8], centre: u32, block:
     ensures few { block.new.page ≤ block.old.page + 768 }
     ensures bytes { block.new.total ≤ block.old.total + 768 }
 {
-    let centre_text = block.corner_text(style, centre);
+    let mut centre_text = Number::none();
+    block.set_next(&mut block.count_corners(style, centre), &mut centre_text);
     let first = texts.text(edges[0]);
     let mut last = first;
     for i in 1..edges.len() {

@@ -1,8 +1,6 @@
 //! The crossing edges of a row of points, listed by their offsets from the flags.
-ghost use Rattle.std.specs.Prelude.{◌≡◌, ℕ, ◌+◌, ◌-◌, ◌*◌, ◌^◌, ◌<◌, ◌≤◌, ◌++◌, ◌∷◌, [], All, IsTrue, cond, length, slice_index, take};
-ghost use Rattle.std.specs.Int.{trailing_zeros, w64};
+ghost use Rattle.std.specs.Prelude.{◌≡◌, ℕ, ◌+◌, ◌-◌, ◌*◌, ◌%◌, ◌^◌, ◌<◌, ◌≤◌, ◌++◌, ◌∷◌, [], All, IsTrue, cond, length, map, slice_index, take};
 ghost use Rattle.mesh_walk.specs.Edges.{edges_among, edges_at};
-ghost use Rattle.mesh_walk.specs.declared.offsets.TheConstants.{OFFSETS};
 
 use std::simd::prelude::*;
 
@@ -54,12 +52,125 @@ fn put_points(flags: &[u8], from: usize, end: usize, edges: &mut [u16; ROOM], at
     at
 }
 
-/// How far the edges of eight points are in their row, by the bits of their flags as one number: a point has three of eight bits.
-const OFFSETS: [u16; 64] = [
-    0, 1, 2, 0, 0, 0, 0, 0, 3, 4, 5, 0, 0, 0, 0, 0, 6, 7, 8, 0, 0, 0, 0, 0, 9, 10, 11, 0, 0, 0, 0,
-    0, 12, 13, 14, 0, 0, 0, 0, 0, 15, 16, 17, 0, 0, 0, 0, 0, 18, 19, 20, 0, 0, 0, 0, 0, 21, 22, 23,
-    0, 0, 0, 0, 0,
+/// How far the crossing edges of two points are in their row, by their flags: those of the second count eightfold. As many
+/// stand at the front of eight numbers as the next table says.
+static PAIRS: [[u16; 8]; 64] = [
+    [0, 0, 0, 0, 0, 0, 0, 0],
+    [0, 0, 0, 0, 0, 0, 0, 0],
+    [1, 0, 0, 0, 0, 0, 0, 0],
+    [0, 1, 0, 0, 0, 0, 0, 0],
+    [2, 0, 0, 0, 0, 0, 0, 0],
+    [0, 2, 0, 0, 0, 0, 0, 0],
+    [1, 2, 0, 0, 0, 0, 0, 0],
+    [0, 1, 2, 0, 0, 0, 0, 0],
+    [3, 0, 0, 0, 0, 0, 0, 0],
+    [0, 3, 0, 0, 0, 0, 0, 0],
+    [1, 3, 0, 0, 0, 0, 0, 0],
+    [0, 1, 3, 0, 0, 0, 0, 0],
+    [2, 3, 0, 0, 0, 0, 0, 0],
+    [0, 2, 3, 0, 0, 0, 0, 0],
+    [1, 2, 3, 0, 0, 0, 0, 0],
+    [0, 1, 2, 3, 0, 0, 0, 0],
+    [4, 0, 0, 0, 0, 0, 0, 0],
+    [0, 4, 0, 0, 0, 0, 0, 0],
+    [1, 4, 0, 0, 0, 0, 0, 0],
+    [0, 1, 4, 0, 0, 0, 0, 0],
+    [2, 4, 0, 0, 0, 0, 0, 0],
+    [0, 2, 4, 0, 0, 0, 0, 0],
+    [1, 2, 4, 0, 0, 0, 0, 0],
+    [0, 1, 2, 4, 0, 0, 0, 0],
+    [3, 4, 0, 0, 0, 0, 0, 0],
+    [0, 3, 4, 0, 0, 0, 0, 0],
+    [1, 3, 4, 0, 0, 0, 0, 0],
+    [0, 1, 3, 4, 0, 0, 0, 0],
+    [2, 3, 4, 0, 0, 0, 0, 0],
+    [0, 2, 3, 4, 0, 0, 0, 0],
+    [1, 2, 3, 4, 0, 0, 0, 0],
+    [0, 1, 2, 3, 4, 0, 0, 0],
+    [5, 0, 0, 0, 0, 0, 0, 0],
+    [0, 5, 0, 0, 0, 0, 0, 0],
+    [1, 5, 0, 0, 0, 0, 0, 0],
+    [0, 1, 5, 0, 0, 0, 0, 0],
+    [2, 5, 0, 0, 0, 0, 0, 0],
+    [0, 2, 5, 0, 0, 0, 0, 0],
+    [1, 2, 5, 0, 0, 0, 0, 0],
+    [0, 1, 2, 5, 0, 0, 0, 0],
+    [3, 5, 0, 0, 0, 0, 0, 0],
+    [0, 3, 5, 0, 0, 0, 0, 0],
+    [1, 3, 5, 0, 0, 0, 0, 0],
+    [0, 1, 3, 5, 0, 0, 0, 0],
+    [2, 3, 5, 0, 0, 0, 0, 0],
+    [0, 2, 3, 5, 0, 0, 0, 0],
+    [1, 2, 3, 5, 0, 0, 0, 0],
+    [0, 1, 2, 3, 5, 0, 0, 0],
+    [4, 5, 0, 0, 0, 0, 0, 0],
+    [0, 4, 5, 0, 0, 0, 0, 0],
+    [1, 4, 5, 0, 0, 0, 0, 0],
+    [0, 1, 4, 5, 0, 0, 0, 0],
+    [2, 4, 5, 0, 0, 0, 0, 0],
+    [0, 2, 4, 5, 0, 0, 0, 0],
+    [1, 2, 4, 5, 0, 0, 0, 0],
+    [0, 1, 2, 4, 5, 0, 0, 0],
+    [3, 4, 5, 0, 0, 0, 0, 0],
+    [0, 3, 4, 5, 0, 0, 0, 0],
+    [1, 3, 4, 5, 0, 0, 0, 0],
+    [0, 1, 3, 4, 5, 0, 0, 0],
+    [2, 3, 4, 5, 0, 0, 0, 0],
+    [0, 2, 3, 4, 5, 0, 0, 0],
+    [1, 2, 3, 4, 5, 0, 0, 0],
+    [0, 1, 2, 3, 4, 5, 0, 0],
 ];
+
+/// How many crossing edges two points have, by their flags.
+const COUNTS: [u8; 64] = [
+    0, 1, 1, 2, 1, 2, 2, 3, 1, 2, 2, 3, 2, 3, 3, 4, 1, 2, 2, 3, 2, 3, 3, 4, 2, 3, 3, 4, 3, 4, 4, 5,
+    1, 2, 2, 3, 2, 3, 3, 4, 2, 3, 3, 4, 3, 4, 4, 5, 2, 3, 3, 4, 3, 4, 4, 5, 3, 4, 4, 5, 4, 5, 5, 6,
+];
+
+/// Offsets so much further on: first by what is a constant where this is called, then by what is the same for eight points.
+#[inline(always)]
+fn moved_on(offsets: &[u16; 8], by: u16, from: u16) -> [u16; 8]
+    ensures { result ≡ map (λ (e : ℕ). (e + by + from) % 2 ^ 16) offsets.now }
+{
+    (u16x8::from_array(*offsets) + u16x8::splat(by) + u16x8::splat(from)).to_array()
+}
+
+/// Writes eight numbers at once.
+#[inline(always)]
+fn put_numbers(numbers: &[u16; 8], edges: &mut [u16; ROOM], at: usize)
+    requires { at + 8 ≤ 3078 }
+    ensures { take (at + 8) edges.new ≡ take at edges.old ++ numbers.now }
+{
+    edges[at..at + 8].copy_from_slice(numbers);
+}
+
+/// The flags of two points as one number, by which their offsets are found.
+#[inline(always)]
+fn pair_at(flags: &[u8], x: usize) -> usize
+    requires flags { All (λ f. f < 8) flags.now }
+    requires pair { x + 2 ≤ length flags.now }
+    ensures value { result ≡ slice_index flags.now x + 8 * slice_index flags.now (x + 1) }
+    ensures bound { result < 64 }
+{
+    usize::from(flags[x]) + 8 * usize::from(flags[x + 1])
+}
+
+/// Writes the offsets of the crossing edges that begin at a point and the next one: eight numbers at once, of which so many
+/// stay as there are. So there is no branch whose way a processor would have to guess.
+#[inline(always)]
+fn put_pair(flags: &[u8], from: usize, k: usize, edges: &mut [u16; ROOM], at: usize) -> usize
+    requires flags { All (λ f. f < 8) flags.now }
+    requires pair { from + k + 2 ≤ length flags.now }
+    requires low { from + k ≤ 1023 }
+    requires at { at ≤ 3 * (from + k) }
+    ensures put { take result edges.new ≡ take at edges.old ++ edges_among flags.now (from + k) 2 }
+    ensures end { result ≤ 3 * (from + k + 2) }
+{
+    let pair = pair_at(flags, from + k);
+    let offsets = moved_on(&PAIRS[pair], 3 * k as u16, 3 * from as u16);
+    put_numbers(&offsets, edges, at);
+    at + usize::from(COUNTS[pair])
+}
 
 /// The flags of the eight points from a place on as one number, those of the first in its lowest bits.
 #[inline(always)]
@@ -75,35 +186,24 @@ fn eight_at(flags: &[u8], from: usize) -> u64
     ])
 }
 
-/// How far the edge of the lowest bit that is set is in the row of eight points.
+/// Writes those of eight points, by the number of the eight, two points at a time: at once where there are none.
 #[inline(always)]
-fn lowest_offset(bits: u64) -> u16
-    requires { 0 < bits }
-    ensures value { result ≡ slice_index OFFSETS (trailing_zeros w64 bits) }
-    ensures bound { result < 24 }
-{
-    OFFSETS[bits.trailing_zeros() as usize]
-}
-
-/// Writes those of eight points, bit after bit that is set in their flags.
-#[inline(always)]
-fn put_eight(flags: &[u8], from: usize, edges: &mut [u16; ROOM], at: usize) -> usize
+fn put_eight(flags: &[u8], eight: usize, edges: &mut [u16; ROOM], at: usize) -> usize
     requires flags { All (λ f. f < 8) flags.now }
-    requires eight { from + 8 ≤ length flags.now }
+    requires eight { 8 * eight + 8 ≤ length flags.now }
     requires few { length flags.now ≤ 1026 }
-    requires at { at ≤ 3 * from }
-    ensures put { take result edges.new ≡ take at edges.old ++ edges_among flags.now from 8 }
-    ensures end { result ≤ 3 * (from + 8) }
+    requires at { at ≤ 3 * (8 * eight) }
+    ensures put { take result edges.new ≡ take at edges.old ++ edges_among flags.now (8 * eight) 8 }
+    ensures end { result ≤ 3 * (8 * eight + 8) }
 {
-    let first = 3 * from as u16;
-    let mut bits = eight_at(flags, from);
-    let mut at = at;
-    while bits != 0 {
-        edges[at] = first + lowest_offset(bits);
-        at += 1;
-        bits &= bits - 1;
+    let from = 8 * eight;
+    if eight_at(flags, from) == 0 {
+        return at;
     }
-    at
+    let at = put_pair(flags, from, 0, edges, at);
+    let at = put_pair(flags, from, 2, edges, at);
+    let at = put_pair(flags, from, 4, edges, at);
+    put_pair(flags, from, 6, edges, at)
 }
 
 /// Whether no crossing edge begins at the points of a block. This saves work and no list rests on it: the contract leaves
@@ -117,39 +217,38 @@ fn is_still(flags: &[u8], from: usize) -> bool
     block.simd_ne(u8x32::splat(0)).to_bitmask() == 0
 }
 
-/// Writes those of the points from a place to before an end, eight points at a time.
+/// Writes those of the points from one number of eight points to before another.
 #[inline(always)]
 fn put_eights(flags: &[u8], from: usize, end: usize, edges: &mut [u16; ROOM], at: usize) -> usize
     requires flags { All (λ f. f < 8) flags.now }
     requires from { from ≤ end }
-    requires end { end ≤ length flags.now }
+    requires end { 8 * end ≤ length flags.now }
     requires few { length flags.now ≤ 1026 }
-    requires at { at ≤ 3 * from }
-    ensures put { take result edges.new ≡ take at edges.old ++ edges_among flags.now from (end - from) }
-    ensures end { result ≤ 3 * end }
+    requires at { at ≤ 3 * (8 * from) }
+    ensures put { take result edges.new ≡ take at edges.old ++ edges_among flags.now (8 * from) (8 * (end - from)) }
+    ensures end { result ≤ 3 * (8 * end) }
 {
-    let eights = (end - from) / 8;
     let mut at = at;
-    for eight in 0..eights {
-        at = put_eight(flags, from + 8 * eight, edges, at);
+    for eight in from..end {
+        at = put_eight(flags, eight, edges, at);
     }
-    put_points(flags, from + 8 * eights, end, edges, at)
+    at
 }
 
-/// Writes those of the points of a block: at once where there are none.
+/// Writes those of the points of a block, by its number: at once where there are none.
 #[inline(always)]
-fn put_block(flags: &[u8], from: usize, edges: &mut [u16; ROOM], at: usize) -> usize
+fn put_block(flags: &[u8], block: usize, edges: &mut [u16; ROOM], at: usize) -> usize
     requires flags { All (λ f. f < 8) flags.now }
-    requires block { from + 32 ≤ length flags.now }
+    requires block { 32 * block + 32 ≤ length flags.now }
     requires few { length flags.now ≤ 1026 }
-    requires at { at ≤ 3 * from }
-    ensures put { take result edges.new ≡ take at edges.old ++ edges_among flags.now from 32 }
-    ensures end { result ≤ 3 * (from + 32) }
+    requires at { at ≤ 3 * (32 * block) }
+    ensures put { take result edges.new ≡ take at edges.old ++ edges_among flags.now (32 * block) 32 }
+    ensures end { result ≤ 3 * (32 * block + 32) }
 {
-    if is_still(flags, from) {
+    if is_still(flags, BLOCK * block) {
         return at;
     }
-    put_eights(flags, from, from + BLOCK, edges, at)
+    put_eights(flags, 4 * block, 4 * block + 4, edges, at)
 }
 
 /// Writes the offsets of the crossing edges that begin at the points of a row, by their flags, and says how many there are. An
@@ -163,7 +262,9 @@ pub fn put_row(flags: &[u8], edges: &mut [u16; ROOM]) -> usize
     let blocks = flags.len() / BLOCK;
     let mut at = 0;
     for block in 0..blocks {
-        at = put_block(flags, BLOCK * block, edges, at);
+        at = put_block(flags, block, edges, at);
     }
-    put_eights(flags, BLOCK * blocks, flags.len(), edges, at)
+    let eights = flags.len() / 8;
+    let at = put_eights(flags, 4 * blocks, eights, edges, at);
+    put_points(flags, 8 * eights, flags.len(), edges, at)
 }

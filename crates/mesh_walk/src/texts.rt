@@ -31,9 +31,10 @@ fn set_texts(
     ensures before { (i : ℕ) → i < first → text_at texts.new i ≡ text_at texts.old i }
     ensures behind { (i : ℕ) → first + 3078 ≤ i → text_at texts.new i ≡ text_at texts.old i }
 {
+    let mut corners = block.count_corners(style, number);
     for k in 0..edges.len() {
         let slot = first + edges[k] as usize;
-        block.set_corner_text(style, number + k as u32, &mut texts[slot]);
+        block.set_next(&mut corners, &mut texts[slot]);
     }
 }
 

@@ -16,4 +16,5 @@ loop-block-preserved c =
 pub returns-clause-put : goal.returns-clause-put
 returns-clause-put c =
     let n = length c.args.flags.now in
-    put_behind c.args.flags.now _ _ (32 * c.loop-block.block) (32 * (n / 32)) (n - 32 * (n / 32)) n (omega (arith, c.loop-block-test.false, c.loop-block.auto.block-end)) (omega arith) c.loop-block.invariant.put c.put_eights.ensures.put
+    let blocks = put_behind c.args.flags.now _ _ (32 * c.loop-block.block) (8 * (4 * (n / 32))) (8 * (n / 8 - 4 * (n / 32))) (8 * (n / 8)) (omega (arith, c.loop-block-test.false, c.loop-block.auto.block-end)) (omega arith) c.loop-block.invariant.put c.put_eights-at.ensures.put in
+    put_behind c.args.flags.now _ _ (8 * (n / 8)) (8 * (n / 8)) (n - 8 * (n / 8)) n (omega arith) (omega arith) blocks c.put_points.ensures.put
