@@ -1,5 +1,4 @@
 pub mod Crossings
 pub mod Placing
 pub mod RowPoints
-pub mod Splitting
 pub mod Waiting
