@@ -1,13 +1,14 @@
 -- The words of a command line after the command: options and plain words.
 use Rattle.std.specs.Prelude.{◌≡◌, ◌==◌, ◌||◌, not, Bool, false, if◌then◌else◌, ℕ, ◌≤◌, List, [], ◌∷◌, length, filter, Option, Some, None, is_some}
 use Rattle.std.specs.List.{filter_map, list_any, list_all}
+use Rattle.byte_names.specs.Bytes.{minus}
 use Rattle.command_words.specs.declared.options.Found.{Found}
 use Rattle.command_words.specs.declared.options.Found.TheVariants.{Nothing, Once, Again}
 
 -- an option is a word that begins with `-`
 abbrev pub is_option : List ℕ → Bool
 is_option [] = false
-is_option (b ∷ bs) = b == 45
+is_option (b ∷ bs) = b == minus
 
 -- what follows a prefix
 abbrev pub after_prefix : List ℕ → List ℕ → Option (List ℕ)

@@ -1,3 +1,5 @@
+//! What the program is asked to do.
+
 use iso_base::{Level, Sizes};
 use mesh_text::TwoWayFormat;
 use script::FileName;

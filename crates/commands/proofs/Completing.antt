@@ -16,12 +16,12 @@ use Rattle.commands.specs.Generating.{WritesGenerated}
 use Rattle.commands.specs.Checks.{Checks, mesh_in, mesh_limit}
 use Rattle.point_command.specs.Meaning.{points_given}
 use Rattle.commands.specs.Meaning.{mesh_given}
-use Rattle.point_command.specs.Running.{IsDoneOrWanting}
-use Rattle.point_command.specs.Outcome.{Streams}
+use Rattle.command_terms.specs.Outcome.{IsDoneOrWanting}
+use Rattle.command_terms.specs.Outcome.{Streams}
 use Rattle.commands.specs.Outcome.{Call, Rejects}
 use Rattle.commands.specs.Serving.{CanServe, IsCarriedOut, Serves, asked_for}
 use Rattle.commands.specs.Sessions.{Asked, RunsSession, StaysShut, answer_of}
-use Rattle.point_command.specs.Volumes.{volume_limit, volume_of}
+use Rattle.command_terms.specs.Volumes.{volume_limit, volume_of}
 use Rattle.command_words.specs.Help.{help_text, version_text}
 use Rattle.command_words.specs.declared.request.Request.{Request}
 use Rattle.command_words.specs.declared.request.Request.TheVariants as requests
@@ -29,8 +29,8 @@ use Rattle.mesh_text.specs.declared.format.TwoWayFormat.{TwoWayFormat}
 use Rattle.endings.specs.declared.answer.Answer.{Answer}
 use Rattle.endings.specs.declared.answer.Answer.TheVariants as answers
 use Rattle.endings.specs.declared.answer.Status.TheVariants as statuses
-use Rattle.point_command.proofs.Converted.{converted, not_both, not_long, told}
-use Rattle.point_command.proofs.Told.{at_told, if_told}
+use Rattle.command_terms.proofs.Converted.{converted, not_both, not_long, told}
+use Rattle.command_terms.proofs.Told.{at_told, if_told}
 use Rattle.commands.proofs.Soaks.{soaked_whole}
 use Rattle.commands.proofs.Sure.{sure_replies, sure_soak}
 

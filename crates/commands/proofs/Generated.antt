@@ -1,7 +1,7 @@
 -- A text was written, or a front of it, and nothing was read.
 use Rattle.std.proofs.Common.{ℕ, List, Ok, Err}
 use Rattle.byte_streams.specs.Seen.{Feed, Puts, Tape}
-use Rattle.point_command.specs.Outcome.{Streams, Writes, WritesFront}
+use Rattle.command_terms.specs.Outcome.{Streams, Writes, WritesFront}
 
 abbrev unread : Feed → Tape → Tape → Streams
 unread input old new = record { input = input; input_after = input; output = old; output_after = new }

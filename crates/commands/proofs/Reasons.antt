@@ -25,11 +25,11 @@ use Rattle.commands.specs.Headline.{WritesWatertight}
 use Rattle.commands.specs.Outcome.{Call, Rejects}
 use Rattle.commands.specs.Serving.{Serves}
 use Rattle.commands.specs.Sessions.{answer_of}
-use Rattle.point_command.specs.Volumes.{volume_limit}
+use Rattle.command_terms.specs.Volumes.{volume_limit}
 use Rattle.commands.proofs.Soaks.{not_soaked}
-use Rattle.point_command.proofs.Converted.{if_refused}
-use Rattle.point_command.proofs.Statuses.{is_bad_mesh, is_bad_volume, is_done, is_mesh_refused, is_shelf_fault, is_too_long}
-use Rattle.point_command.proofs.Told.{if_told, of_whole}
+use Rattle.command_terms.proofs.Converted.{if_refused}
+use Rattle.command_terms.proofs.Statuses.{is_bad_mesh, is_bad_volume, is_done, is_mesh_refused, is_shelf_fault, is_too_long}
+use Rattle.command_terms.proofs.Told.{if_told, of_whole}
 
 -- what is asked for, and how it was served
 pub asked_and_served : (o : Option Request) (call : Call) (a : Answer) (P : Request → Call → Type 0) → MatchOption o (Rejects call a) (λ r. Serves r call a)

@@ -17,15 +17,15 @@ use Rattle.iso_defs.specs.Outside.{is_outer}
 use Rattle.std.proofs.lemmas.Bool.{cases_lt}
 use Rattle.std.proofs.lemmas.List.Elements.{All-from_get_or, All-get_or, All-map}
 use Rattle.std.proofs.Math.ListN.{get_or-eq_default}
-use Rattle.point_command.specs.Meaning.{text_by}
+use Rattle.command_terms.specs.Volumes.{text_by}
 use Rattle.bench_core.specs.Machine.{IsAbovePad}
 use Rattle.bench_core.specs.Surface.{IsWatertight}
 use Rattle.bench_core.proofs.Surfaces.{watertight_of}
-use Rattle.point_command.specs.Volumes.{IsNoVolume, raised, volume_of, with_pad}
+use Rattle.command_terms.specs.Volumes.{IsNoVolume, raised, volume_of, with_pad}
 use Rattle.nrrd_read.specs.Files.{IsRead}
-use Rattle.point_command.specs.declared.reasons.NoVolume.{NoVolume}
-use Rattle.point_command.specs.declared.reasons.NoVolume.TheVariants as reasons
-use Rattle.point_command.proofs.ReadVolumes.{read_volume}
+use Rattle.command_terms.specs.declared.reasons.NoVolume.{NoVolume}
+use Rattle.command_terms.specs.declared.reasons.NoVolume.TheVariants as reasons
+use Rattle.command_terms.proofs.ReadVolumes.{read_volume}
 use Rattle.commands.specs.Volumes.{IsNotTaken}
 use Rattle.endings.specs.declared.answer.VolumeFault.{VolumeFault}
 use Rattle.endings.specs.declared.answer.VolumeFault.TheVariants.{Pad, LevelNotAbovePad}

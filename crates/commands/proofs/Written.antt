@@ -5,20 +5,20 @@ use Rattle.std.specs.Io.KnownBytes.{Appends}
 use Rattle.iso_base.specs.Volume.{IsVolume, Volume}
 use Rattle.byte_streams.specs.Seen.{Tape}
 use Rattle.mesh_text.specs.declared.format.TwoWayFormat.{TwoWayFormat}
-use Rattle.point_command.specs.Meaning.{text_by}
+use Rattle.command_terms.specs.Volumes.{text_by}
 use Rattle.commands.specs.Headline.{IsMeshWatertight, ShowsMesh}
 use Rattle.commands.specs.Meaning.{mesh_given, mesh_in, text_of_volume}
 use Rattle.commands.specs.Volumes.{IsNotTaken}
 use Rattle.commands.proofs.Taken.{given_of, taken_watertight}
 use Rattle.iso_base.specs.Samples.{IsSample}
 use Rattle.nrrd_read.specs.Files.{IsRead}
-use Rattle.point_command.proofs.ReadVolumes.{read_volume}
-use Rattle.point_command.specs.Inputs.{HasRead}
-use Rattle.point_command.specs.Outcome.{Converts, ReadWhole, Streams, WritesGiven}
-use Rattle.point_command.specs.Volumes.{HoldsNone, IsNoVolume, volume_answer, volume_limit, volume_of, with_pad}
-use Rattle.point_command.specs.declared.reasons.NoVolume.{NoVolume}
-use Rattle.point_command.specs.declared.reasons.NoVolume.TheVariants as reasons
-use Rattle.point_command.proofs.Told.{if_told, of_whole}
+use Rattle.command_terms.proofs.ReadVolumes.{read_volume}
+use Rattle.command_terms.specs.Inputs.{HasRead}
+use Rattle.command_terms.specs.Outcome.{Converts, ReadWhole, Streams, WritesGiven}
+use Rattle.command_terms.specs.Volumes.{HoldsNone, IsNoVolume, volume_answer, volume_limit, volume_of, with_pad}
+use Rattle.command_terms.specs.declared.reasons.NoVolume.{NoVolume}
+use Rattle.command_terms.specs.declared.reasons.NoVolume.TheVariants as reasons
+use Rattle.command_terms.proofs.Told.{if_told, of_whole}
 use Rattle.endings.specs.declared.answer.VolumeFault.{VolumeFault}
 use Rattle.endings.specs.declared.answer.Answer.{Answer}
 use Rattle.endings.specs.declared.answer.Answer.TheVariants as answers

@@ -10,7 +10,7 @@ use Rattle.command_words.specs.declared.request.Request.TheVariants.{Points, Ext
 use Rattle.endings.specs.declared.answer.VolumeFault.{VolumeFault}
 use Rattle.commands.specs.Checks.{HasVerdict, is_broken, mesh_in, mesh_limit}
 use Rattle.commands.specs.Outcome.{Call}
-use Rattle.point_command.specs.Volumes.{volume_limit, volume_of}
+use Rattle.command_terms.specs.Volumes.{volume_limit, volume_of}
 use Rattle.commands.specs.Volumes.{FileIs}
 
 -- the bytes that were read are no volume, or its pad is refused

@@ -12,15 +12,15 @@ use Rattle.mesh_read.specs.Obj.{obj_of}
 use Rattle.mesh_read.specs.declared.fault.MeshFault.{MeshFault}
 use Rattle.mesh_check.specs.Said.{said}
 use Rattle.endings.specs.Verdicts.{verdict_text}
-use Rattle.point_command.specs.Inputs.{HasRead}
-use Rattle.point_command.specs.Outcome.{NothingWritten, ReadWhole, Streams, Writes, WritesFront}
+use Rattle.command_terms.specs.Inputs.{HasRead}
+use Rattle.command_terms.specs.Outcome.{NothingWritten, ReadWhole, Streams, Writes, WritesFront}
 use Rattle.mesh_text.specs.declared.format.TwoWayFormat.{TwoWayFormat}
 use Rattle.mesh_text.specs.declared.format.TwoWayFormat.TheVariants.{Ply, Obj}
 use Rattle.endings.specs.declared.answer.Answer.{Answer}
 use Rattle.endings.specs.declared.answer.Answer.TheVariants as answers
 use Rattle.mesh_read.specs.declared.fault.MeshFault.TheVariants as faults
-use Rattle.commands.specs.declared.checks.NoMesh.{NoMesh}
-use Rattle.commands.specs.declared.checks.NoMesh.TheVariants as reasons
+use Rattle.commands.specs.declared.checking.NoMesh.{NoMesh}
+use Rattle.commands.specs.declared.checking.NoMesh.TheVariants as reasons
 
 -- the most bytes of a mesh text
 abbrev pub mesh_limit : ℕ

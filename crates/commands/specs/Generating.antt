@@ -3,7 +3,7 @@ use Rattle.std.specs.Prelude.{◌≡◌, ℕ, List}
 use Rattle.iso_defs.specs.Grid.{Grid}
 use Rattle.nrrd.specs.Writing.{save_text}
 use Rattle.volume_gen.specs.Generated.{generated_volume}
-use Rattle.point_command.specs.Outcome.{NothingWritten, Streams, Writes, WritesFront}
+use Rattle.command_terms.specs.Outcome.{NothingWritten, Streams, Writes, WritesFront}
 use Rattle.endings.specs.declared.answer.Answer.{Answer}
 use Rattle.endings.specs.declared.answer.Answer.TheVariants as answers
 

@@ -3,9 +3,9 @@ use Rattle.std.specs.Prelude.{◌≡◌, ℕ, List, Option, Ok, ℤ}
 use Rattle.iso_base.specs.Volume.{Volume}
 use Rattle.bench_core.specs.Surface.{IsWatertight}
 use Rattle.mesh_text.specs.declared.format.TwoWayFormat.{TwoWayFormat}
-use Rattle.point_command.specs.Inputs.{HasRead}
-use Rattle.point_command.specs.Outcome.{Streams, Writes}
-use Rattle.point_command.specs.Volumes.{volume_limit, volume_of}
+use Rattle.command_terms.specs.Inputs.{HasRead}
+use Rattle.command_terms.specs.Outcome.{Streams, Writes}
+use Rattle.command_terms.specs.Volumes.{volume_limit, volume_of}
 use Rattle.commands.specs.Meaning.{text_of_volume}
 use Rattle.endings.specs.declared.answer.Answer.{Answer}
 use Rattle.endings.specs.declared.answer.Answer.TheVariants as answers

@@ -4,8 +4,8 @@ use Rattle.iso_base.specs.Volume.{Volume}
 use Rattle.iso_base.specs.declared.format.MeshFormat.{MeshFormat}
 use Rattle.iso_base.specs.declared.format.MeshFormat.TheVariants as meshes
 use Rattle.bench_core.specs.Texts as benches
-use Rattle.point_command.specs.Meaning.{text_by}
-use Rattle.point_command.specs.Volumes.{volume_of, with_pad}
+use Rattle.command_terms.specs.Volumes.{text_by}
+use Rattle.command_terms.specs.Volumes.{volume_of, with_pad}
 use Rattle.endings.specs.declared.answer.VolumeFault.{VolumeFault}
 use Rattle.mesh_lines.specs.declared.style.Origin.{Origin}
 use Rattle.mesh_lines.specs.declared.style.Origin.TheVariants as origins

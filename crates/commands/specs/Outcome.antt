@@ -3,7 +3,7 @@ use Rattle.std.specs.Prelude.{◌≡◌, ℕ, Option, None}
 use Rattle.byte_streams.specs.Seen.{Feed, Tape}
 use Rattle.iso_io.specs.Shelves.{Store}
 use Rattle.bench_core.specs.Keeping.{Workbench}
-use Rattle.point_command.specs.Outcome.{Streams, streams_between}
+use Rattle.command_terms.specs.Outcome.{Streams, streams_between}
 use Rattle.endings.specs.declared.answer.Answer.{Answer}
 use Rattle.endings.specs.declared.answer.Answer.TheVariants as answers
 

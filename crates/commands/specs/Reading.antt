@@ -2,7 +2,7 @@
 use Rattle.std.specs.Prelude.{◌≡◌, List, ℕ, MatchOption}
 use Rattle.byte_streams.specs.Seen.{Feed, ReadsWithin}
 use Rattle.session.specs.Sessions.{script_limit}
-use Rattle.point_command.specs.Volumes.{volume_limit}
+use Rattle.command_terms.specs.Volumes.{volume_limit}
 use Rattle.command_words.specs.Words.{request_of}
 use Rattle.command_words.specs.declared.request.Request.{Request}
 use Rattle.command_words.specs.declared.request.Request.TheVariants as requests

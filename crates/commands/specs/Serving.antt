@@ -11,12 +11,12 @@ use Rattle.commands.specs.Generating.{Generates}
 use Rattle.commands.specs.Headline.{ShowsMesh}
 use Rattle.point_command.specs.Meaning.{points_given}
 use Rattle.commands.specs.Meaning.{mesh_given}
-use Rattle.point_command.specs.Outcome.{Converts, Tells}
+use Rattle.command_terms.specs.Outcome.{Converts, Tells}
 use Rattle.commands.specs.Outcome.{Call, LeavesShelf, Rejects}
 use Rattle.commands.specs.Sessions.{Asked, RunsSession}
 use Rattle.commands.specs.Soaking.{DoesSoak}
 use Rattle.commands.specs.Sure.{HasSureReplies, HasSureSoak}
-use Rattle.point_command.specs.Volumes.{volume_limit, volume_of}
+use Rattle.command_terms.specs.Volumes.{volume_limit, volume_of}
 use Rattle.command_words.specs.Help.{help_text, version_text}
 use Rattle.command_words.specs.Words.{request_of}
 use Rattle.command_words.specs.declared.request.Request.{Request}

@@ -9,7 +9,7 @@ use Rattle.session.specs.Sessions.{Course, EndsAfter}
 use Rattle.session.specs.declared.ending.Ending.{Ending}
 use Rattle.session.specs.declared.ending.Ending.TheVariants as endings
 use Rattle.commands.specs.Outcome.{Call}
-use Rattle.point_command.specs.Volumes.{volume_of}
+use Rattle.command_terms.specs.Volumes.{volume_of}
 use Rattle.commands.specs.Volumes.{FileIs, LacksVolume}
 use Rattle.endings.specs.declared.answer.Answer.{Answer}
 use Rattle.endings.specs.declared.answer.Answer.TheVariants as answers

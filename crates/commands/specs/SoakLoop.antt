@@ -12,8 +12,8 @@ use Rattle.session.specs.Worlds.{World}
 use Rattle.session.specs.declared.response.Response.{Response}
 use Rattle.session.specs.declared.response.Response.TheVariants.{Line}
 use Rattle.commands.specs.Soaking.{SoakBreaks, Soaks}
-use Rattle.commands.specs.declared.soak.Pace.{Pace}
-use Rattle.commands.specs.declared.soak.Pace.TheVariants.{On, Wanting, Fault}
+use Rattle.commands.specs.declared.soaking.Pace.{Pace}
+use Rattle.commands.specs.declared.soaking.Pace.TheVariants.{On, Wanting, Fault}
 
 -- whether a response says that memory was wanting
 abbrev pub is_want_response : Response → Bool

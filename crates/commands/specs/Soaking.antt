@@ -14,7 +14,7 @@ use Rattle.script.specs.declared.command.Command.TheVariants.{Fill, Ply}
 use Rattle.session.specs.Kept.{Kept}
 use Rattle.session.specs.Lines.{Saying}
 use Rattle.session.specs.Worlds.{CountsBy, World, replies_text, scene_of, world}
-use Rattle.point_command.specs.Outcome.{NothingWritten}
+use Rattle.command_terms.specs.Outcome.{NothingWritten}
 use Rattle.commands.specs.Outcome.{Call, LeavesShelf}
 use Rattle.commands.specs.SessionMeshes.{MeshTurns}
 use Rattle.commands.specs.Sessions.{world_after}

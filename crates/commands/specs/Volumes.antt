@@ -4,9 +4,9 @@ use Rattle.std.specs.FinMap.{get}
 use Rattle.iso_base.specs.Volume.{Volume}
 use Rattle.byte_streams.specs.Causes.{Rose}
 use Rattle.iso_io.specs.Shelves.{Store, Lacks, content}
-use Rattle.point_command.specs.Volumes.{volume_limit, volume_of, with_pad}
-use Rattle.point_command.specs.declared.reasons.NoVolume.{NoVolume}
-use Rattle.point_command.specs.declared.reasons.NoVolume.TheVariants as reasons
+use Rattle.command_terms.specs.Volumes.{volume_limit, volume_of, with_pad}
+use Rattle.command_terms.specs.declared.reasons.NoVolume.{NoVolume}
+use Rattle.command_terms.specs.declared.reasons.NoVolume.TheVariants as reasons
 use Rattle.endings.specs.declared.answer.Answer.{Answer}
 use Rattle.endings.specs.declared.answer.Answer.TheVariants as answers
 

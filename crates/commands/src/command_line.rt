@@ -6,17 +6,18 @@ ghost use Rattle.commands.specs.Promise.{RunsAs};
 ghost use Rattle.commands.specs.Reading.{ReadsFor, ReadsInput};
 ghost use Rattle.commands.specs.Serving.{Ends, Serves};
 
-use crate::checks::check;
-use crate::generate::generate;
-use crate::meshes::extract;
+use crate::checking::check;
+use crate::extracting::extract;
+use crate::generating::generate;
 use crate::sessions::run_on_file;
-use crate::soak::soak;
+use crate::soaking::soak;
 use bench_core::{Bench, Capacity};
+use command_terms::tell;
 use command_words::{Request, help_text, read_words, version_text};
 use endings::{Answer, Status, put_note};
 use iso_base::Steps;
 use iso_io::{Shelf, Sink, Source};
-use point_command::{points, tell};
+use point_command::points;
 use std::alloc::Global;
 use std::sync::ledger::Ledger;
 

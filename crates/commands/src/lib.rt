@@ -2,12 +2,12 @@
 //! then has written. The program itself is this library over the standard streams and the files of the system.
 #![tactic(auto)]
 
-mod checks;
+mod checking;
 mod command_line;
-mod generate;
-mod meshes;
+mod extracting;
+mod generating;
 mod sessions;
-mod soak;
+mod soaking;
 mod volumes;
 
 pub use command_line::run;

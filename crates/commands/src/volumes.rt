@@ -6,16 +6,16 @@ ghost use Rattle.iso_base.specs.Shifted.{is_above_pad};
 ghost use Rattle.iso_base.specs.Volume.{IsVoxels, Volume, unpadded};
 ghost use Rattle.voxel_list.specs.Padding.{padded_volume};
 ghost use Rattle.bench_core.specs.Machine.{begin_fault};
-ghost use Rattle.point_command.specs.Volumes.{IsNoVolume, volume_of, with_pad};
+ghost use Rattle.command_terms.specs.Volumes.{IsNoVolume, volume_of, with_pad};
 ghost use Rattle.commands.specs.Volumes.{FileIs, IsNotTaken, LacksVolume};
 
 use brick_store::BrickStore;
+use command_terms::{NoVolume, VOLUME_LIMIT};
 use endings::{Answer, VolumeFault};
 use iso_base::{Level, SampleKind, Sizes};
 use iso_io::Shelf;
 use nrrd_read::{FileVolume, RawVolume, read_file_volume, with_samples};
 use padded_samples::Padded;
-use point_command::{NoVolume, VOLUME_LIMIT};
 use samples::Samples;
 use std::alloc::Global;
 

@@ -205,5 +205,6 @@ fn note(answer: Answer) -> ArrayString<128>
 pub fn put_note<N: Sink>(notes: &mut N, answer: &Answer)
     ensures { Tries (N.seen notes.old) (N.seen notes.new) (note_of answer.now) }
 {
+    // No one is told where the sink fails.
     let _ = write_all_of(notes, note(*answer).as_str().as_bytes());
 }

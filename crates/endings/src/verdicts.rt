@@ -1,3 +1,5 @@
+//! The line of a verdict.
+
 ghost use Rattle.std.specs.Prelude.{◌≡◌, ◌++◌, ◌≤◌};
 ghost use Rattle.arrayvec.specs.ArrayString.{array_string_len};
 ghost use Rattle.endings.specs.Verdicts.{verdict_text, verdict_words};

@@ -8,8 +8,9 @@ use Rattle.mesh_text.specs.Lines.{points_head}
 use Rattle.point_write.specs.Edges.{ArePlaced, placed_lines}
 use Rattle.point_write.proofs.Crossings.{are_placed}
 use Rattle.file_points.specs.Edges.{AreEdgesOf, AreEdgesOfFile}
-use Rattle.point_command.specs.Meaning.{points_of, points_given, text_by}
-use Rattle.point_command.proofs.ReadVolumes.{read_volume}
+use Rattle.command_terms.specs.Volumes.{text_by}
+use Rattle.point_command.specs.Meaning.{points_of, points_given}
+use Rattle.command_terms.proofs.ReadVolumes.{read_volume}
 use Rattle.point_command.proofs.Texts.{few_edges, points_text_is}
 
 -- they are those of a volume

@@ -1,7 +1,5 @@
-pub mod Inputs
-pub mod Volumes
+pub mod Edges
 pub mod Meaning
-pub mod Outcome
 pub mod Help
 pub mod Words
 pub mod Running

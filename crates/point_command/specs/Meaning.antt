@@ -5,16 +5,11 @@ use Rattle.iso_base.specs.Shifted.{field}
 use Rattle.iso_base.specs.Volume.{Volume}
 use Rattle.point_write.specs.Edges.{edge_points}
 use Rattle.endings.specs.declared.answer.VolumeFault.{VolumeFault}
-use Rattle.point_command.specs.Volumes.{volume_of}
+use Rattle.command_terms.specs.Volumes.{text_by, volume_of}
 
 -- the text of the vertices on the crossing edges of a volume at a level
 unfoldable pub points_of : ℤ → Volume → List ℕ
 points_of level v = points_text (edge_points v.grid (field v.samples level))
-
--- the text of a volume, where there is one
-abbrev pub text_by : (Volume → List ℕ) → Result Volume VolumeFault → Result (List ℕ) VolumeFault
-text_by text (Ok v) = Ok (text v)
-text_by text (Err fault) = Err fault
 
 -- what `points` gives
 abbrev pub points_given : ℤ → List ℕ → Result (List ℕ) VolumeFault

@@ -8,9 +8,9 @@ use Rattle.endings.specs.Tries.{Tries}
 use Rattle.endings.specs.declared.answer.Answer.{Answer}
 use Rattle.endings.specs.declared.answer.Status.{Status}
 use Rattle.endings.specs.declared.answer.Status.TheVariants as statuses
-use Rattle.point_command.specs.Outcome.{Streams}
+use Rattle.command_terms.specs.Outcome.{Streams}
 use Rattle.point_command.specs.Running.{CanGive, GivesPoints, HasNoVolume, HasTooMany, IsGiven}
-use Rattle.point_command.specs.Volumes.{volume_limit}
+use Rattle.command_terms.specs.Volumes.{volume_limit}
 use Rattle.point_command.specs.Words.{asked_of}
 use Rattle.point_command.specs.declared.words.Asked.{Asked}
 

@@ -1,8 +1,8 @@
 -- What the program that knows `points` alone does.
-use Rattle.std.specs.Prelude.{◌≡◌, ◌⊎◌, ℕ, ◌<◌, ◌≤◌, List, length, MatchOption, Option, Some, None, Ok, Err, IfSome, ℤ}
+use Rattle.std.specs.Prelude.{◌≡◌, ℕ, ◌<◌, ◌≤◌, List, length, MatchOption, Option, Some, None, Ok, Err, IfSome, ℤ}
 use Rattle.point_command.specs.Meaning.{points_given}
-use Rattle.point_command.specs.Outcome.{Converts, NothingWritten, Streams, Tells}
-use Rattle.point_command.specs.Volumes.{volume_limit, volume_of}
+use Rattle.command_terms.specs.Outcome.{Converts, IsDoneOrWanting, NothingWritten, Streams, Tells}
+use Rattle.command_terms.specs.Volumes.{volume_limit, volume_of}
 use Rattle.point_command.specs.Words.{asked_of}
 use Rattle.point_command.specs.Help.{help_text, version_text}
 use Rattle.point_command.specs.declared.words.Asked.{Asked}
@@ -58,9 +58,6 @@ abbrev pub CanGive : Asked → Streams → Type 0
 CanGive (Points level) call = CanConvert level call
 CanGive Help call = Unit {0}
 CanGive Version call = Unit {0}
-
-abbrev pub IsDoneOrWanting : Status → Type 0
-IsDoneOrWanting status = (status ≡ statuses.Done) ⊎ (status ≡ statuses.Memory)
 
 -- it is given, or memory is wanting
 abbrev pub IsGiven : Asked → Status → Type 0

@@ -1,22 +1,22 @@
 //! The points at which a surface crosses the lattice edges of a volume.
 
-ghost use Rattle.std.specs.Prelude.{◌≡◌, ◌++◌, [], ℤ, None, IfOk, IfErr, length};
+ghost use Rattle.std.specs.Prelude.{◌≡◌, ◌++◌, ℤ, None, IfOk, IfErr, length};
 ghost use Rattle.iso_base.specs.Volume.{Voxels};
 ghost use Rattle.byte_streams.specs.Seen.{Puts, ReadsWithin};
 ghost use Rattle.mesh_text.specs.Lines.{points_head};
 ghost use Rattle.point_write.specs.Edges.{placed_lines};
 ghost use Rattle.file_points.specs.Edges.{AreEdgesOf, AreEdgesOfFile};
 ghost use Rattle.point_command.specs.Meaning.{points_given};
-ghost use Rattle.point_command.specs.Outcome.{Converts, streams_between};
-ghost use Rattle.point_command.specs.Volumes.{HoldsEdges, HoldsNone, IsNoVolume, volume_limit};
+ghost use Rattle.command_terms.specs.Outcome.{Converts, streams_between};
+ghost use Rattle.point_command.specs.Edges.{HoldsEdges};
+ghost use Rattle.command_terms.specs.Volumes.{HoldsNone, IsNoVolume, volume_limit};
 
-use crate::input::bytes_of_input;
-use crate::reasons::NoVolume;
 use byte_streams::{Failed, Sink, Source};
+use command_terms::{NoVolume, bytes_of_input};
 use endings::Answer;
 use file_points::{FileEdges, edges_of_file};
 use iso_base::Level;
-use point_write::{STAGE, put_points};
+use point_write::put_points;
 use std::alloc::Global;
 
 /// The crossing edges of the volume of the bytes of a file, which are let go.
@@ -46,14 +46,13 @@ fn edges_of_input<S: Source>(
 }
 
 /// Appends the text of the points of a volume.
-fn put_text<K: Sink>(sink: &mut K, waiting: &mut Vec<u8>, points: &FileEdges) -> Result<(), Failed>
-    requires none { waiting.old.items ≡ [] }
+fn put_text<K: Sink>(sink: &mut K, points: &FileEdges) -> Result<(), Failed>
     requires known { (level : ℤ) × (v : Voxels)
         × AreEdgesOf v level points.now.sizes points.now.edges.names.items points.now.edges.places.items }
     ensures { Puts (K.seen sink.old) (K.seen sink.new) result (points_head (length points.now.edges.names.items)
         ++ placed_lines points.now.sizes points.now.edges.names.items points.now.edges.places.items) }
 {
-    put_points(sink, waiting, &points.sizes, &points.edges)
+    put_points(sink, &points.sizes, &points.edges)
 }
 
 /// Writes the points at which the surface of a volume crosses lattice edges. The samples are not copied out of the bytes
@@ -72,10 +71,7 @@ pub fn points<S: Source, K: Sink>(
         Ok(edges) => edges,
         Err(answer) => return answer,
     };
-    let Ok(mut waiting) = Vec::with_capacity(alloc, STAGE) else {
-        return Answer::Memory;
-    };
-    match put_text(output, &mut waiting, &edges) {
+    match put_text(output, &edges) {
         Ok(()) => Answer::Done,
         Err(Failed) => Answer::OutputFault,
     }

@@ -4,12 +4,8 @@
 
 mod crossings;
 mod help;
-mod input;
-mod reasons;
 mod run;
 mod words;
 
 pub use crossings::points;
-pub use input::{VOLUME_LIMIT, bytes_of_input};
-pub use reasons::NoVolume;
-pub use run::{run_points, tell};
+pub use run::run_points;

@@ -1,28 +1,19 @@
 //! All that the program of points alone does.
 
 ghost use Rattle.std.specs.Prelude.{map, string_bytes};
-ghost use Rattle.byte_streams.specs.Seen.{Feed, ReadsWithin};
-ghost use Rattle.point_command.specs.Outcome.{Tells, streams_between, unread_between};
+ghost use Rattle.byte_streams.specs.Seen.{ReadsWithin};
+ghost use Rattle.command_terms.specs.Outcome.{streams_between};
 ghost use Rattle.point_command.specs.Promise.{RunsPoints};
 ghost use Rattle.point_command.specs.Running.{Gives, GivesPoints};
-ghost use Rattle.point_command.specs.Volumes.{volume_limit};
+ghost use Rattle.command_terms.specs.Volumes.{volume_limit};
 
 use crate::crossings::points;
 use crate::help::{help_text, version_text};
 use crate::words::{Asked, asked_of_words};
-use byte_streams::{Failed, Sink, Source, write_all_of};
+use byte_streams::{Sink, Source};
+use command_terms::tell;
 use endings::{Answer, Status, put_note};
 use std::alloc::Global;
-
-/// Writes a text that a program tells of itself, and reads nothing.
-pub fn tell<K: Sink>(text: &str, output: &mut K) -> Answer
-    ensures { (input : Feed) → Tells text.now (unread_between input K.seen output.old output.new) result }
-{
-    match write_all_of(output, text.as_bytes()) {
-        Ok(()) => Answer::Done,
-        Err(Failed) => Answer::OutputFault,
-    }
-}
 
 /// Does what is asked for.
 fn give<S: Source, K: Sink>(alloc: Global, asked: Asked, input: &mut S, output: &mut K) -> Answer

@@ -1,6 +1,7 @@
 -- What a program is asked about itself.
 use Rattle.std.specs.Prelude.{◌&&◌, Bool, false, ℕ, List, [], ◌∷◌, ◌++◌, bytes_eq, codes}
 use Rattle.std.specs.List.{list_any}
+use Rattle.byte_names.specs.Bytes.{line_feed, space}
 
 -- the version of the programs
 abbrev pub version : List ℕ
@@ -23,4 +24,4 @@ asks_version words = false
 
 -- the line of a program's version, by its name
 abbrev pub version_line : List ℕ → List ℕ
-version_line name = name ++ 32 ∷ (version ++ 10 ∷ [])
+version_line name = name ++ space ∷ (version ++ line_feed ∷ [])

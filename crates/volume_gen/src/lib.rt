@@ -8,5 +8,5 @@ mod soak;
 mod steps;
 
 pub use blocks::generated;
-pub use rows::put_generated;
+pub use rows::{STAGE, put_generated};
 pub use soak::SoakLines;

@@ -1,5 +1,5 @@
 use Rattle.std.proofs.Common.{List, ℕ, ◌∙◌, refl, subst}
-use Rattle.point_command.specs.Outcome.{Tells, unread_between}
+use Rattle.command_terms.specs.Outcome.{Tells, unread_between}
 use Rattle.commands.proofs.command_line.carry_out.Goals as goal
 
 pub returns-in-Gen-clause-serves : goal.returns-in-Gen-clause-serves

@@ -2,8 +2,8 @@ use Rattle.std.proofs.Common.{◌∙◌, ap, sym, subst}
 use Rattle.iso_base.specs.Volume.{unpadded}
 use Rattle.nrrd_read.specs.Files.{IsRead, file_voxels}
 use Rattle.nrrd_read.specs.Nrrd.{nrrd_of, Fails}
-use Rattle.point_command.specs.Volumes.{IsNoVolume}
-use Rattle.point_command.proofs.ReadVolumes.{no_volume}
+use Rattle.command_terms.specs.Volumes.{IsNoVolume}
+use Rattle.command_terms.proofs.ReadVolumes.{no_volume}
 use Rattle.commands.proofs.Taken.{if_not_taken, if_taken}
 use Rattle.commands.proofs.volumes.bricks_in.Goals as goal
 

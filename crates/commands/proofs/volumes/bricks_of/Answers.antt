@@ -4,8 +4,8 @@ use Rattle.std.proofs.lemmas.Int.{to_z-of_z}
 use Rattle.iso_base.specs.Samples.{IsSample}
 use Rattle.iso_base.specs.Volume.{Volume, unpadded}
 use Rattle.iso_base.proofs.VolumeLaws.{unpadded_is}
-use Rattle.point_command.specs.Volumes.{with_pad}
-use Rattle.point_command.proofs.Passed.{passed_on}
+use Rattle.command_terms.specs.Volumes.{with_pad}
+use Rattle.command_terms.proofs.Passed.{passed_on}
 use Rattle.commands.specs.Volumes.{IsNotTaken}
 use Rattle.commands.proofs.Taken.{padded_store, same_padded}
 use Rattle.commands.proofs.volumes.bricks_of.Goals as goal

@@ -1,8 +1,8 @@
 use Rattle.std.proofs.Common.{None, subst}
 use Rattle.nrrd_read.specs.Nrrd.{nrrd_of, Fails}
-use Rattle.point_command.specs.Volumes.{IsNoVolume, volume_refusal}
-use Rattle.point_command.proofs.Passed.{passed_on}
-use Rattle.point_command.proofs.ReadVolumes.{no_volume}
+use Rattle.command_terms.specs.Volumes.{IsNoVolume, volume_refusal}
+use Rattle.command_terms.proofs.Passed.{passed_on}
+use Rattle.command_terms.proofs.ReadVolumes.{no_volume}
 use Rattle.point_command.proofs.crossings.edges_in.Goals as goal
 
 pub returns-in_err-edges_of_file-clause-fault : goal.returns-in_err-edges_of_file-clause-fault

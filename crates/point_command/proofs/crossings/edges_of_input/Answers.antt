@@ -1,7 +1,7 @@
 use Rattle.std.proofs.Common.{None}
-use Rattle.point_command.specs.Volumes.{HoldsNone}
+use Rattle.command_terms.specs.Volumes.{HoldsNone}
 use Rattle.point_command.proofs.FileEdges.{known_edges}
-use Rattle.point_command.proofs.Passed.{passed_on}
+use Rattle.command_terms.proofs.Passed.{passed_on}
 use Rattle.point_command.proofs.crossings.edges_of_input.Goals as goal
 
 pub returns-clause-known : goal.returns-clause-known

@@ -1,8 +1,8 @@
 use Rattle.point_command.proofs.FileEdges.{edges_text, gives_text}
 use Rattle.point_command.proofs.crossings.points.Goals as goal
 
-pub put_text-requires-clause-known : goal.put_text-requires-clause-known
-put_text-requires-clause-known g c = (c.args.level, c.in-Ok.ensures.known.0, c.in-Ok.ensures.known.1)
+pub put_text-requires : goal.put_text-requires
+put_text-requires g c = record { known = (c.args.level, c.in-Ok.ensures.known.0, c.in-Ok.ensures.known.1) }
 
 pub returns-clause-converts : goal.returns-clause-converts
 returns-clause-converts g c =

@@ -1,6 +1,6 @@
 use Rattle.std.proofs.Common.{List, ℕ, ◌∙◌, subst}
 use Rattle.byte_streams.proofs.Taking.{reads_nothing}
-use Rattle.point_command.specs.Outcome.{Tells, unread_between}
+use Rattle.command_terms.specs.Outcome.{Tells, unread_between}
 use Rattle.point_command.proofs.run.give.Goals as goal
 
 pub returns-in-Help-clause-gives : goal.returns-in-Help-clause-gives

@@ -1,5 +1,5 @@
 use Rattle.std.proofs.Common.{sym, ◌∙◌, rules}
-use Rattle.point_command.proofs.Converted.{completes, why_no_volume, why_too_long}
+use Rattle.point_command.proofs.Given.{completes, why_no_volume, why_too_long}
 use Rattle.point_command.proofs.run.run_points.Goals as goal
 
 pub returns : goal.returns
