@@ -158,6 +158,8 @@ fn faults_are_told(rt: HostRuntime) -> Result<(), Fail> {
     };
     check(&rt, alloc, &call, &input_fault)?;
     call.reads_failing = &[];
+    // The head and the points go out in one write, of which this output takes the head.
+    call.write_piece = 100;
     call.writes_failing = &[2];
     let output_fault = End {
         status: Status::OutputFault,
