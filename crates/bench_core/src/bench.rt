@@ -1,3 +1,5 @@
+//! The workbench: its calls, each a step of the machine or a question to it.
+
 ghost use Rattle.std.specs.Prelude.{◌≡◌, ◌⊎◌, ◌+◌, ◌*◌, ◌<◌, ◌≤◌, take, length, is_some, IfSome, IfNone, IsSomeAnd, None, Some, Ok, IfOk, IfErr, OnOk, IsErrOf, All};
 ghost use Rattle.iso_base.specs.Samples.{IsSample, least_of, greatest_of};
 ghost use Rattle.mesh_cache.specs.Cache.{IsCache};
@@ -215,6 +217,7 @@ impl Bench {
         ensures never_memory { IsErrOf result BenchFault.Memory → ⊥ }
         ensures not_shelf { IsErrOf result BenchFault.ShelfFailed → ⊥ }
     {
+        // Reading the sizes brings in what is true of every volume.
         let _ = self.store.sizes();
         let old = self.level;
         let new = checked(self.store.pad(), value)?;
@@ -238,6 +241,7 @@ impl Bench {
         let area = change.area(&self.store);
         let value = change.value();
         change.make(&mut self.store, &mut self.level);
+        // Reading the sizes brings in what is true of every volume.
         let _ = self.store.sizes();
         follow(&mut self.tree, &mut self.cache, &self.store, area, value);
         self.log.push(change);
@@ -254,6 +258,7 @@ impl Bench {
             return Err(BenchFault::NothingToUndo);
         };
         let area = change.area(&self.store);
+        // Reading the sizes brings in what is true of every volume.
         let _ = self.store.sizes();
         change.take_back(&mut self.store, &mut self.level);
         follow(&mut self.tree, &mut self.cache, &self.store, area, None);
@@ -272,6 +277,7 @@ impl Bench {
         };
         let area = change.area(&self.store);
         let filled = change.value();
+        // Reading the sizes brings in what is true of every volume.
         let _ = self.store.sizes();
         change.make(&mut self.store, &mut self.level);
         follow(&mut self.tree, &mut self.cache, &self.store, area, filled);
@@ -291,6 +297,7 @@ impl Bench {
     fn refresh_all<L: Ledger>(&mut self, steps: &mut Steps<L>)
         ensures { Refreshes self.old self.new (waiting_bricks self.old) turn_steps steps.old steps.new }
     {
+        // Reading the sizes brings in what is true of every volume.
         let _ = self.store.sizes();
         self.work(u32::MAX, steps);
     }

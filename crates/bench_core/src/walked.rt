@@ -103,6 +103,7 @@ pub fn walked_measures(
     ensures closed { HasPadBelow store.now level → IfOk result (λ m. All HasNoBorder m) }
 {
     parts_without_border();
+    // Reading the sizes brings in what is true of every volume.
     let _ = store.sizes();
     counted_measures::<Brand>(Blank::new(1), alloc, store, tree, cache, level)
 }

@@ -1,3 +1,5 @@
+//! Tests of the workbench: its edits, undos and levels, and the files that it writes.
+
 ghost use Rattle.std.specs.Prelude.{◌≡◌, IfSome, None};
 
 use crate::asked::{

@@ -78,6 +78,7 @@ fn values_among<T: Packed>(
         (brick_cell store.now.grid brick.0 cell) }
     ensures bound { All (λ v. unsigned_abs v < 2 ^ 44) result }
 {
+    // Reading the sizes brings in what is true of every volume.
     let _ = store.sizes();
     let low = cell % 8 + 9 * (cell / 8 % 8 + 9 * (cell / 64));
     corner_values(copies, low as usize, level)

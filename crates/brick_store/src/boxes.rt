@@ -182,6 +182,7 @@ fn write_one<C: PackedList>(
     ensures { ArePartWritten sizes.now area.now (Values.One value) brick.0 part.now (C.list copies.old)
         (C.list copies.new) }
 {
+    // Reading a size brings in that the sizes are those of a grid.
     let _ = sizes.nx();
     let row = nine(&value);
     let source = Source {

@@ -31,6 +31,7 @@ pub fn home_place(sizes: &Sizes, p: Point) -> usize
     ensures value { result ≡ home_place sizes.now p }
     ensures bound { result < 729 * brick_count sizes.now }
 {
+    // Reading a size brings in that the sizes are those of a grid.
     let _ = sizes.nx();
     let (x, y, z) = (
         numbering::home(p.x),
@@ -92,6 +93,7 @@ fn write_copy<C: PackedList>(sizes: &Sizes, copies: &mut C, brick: BrickId, p: P
     requires fits { C.Fits value }
     ensures { C.list copies.new ≡ slice_set (C.list copies.old) (own_place sizes.now p brick.0) value }
 {
+    // Reading a size brings in that the sizes are those of a grid.
     let _ = sizes.nx();
     let first = numbering::first_point(sizes, brick);
     let place = copy_place(brick, p.x - first.x, p.y - first.y, p.z - first.z);
@@ -107,6 +109,7 @@ pub fn set<C: PackedList>(sizes: &Sizes, copies: &mut C, p: Point, value: i64)
     ensures samples { samples_of sizes.now (C.list copies.new)
         ≡ slice_set (samples_of sizes.now (C.list copies.old)) (index_of sizes.now p) value }
 {
+    // Reading a size brings in that the sizes are those of a grid.
     let _ = sizes.nx();
     let held = numbering::bricks_holding(sizes, p);
     for brick in held.as_slice() {

@@ -36,6 +36,7 @@ fn write_in_brick<C: PackedList>(
     requires z_to { p.z ≤ 8 * z + 8 }
     ensures { AreRowWritten sizes.now p values.now (brick_zone x y z) (C.list copies.old) (C.list copies.new) }
 {
+    // Reading a size brings in that the sizes are those of a grid.
     let _ = sizes.nx();
     let from = p.x.max(8 * x);
     let end = (p.x + values.len() as u32).min(8 * x + 9);

@@ -1,3 +1,5 @@
+//! A volume in bricks: how it is made, asked and changed.
+
 ghost use Rattle.std.specs.Prelude.{◌≡◌, ℕ, ◌+◌, ◌<◌, ◌≤◌, All, IfOk, IfSome, length, map, slice_set, true};
 ghost use Rattle.std.specs.List.{filter};
 ghost use Rattle.iso_defs.specs.Lists.{below};
@@ -83,6 +85,7 @@ impl BrickStore {
         ensures value { result ≡ self.now.grid }
         ensures volume { IsVolume self.now }
     {
+        // Reading a field brings in what is true of every volume.
         let _ = &self.kind;
         self.sizes
     }
@@ -155,6 +158,7 @@ impl BrickStore {
         requires kind { AreOfKind self.old.kind values }
         ensures { self.new ≡ record self.old { samples = boxed self.old.grid area.now values.entry self.old.samples } }
     {
+        // Reading a corner brings in that the box's corners are in order.
         let _ = area.low();
         self.copies.set_box(&self.sizes, area, values);
     }
@@ -214,6 +218,7 @@ impl BrickStore {
         ensures copies { AreAllCopies self.now.grid self.now.samples (samples_in result) }
         ensures width { run_width result ≡ width_of self.now.kind self.now.pad }
     {
+        // Reading a size brings in that the sizes are those of a grid.
         let _ = self.sizes.nx();
         self.copies.lent()
     }
@@ -226,6 +231,7 @@ impl BrickStore {
         requires brick { brick.0 < brick_count self.now.grid }
         ensures { AreCopiesOf self.now.grid self.now.samples brick.0 (map T.value result.now) }
     {
+        // Reading a size brings in that the sizes are those of a grid.
         let _ = self.sizes.nx();
         let start = 729 * brick.0 as usize;
         &copies[start..start + 729]

@@ -34,6 +34,7 @@ fn copy_rest<C: PackedList>(sizes: &Sizes, copies: &C, p: Point, into: &mut [i64
     ensures { into.new ≡ map (λ d. sample (samples_of sizes.now (C.list copies.now)) (index_of sizes.now p + d))
         (below (length into.old)) }
 {
+    // Reading a size brings in that the sizes are those of a grid.
     let _ = sizes.nx();
     let place = home_place(sizes, p);
     let eights = into.len() / 8;
@@ -53,6 +54,7 @@ pub fn copy_row<C: PackedList>(sizes: &Sizes, copies: &C, p: Point, into: &mut [
     ensures { into.new ≡ map (λ d. sample (samples_of sizes.now (C.list copies.now)) (index_of sizes.now p + d))
         (below (length into.old)) }
 {
+    // Reading a size brings in that the sizes are those of a grid.
     let _ = sizes.nx();
     let first = (8 * home(p.x) + 9 - p.x) as usize;
     let begun = first.min(into.len());

@@ -1,3 +1,5 @@
+//! A sink in memory, some of whose calls fail.
+
 ghost use Rattle.std.specs.Prelude.{◌≡◌, ◌<◌, IfOk, IfSome, [], None, Some, length};
 ghost use Rattle.byte_streams.specs.Memory.{taken_of};
 

@@ -1,3 +1,5 @@
+//! A source in memory, some of whose calls fail.
+
 ghost use Rattle.std.specs.Prelude.{◌≡◌, ◌<◌, ◌≤◌, ◌↔◌, length, take, drop, ◌++◌, []};
 
 use crate::Failed;

@@ -1,3 +1,5 @@
+//! Where bytes go, and how all of them are written.
+
 ghost use Rattle.std.specs.Prelude.{◌≡◌};
 ghost use Rattle.std.specs.Io.{WritesAtMost};
 ghost use Rattle.byte_streams.specs.Seen.{Tape, Writes, Puts};

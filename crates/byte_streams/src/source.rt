@@ -1,3 +1,5 @@
+//! Where bytes come from, and how all of them are read.
+
 ghost use Rattle.std.specs.Prelude.{◌≡◌, ◌<◌, ◌≤◌, length, IfOk, IfSome, IsErrOf, OnErr, vec_len};
 ghost use Rattle.std.specs.Io.{ReadsAtMost};
 ghost use Rattle.byte_streams.specs.Causes.{Rose};

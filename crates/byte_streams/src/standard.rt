@@ -1,3 +1,5 @@
+//! Readers and writers of std as sources and sinks.
+
 ghost use Rattle.std.specs.Prelude.{◌≡◌, ◌<◌, None, [], length, is_err, if◌then◌else◌};
 ghost use Rattle.std.specs.Io.{ReadsAtMost, WritesAtMost};
 ghost use Rattle.byte_streams.specs.Causes.{one_more};

@@ -1,3 +1,5 @@
+//! The case of a cell, by its signs and its joined faces.
+
 ghost use Rattle.std.specs.Prelude.{◌≡◌, ℕ, ◌+◌, ◌*◌, ◌/◌, ◌%◌, ◌^◌, ◌<◌, ◌≤◌, ◌==◌, ◌||◌, IsTrue, if◌then◌else◌, slice_index, length, map, unsigned_abs, nat_lt};
 ghost use Rattle.std.specs.List.{All, filter, sum};
 ghost use Rattle.iso_defs.specs.Lists.{below, has_pair};

@@ -1,3 +1,5 @@
+//! The ambiguous faces of a cell, and which of them are joined.
+
 ghost use Rattle.std.specs.Prelude.{◌≡◌, ℕ, ◌+◌, ◌*◌, ◌/◌, ◌%◌, ◌^◌, ◌<◌, ◌≤◌, ◌==◌, ◌&&◌, IsTrue, if◌then◌else◌, slice_index, unsigned_abs};
 ghost use Rattle.std.specs.List.{All};
 ghost use Rattle.iso_defs.specs.Face.{is_ambiguous};

@@ -1,3 +1,5 @@
+//! The table of the 656 cases: where each segment ends, and the sign byte.
+
 ghost use Rattle.std.specs.Prelude.{◌≡◌, ◌*◌, ◌/◌, ◌%◌, ◌^◌, ◌<◌, slice_index};
 
 /// A row for each case: for each cell edge four bits, those of edge 0 lowest, that say where the segment ends that begins

@@ -1,3 +1,5 @@
+//! The loops of a case as a list of lists.
+
 ghost use Rattle.std.specs.Prelude.{◌≡◌, ◌<◌, ◌≤◌, length, slice_index_or, []};
 ghost use Rattle.cell_loops.specs.Loops.{IsLoop, row_loops};
 

@@ -1,3 +1,5 @@
+//! The loops of all cases in one table, and how many triangles and centres they give.
+
 ghost use Rattle.std.specs.Prelude.{◌≡◌, ℕ, ◌+◌, ◌<◌, ◌≤◌, length, slice_index, slice_index_or, slice_range, []};
 ghost use Rattle.cell_loops.specs.Loops.{IsLoop, row_centres, row_loops, row_triangles};
 

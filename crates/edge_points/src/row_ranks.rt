@@ -80,6 +80,7 @@ impl RowRanks {
         requires { All (λ n. n ≤ 3 * self.old.grid.nx) self.old.numbers }
         ensures { self.new ≡ record self.old { numbers = sums_before self.old.numbers } }
     {
+        // Reading the number of points brings in that the sizes are those of a grid.
         let _ = self.sizes.count();
         add_up(&mut self.numbers);
     }

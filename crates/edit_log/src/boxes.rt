@@ -49,6 +49,7 @@ pub fn area_count(sizes: &Sizes, area: &FillBox) -> u32
     ensures value { result ≡ area_count area.now }
     ensures box_of_grid { IsBox sizes.now area.now }
 {
+    // Reading both brings in what is true of every grid and of every box.
     let _ = (sizes.nx(), area.low());
     area.count() as u32
 }

@@ -49,6 +49,7 @@ impl EditLog {
         ensures value { result ≡ length self.now.done }
         ensures most { length self.now.done + length self.now.undone ≤ 128 }
     {
+        // Reading the length brings in that there are no more changes than the log has room for.
         let _ = self.changes.len();
         self.done as u32
     }

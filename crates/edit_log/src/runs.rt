@@ -259,6 +259,7 @@ fn write_equal(store: &mut BrickStore, area: &FillBox, runs: &[Run])
     } }
 {
     if runs.len() == 1 {
+        // Reading both brings in what is true of every volume and of every box.
         let _ = (store.sizes(), area.low());
         fill_area(store, area, &runs[0].value);
     } else {

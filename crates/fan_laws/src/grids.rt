@@ -19,6 +19,7 @@ pub fn pair_determines_face(a: EdgeName, b: EdgeName, sizes: &Sizes)
     ensures { (p m r n : ℕ) → a.0 ≢ b.0 → LiesInFace sizes.now p m a.0 → LiesInFace sizes.now p m b.0 →
         LiesInFace sizes.now r n a.0 → LiesInFace sizes.now r n b.0 → (p ≡ r) × (m ≡ n) }
 {
+    // Reading a size brings in that the sizes are those of a grid.
     let _ = sizes.nx();
 }
 

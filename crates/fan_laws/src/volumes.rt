@@ -30,6 +30,7 @@ pub fn one_fan(volume: &VoxelList, level: Level)
         count_by (λ m. m == n) (vertex_names volume.now.grid (field volume.now.samples level))
         ≡ (if is_crossing volume.now.grid (field volume.now.samples level) n then 1 else 0) }
 {
+    // Reading the sizes brings in what is true of every volume.
     let _ = volume.sizes();
 }
 
@@ -40,6 +41,7 @@ pub fn closed_when_padded(volume: &VoxelList, level: Level)
         on_border volume.now.grid (field volume.now.samples level) a b ≡ false }
     ensures closed { IsVerdict (triangles volume.now.grid (field volume.now.samples level)) Closed }
 {
+    // Reading the sizes brings in what is true of every volume.
     let _ = volume.sizes();
 }
 

@@ -1,4 +1,7 @@
+//! Numbers of thousandths, and how they are printed.
+
 ghost use Rattle.std.specs.Prelude.{◌≡◌, ◌+◌, ◌/◌, ◌<◌, ◌≤◌, ◌^◌, ◌++◌, ◌∷◌, [], unsigned_abs, length, decimal};
+ghost use Rattle.byte_names.specs.Bytes.{minus};
 ghost use Rattle.arrayvec.specs.ArrayString.{array_string_len};
 ghost use Rattle.iso_defs.specs.Texts.{decimal_text, level_size_text, level_text, thousandths};
 
@@ -20,7 +23,7 @@ fn put_digit(digit: u64, into: &mut ArrayString<24>)
 
 fn put_sign(into: &mut ArrayString<24>)
     requires room { array_string_len into.old < 24 }
-    ensures text { into.new.bytes ≡ into.old.bytes ++ 45 ∷ [] }
+    ensures text { into.new.bytes ≡ into.old.bytes ++ minus ∷ [] }
     ensures room { array_string_len into.new ≡ array_string_len into.old + 1 }
 {
     into.push('-');

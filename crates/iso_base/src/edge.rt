@@ -1,3 +1,5 @@
+//! Names of lattice edges and of cells.
+
 ghost use Rattle.std.specs.Prelude.{◌≡◌, ◌/◌, ◌%◌, ℕ};
 ghost use Rattle.iso_base.specs.Points.{IsEdge, IsEdgeName, name_of, point_at};
 ghost use Rattle.iso_base.specs.declared.point.Point.{Point};

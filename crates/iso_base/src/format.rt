@@ -1,3 +1,5 @@
+//! The formats in which the mesh of a window is written.
+
 /// A format in which the mesh of a window is written.
 #[derive(Clone, Copy, Debug, PartialEq, Eq)]
 pub enum MeshFormat {

@@ -1,3 +1,5 @@
+//! The types of samples.
+
 ghost use Rattle.std.specs.Prelude.{◌≡◌};
 ghost use Rattle.iso_base.specs.Samples.{least_of, greatest_of, width_of};
 

@@ -1,3 +1,5 @@
+//! Levels, in thousandths, and samples compared with them.
+
 ghost use Rattle.std.specs.Prelude.{◌≡◌, ◌<◌, ◌^◌, ◌↔◌, ℤ, int_le, unsigned_abs, IsSome, IfSome};
 ghost use Rattle.iso_base.specs.Samples.{IsSample};
 ghost use Rattle.iso_base.specs.Shifted.{level_limit, shifted, is_above_level, is_above_pad};

@@ -1,3 +1,5 @@
+//! Points of a grid, and their indices.
+
 ghost use Rattle.std.specs.Prelude.{◌≡◌, ◌<◌};
 ghost use Rattle.iso_defs.specs.Grid.{point_count};
 ghost use Rattle.iso_base.specs.Sizing.{IsGrid};

@@ -1,3 +1,5 @@
+//! The sizes of a grid, and why they are refused.
+
 ghost use Rattle.std.specs.Prelude.{◌≡◌};
 ghost use Rattle.iso_defs.specs.Grid.{point_count};
 ghost use Rattle.iso_base.specs.Sizing.{IsGrid, sized};

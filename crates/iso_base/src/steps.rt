@@ -1,3 +1,5 @@
+//! The counter of classified cells.
+
 ghost use Rattle.std.specs.Prelude.{◌≡◌, ℕ, ◌+◌, ◌<◌};
 
 use std::marker::Model;

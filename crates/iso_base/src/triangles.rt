@@ -1,3 +1,5 @@
+//! Lists of triangles over vertices by number.
+
 ghost use Rattle.std.specs.Prelude.{◌≡◌, All};
 ghost use Rattle.iso_base.specs.Triangles.{IsBelow, IsMesh, triangle_of};
 

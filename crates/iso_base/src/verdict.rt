@@ -1,3 +1,5 @@
+//! What is said of a list of triangles.
+
 /// What is said of a list of triangles: the first of these that holds, from `RepeatedCorner` to `SplitVertex`,
 /// then `Border` and `Closed`. Triangles and vertices are counted from 0.
 #[derive(Clone, Copy, Debug, PartialEq, Eq)]

@@ -1,3 +1,5 @@
+//! What a volume file gives.
+
 ghost use Rattle.std.specs.Prelude.{◌≡◌, length, All};
 ghost use Rattle.iso_defs.specs.Grid.{point_count};
 ghost use Rattle.iso_base.specs.Samples.{IsOfKind};

@@ -184,6 +184,7 @@ pub(crate) fn set_all(front: &mut Front, places: &[u32; 12], shift: u32, edges: 
     ensures either { (k : ℕ) → (slice_index front.new.labels k ≡ label)
         ⊎ (slice_index front.new.labels k ≡ slice_index front.old.labels k) }
 {
+    // Reading the sizes brings in that there is a label for each place.
     let _ = front.sizes();
     set_each(&mut front.labels[shift as usize..], places, edges, label);
 }

@@ -162,6 +162,7 @@ impl Labels {
         ensures { OnOk result (IsLabelFor self.old self.new (stand_of self.old.marks places.now shift edges.now)
             (length edges.now) low) }
     {
+        // Reading the number brings in that there are fewer labels than the number that stands for none.
         let _ = self.count();
         for edge in edges {
             let label = self.label_at(places[*edge as usize] + shift);

@@ -5,6 +5,6 @@ mod front;
 mod labels;
 mod laws;
 
-pub use front::{Front, NONE};
+pub use front::NONE;
 pub use labels::Labels;
 pub use laws::{loop_is_labelled, row_is_left};

@@ -1,3 +1,5 @@
+//! The verdict on a list of triangles.
+
 ghost use Rattle.std.specs.Prelude.{◌≡◌, ℕ, ◌+◌, ◌<◌, ◌≤◌, ◌^◌, ◌*◌, length, All, IfOk, vec_len, IsTrue, ◌↔◌, IfNone};
 ghost use Rattle.std.specs.List.{AllByRecursion};
 ghost use Rattle.iso_defs.specs.Manifold.{HasThreeCorners, arcs};

@@ -1,3 +1,5 @@
+//! Whether the arcs around a vertex form one fan.
+
 ghost use Rattle.std.specs.Prelude.{◌≡◌, ℕ, ◌+◌, ◌<◌, ◌^◌, length, All, Option, None};
 ghost use Rattle.arc_rings.specs.Arcs.{ArcBelow};
 ghost use Rattle.mesh_check.specs.Marks.{IsMarked, IsUnmarked, IsLeastTwice};

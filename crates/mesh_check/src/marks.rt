@@ -1,3 +1,5 @@
+//! Marks at the vertices around one vertex: where its arcs begin and end, and how far a path over them leads.
+
 ghost use Rattle.std.specs.Prelude.{◌≡◌, ℕ, ◌+◌, ◌<◌, ◌≤◌, List, length, All, ◌^◌, not};
 ghost use Rattle.std.specs.List.{count_by};
 ghost use Rattle.iso_defs.specs.FanWalk.{walked, IsFanStart};

@@ -7,4 +7,3 @@ mod positions;
 
 pub use laws::parts_without_border;
 pub use measured::mesh_measures;
-pub use positions::printed_positions;

@@ -41,6 +41,7 @@ fn measured_mesh(alloc: Global, volume: &VoxelList, level: Level) -> Result<Meas
 {
     one_fan(volume, level);
     mesh_sizes();
+    // Reading the sizes brings in what is true of every volume.
     let _ = volume.sizes();
     let (triangles, at) = placed_triangles(alloc, volume, level)?;
     measure(alloc, &triangles, at.as_slice())
@@ -58,6 +59,7 @@ pub fn mesh_measures(alloc: Global, volume: &VoxelList, level: Level) -> Result<
     ensures closed { HasPadBelow volume.now level → IfOk result (λ m. All HasNoBorder m) }
 {
     parts_without_border();
+    // Reading the sizes brings in what is true of every volume.
     let _ = volume.sizes();
     measured_mesh(alloc, volume, level)
 }

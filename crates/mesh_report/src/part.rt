@@ -1,3 +1,5 @@
+//! The numbers of a mesh and of its components.
+
 ghost use Rattle.std.specs.Prelude.{◌≡◌, ◌<◌, ◌≤◌, ◌++◌, ◌∷◌, [], All, OnOk};
 ghost use Rattle.indexmap.specs.IndexMap.{keys, values};
 

@@ -2,7 +2,7 @@
 use Rattle.std.specs.Prelude.{◌≡◌, ℕ, ◌+◌, ◌*◌, ◌<◌, ◌≤◌, List, map, slice_index}
 use Rattle.iso_defs.specs.Grid.{index}
 use Rattle.cell_loops.specs.Loops.{row_loops}
-use Rattle.crossing_edges.specs.Flags.{flags_at, names_in, places_in, rank}
+use Rattle.crossing_edges.specs.Flags.{flags_at, names_in, places_in}
 use Rattle.flat_mesh.specs.Lattice.{Leveled, heights}
 use Rattle.flat_mesh.specs.Faces.{loops_at}
 use Rattle.flat_mesh.specs.Rows.{row_start}
@@ -34,11 +34,6 @@ AreFlags v y z flags = (x : ℕ) → x < v.grid.nx → slice_index flags x
 -- no crossing edge begins at a point of a row
 pub record IsStill (v : Leveled) (y z : ℕ) : Type 0 where
   pub none : (x : ℕ) → x < v.grid.nx → flags_at v.grid (heights v) (row_start v.grid y z + x) ≡ 0
-
--- the numbers of the first crossing edges of the points of a row, and behind them that of the next row
-abbrev pub AreFirst : Leveled → ℕ → ℕ → List ℕ → Type 0
-AreFirst v y z first = (x : ℕ) → x ≤ v.grid.nx → slice_index first x
-    ≡ rank v.grid (heights v) (3 * (row_start v.grid y z + x))
 
 -- the names of the crossing edges that begin in a row, ascending
 abbrev pub row_names : Leveled → ℕ → ℕ → List ℕ

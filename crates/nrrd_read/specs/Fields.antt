@@ -2,6 +2,7 @@
 use Rattle.std.specs.Prelude.{ℕ, ◌+◌, Bool, ◌==◌, ◌||◌, List, map, take, drop, length, get_or, position, filter_map, Option, Some, None}
 use Rattle.std.specs.Prelude.{option_and_then, is_some, if◌then◌else◌, codes}
 use Rattle.std.specs.List.{slice_get, range_with_len}
+use Rattle.byte_names.specs.Bytes.{hash, colon, equals_sign}
 use Rattle.nrrd_read.specs.declared.fault.Field.{Field}
 use Rattle.nrrd_read.specs.declared.fault.Field.TheVariants.{Dimension, Kind, Sizes, Encoding, Endian, LineSkip, ByteSkip}
 use Rattle.nrrd_read.specs.declared.fault.NrrdFault.{NrrdFault}
@@ -42,19 +43,19 @@ field_line name value = if is_data_file name then NamesFile else given (field_na
 
 -- the place of the first colon
 abbrev pub colon_in : List ℕ → Option ℕ
-colon_in text = position (λ b. b == 58) text
+colon_in text = position (λ b. b == colon) text
 
 -- a line by the place of its first colon
 abbrev pub at_colon : List ℕ → Option ℕ → Saying
 at_colon text None = IsBad
 at_colon text (Some i) =
     if i == 0 then IsBad else
-    if get_or (drop (i + 1) text) 0 0 == 61 then IsUnread else
+    if get_or (drop (i + 1) text) 0 0 == equals_sign then IsUnread else
     field_line (trimmed (take i text)) (trimmed (drop (i + 1) text))
 
 -- what a line says; a comment begins with a number sign
 unfoldable pub meaning_of : List ℕ → Saying
-meaning_of text = if get_or text 0 0 == 35 then IsUnread else at_colon text (colon_in text)
+meaning_of text = if get_or text 0 0 == hash then IsUnread else at_colon text (colon_in text)
 
 -- what each line says
 abbrev pub meanings : List (List ℕ) → List Saying

@@ -1,3 +1,5 @@
+//! Why a file is not read as a volume.
+
 ghost use Rattle.std.specs.Prelude.{◌≡◌};
 ghost use Rattle.nrrd_read.specs.declared.fault.NrrdFault.TheVariants.{Memory};
 ghost use Rattle.nrrd_read.specs.Faults.{fault_of};

@@ -2,6 +2,7 @@
 
 ghost use Rattle.std.specs.Prelude.{◌≡◌, ◌+◌, ◌*◌, ◌^◌, ◌<◌, ◌≤◌, ◌⊎◌, ◌∷◌, ◌++◌, [], All, IfOk, flat_map, length, map};
 ghost use Rattle.std.specs.Fmt.{signed_decimal};
+ghost use Rattle.byte_names.specs.Bytes.{line_feed};
 ghost use Rattle.byte_streams.specs.Seen.{Stages};
 ghost use Rattle.nrrd_text.specs.Forms.{IsOfForm, printed};
 
@@ -47,7 +48,7 @@ fn make_room<K: Sink>(sink: &mut K, waiting: &mut SampleLines, samples: usize) -
 
 /// Puts the end of a line behind what waits.
 pub(crate) fn gather_end<K: Sink>(sink: &mut K, waiting: &mut SampleLines) -> Result<(), Failed>
-    ensures { Stages (K.seen sink.old) (K.seen sink.new) waiting.old waiting.new result (10 ∷ []) }
+    ensures { Stages (K.seen sink.old) (K.seen sink.new) waiting.old waiting.new result (line_feed ∷ []) }
 {
     make_room(sink, waiting, 1)?;
     waiting.push_end();

@@ -2,6 +2,7 @@
 
 ghost use Rattle.std.specs.Prelude.{◌≡◌, ◌+◌, ◌*◌, ◌<◌, ◌≤◌, ◌∷◌, ◌++◌, [], IsTrue, All, length, flat_map, map};
 ghost use Rattle.std.specs.Fmt.{signed_decimal};
+ghost use Rattle.byte_names.specs.Bytes.{line_feed};
 ghost use Rattle.nrrd_text.specs.Forms.{IsOfForm, printed};
 
 use crate::byte_numbers::ByteNumbers;
@@ -86,7 +87,7 @@ impl SampleLines {
     #[inline(always)]
     pub(crate) fn push_end(&mut self)
         requires { length self.old < 32768 }
-        ensures { self.new ≡ self.old ++ 10 ∷ [] }
+        ensures { self.new ≡ self.old ++ line_feed ∷ [] }
     {
         self.bytes[self.end] = b'\n';
         self.end += 1;

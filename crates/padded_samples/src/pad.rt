@@ -59,6 +59,7 @@ impl<'a, S: Samples> Padded<'a, S> {
     {
         let (nx, ny, nz) = (sizes.nx(), sizes.ny(), sizes.nz());
         let stored = Sizes::new(u64::from(nx) + 2, u64::from(ny) + 2, u64::from(nz) + 2)?;
+        // Reading a size brings in that the sizes are those of a grid.
         let _ = stored.nx();
         Ok(Padded {
             inner,

@@ -37,6 +37,7 @@ fn add_cell<T: Tally, H: Heights>(
         (cell.low.y + (H.leveled field.now).grid.ny * cell.low.z) (loops_before (H.leveled field.now) (cell.index + 1))
         walked.new.labels walked.new.tallies.items walked.new.edges) }
 {
+    // Reading the sizes brings in what is true of every volume at a level.
     let _ = field.sizes();
     let case = CaseRow::of(case);
     for turn in 0..loop_count(case) {

@@ -73,6 +73,7 @@ pub fn numbered<R: CellRows, L: Ledger>(
         (length (vertices store.now.grid (field store.now.samples level)))
         (triangles store.now.grid (field store.now.samples level))) }
 {
+    // Reading the sizes brings in what is true of every volume.
     let _ = store.sizes();
     let walked = walk::<Counts, R, L>(alloc, store, tree, level, rows, steps)?;
     let all = added(walked.tallies.as_slice());

@@ -111,6 +111,7 @@ pub fn measured<R: CellRows, L: Ledger>(
     requires named { NamesCases (R.named rows.old) store.now.grid (field_of store.now.samples level) }
     ensures { IfOk result (λ m. m ≡ measures_at store.now level) }
 {
+    // Reading the sizes brings in what is true of every volume.
     let _ = store.sizes();
     let walked = walk::<Swept, R, L>(alloc, store, tree, level, rows, steps)?;
     let components = components(alloc, walked)?;

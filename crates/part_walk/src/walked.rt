@@ -50,6 +50,7 @@ impl<T: Tally> Walked<T> {
     {
         let count = self.labels.count() as usize;
         for at in self.tallies.len()..count {
+            // The invariant alone speaks of the place.
             let _ = at;
             self.tallies.push(T::none())?;
             self.edges.crossings.push(0)?;
@@ -82,10 +83,13 @@ impl<T: Tally> Walked<T> {
             (cell.low.y + (H.leveled field.now).grid.ny * cell.low.z) (loops ++ l ∷ []) self.new.labels
             self.new.tallies.items self.new.edges) }
     {
+        // Reading the sizes brings in what is true of every volume at a level.
         let _ = field.sizes();
         let label = self.labels.add_loop(places, 3 * cell.low.x, edges)?;
         self.know()?;
+        // Reading the number brings in that there are fewer labels than the number that stands for none.
         let _ = self.labels.count();
+        // Reading the pairs brings in that they are pairs of labels.
         let _ = self.labels.pairs();
         self.tallies[label as usize].add_loop(field, cell, edges);
         Ok(())

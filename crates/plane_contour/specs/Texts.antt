@@ -1,6 +1,7 @@
 -- The text of contour lines.
 use Rattle.std.specs.Prelude.{ℕ, ℤ, pos, ◌-ℤ◌, Bool, if◌then◌else◌, List, ◌∷◌, ◌++◌, length, codes, decimal}
 use Rattle.std.specs.List.{flat_map}
+use Rattle.byte_names.specs.Bytes.{space}
 use Rattle.iso_defs.specs.Texts.{line, decimal_text}
 use Rattle.plane_contour.specs.Points.{DrawnLine, Point}
 
@@ -10,7 +11,7 @@ printed_coordinate padded n = if padded then n -ℤ pos 1000 else n
 
 -- the line of a point: x and y
 abbrev pub point_line : Bool → Point → List ℕ
-point_line padded p = line (decimal_text (printed_coordinate padded p.1.0) ++ 32
+point_line padded p = line (decimal_text (printed_coordinate padded p.1.0) ++ space
     ∷ decimal_text (printed_coordinate padded p.2.0))
 
 -- the lines of points

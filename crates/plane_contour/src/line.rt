@@ -1,3 +1,5 @@
+//! Contour lines, and lists of them.
+
 ghost use Rattle.std.specs.Prelude.{◌≡◌, All};
 ghost use Rattle.plane_contour.specs.Points.{IsNear};
 

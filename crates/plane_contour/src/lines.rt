@@ -1,3 +1,5 @@
+//! The contour lines of a plane, in the order of their names.
+
 ghost use Rattle.std.specs.Prelude.{◌≡◌, ℕ, ◌*◌, ◌<◌, ℤ, All, IfOk, IsTrue, ◌↔◌, length, map};
 ghost use Rattle.iso_defs.specs.Contours.{contours};
 ghost use Rattle.iso_base.specs.Samples.{IsSample};

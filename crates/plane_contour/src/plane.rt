@@ -1,3 +1,5 @@
+//! The lattice edges of a plane, and which of them a contour line joins.
+
 ghost use Rattle.std.specs.Prelude.{◌≡◌, ℕ, ◌+◌, ◌*◌, ◌<◌, ◌^◌, ◌==◌, ◌∷◌, [], ℤ, true, false, MatchOption, IfSome, position, slice_index, unsigned_abs};
 ghost use Rattle.iso_defs.specs.Bricks.{bits_of};
 ghost use Rattle.iso_defs.specs.Face.{is_ambiguous, is_joined, value_segments};

@@ -1,3 +1,5 @@
+//! A contour line followed from edge to edge.
+
 ghost use Rattle.std.specs.Prelude.{◌≡◌, ◌+◌, ◌*◌, ◌<◌, ◌++◌, ◌^◌, pos, OnOk, All, length, map, true, unsigned_abs};
 ghost use Rattle.iso_defs.specs.Lists.{begins};
 ghost use Rattle.iso_defs.specs.Contours.{line_from};

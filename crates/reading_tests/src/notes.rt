@@ -1,3 +1,5 @@
+//! Tests of messages, exit statuses and lines of verdicts.
+
 use endings::{Answer, VolumeFault, put_note, verdict_line};
 use iso_base::{SizeFault, Verdict};
 use iso_io::MemSink;

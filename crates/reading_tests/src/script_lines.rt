@@ -1,3 +1,5 @@
+//! Tests of script lines.
+
 use iso_base::{BenchFault, MeshFormat, Written};
 use iso_io::{Failed, MemSink};
 use measure::Share;

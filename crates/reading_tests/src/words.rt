@@ -1,3 +1,5 @@
+//! Tests of command-line arguments.
+
 use command_words::{Request, read_words};
 use iso_base::Level;
 use mesh_text::TwoWayFormat;

@@ -49,6 +49,7 @@ fn is_one_line(
     ensures { OnTrue result ((x : ℕ) → home area.now.low.x ≤ x → x ≤ home area.now.high.x
         → node_at nodes.now (half + brick_at sizes.now x y z) ≡ one_span value) }
 {
+    // Reading a size brings in that the sizes are those of a grid.
     let _ = sizes.nx();
     for x in home(area.low().x)..home(area.high().x) + 1 {
         if !is_one_brick(sizes, nodes, half, x, y, z, value) {
@@ -74,6 +75,7 @@ fn is_one_layer(
         ≤ y → y ≤ home area.now.high.y
         → node_at nodes.now (half + brick_at sizes.now x y z) ≡ one_span value) }
 {
+    // Reading a size brings in that the sizes are those of a grid.
     let _ = sizes.ny();
     for y in home(area.low().y)..home(area.high().y) + 1 {
         if !is_one_line(sizes, nodes, half, area, y, z, value) {
@@ -92,6 +94,7 @@ pub fn is_one(sizes: &Sizes, nodes: &[Span], half: usize, area: &FillBox, value:
         → home area.now.low.z ≤ z → z ≤ home area.now.high.z → node_at nodes.now (half + brick_at sizes.now x y z)
         ≡ one_span value) }
 {
+    // Reading a size brings in that the sizes are those of a grid.
     let _ = sizes.nz();
     for z in home(area.low().z)..home(area.high().z) + 1 {
         if !is_one_layer(sizes, nodes, half, area, z, value) {
@@ -108,6 +111,7 @@ pub fn first_least(sizes: &Sizes, nodes: &[Span], half: usize, area: &FillBox) -
     ensures { result ≡ (node_at nodes.now (half
         + brick_at sizes.now (home area.now.low.x) (home area.now.low.y) (home area.now.low.z))).least }
 {
+    // Reading a size brings in that the sizes are those of a grid.
     let _ = (sizes.nx(), sizes.ny(), sizes.nz());
     let low = area.low();
     let brick = brick_at(sizes, home(low.x), home(low.y), home(low.z));

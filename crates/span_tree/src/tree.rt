@@ -1,3 +1,5 @@
+//! The tree of the minimum and the maximum sample of each brick.
+
 ghost use Rattle.std.specs.Prelude.{◌≡◌, ℕ, ◌+◌, ◌*◌, ◌^◌, ◌<◌, ◌≤◌, IfOk, IfSome, length, slice_set};
 ghost use Rattle.iso_defs.specs.Bricks.{brick_count, is_active};
 ghost use Rattle.iso_base.specs.Points.{IsPoint};
@@ -107,6 +109,7 @@ impl SpanTree {
         ensures { (v : Volume) → IsVolume v → IsRightFor self.now v →
             IfSome result (λ value. AreOne v.grid area.now value v.samples) }
     {
+        // Reading a corner brings in that the box's corners are in order.
         let _ = area.low();
         let half = places_below(self.height);
         let value = first_least(&self.sizes, &self.nodes, half, area);

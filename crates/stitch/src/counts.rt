@@ -26,6 +26,7 @@ pub fn count_all<R: CellRows, L: Ledger>(
         ≤ steps.old + 512 * asked_among field.now.grid (heights field.now) (R.named rows.old) 0
         (brick_count field.now.grid) }
 {
+    // Reading the sizes brings in what is true of every volume at a level.
     let _ = field.sizes();
     let bricks = field.brick_count();
     let mut counts = Counts {

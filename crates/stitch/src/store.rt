@@ -81,6 +81,7 @@ impl<'a, R: CellRows, L: Ledger> StoreRows<'a, R, L> {
         ensures same_steps { result.steps.ghost_name ≡ steps.entry.ghost_name }
         ensures steps { result.steps.now ≡ steps.old }
     {
+        // Reading the sizes brings in what is true of every volume at a level.
         let _ = field.sizes();
         StoreRows {
             field,

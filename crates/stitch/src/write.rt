@@ -55,6 +55,7 @@ fn write_in<R: CellRows, K: Sink, L: Ledger>(
         ≤ steps.old + 1536 * asked_among field.now.grid (heights field.now) (R.named rows.old) 0
         (brick_count field.now.grid) }
 {
+    // Reading the sizes brings in what is true of every volume at a level.
     let _ = field.sizes();
     let mut store = StoreRows::new(field, rows, steps);
     write_mesh(&mut store, style, ranks, sink)
@@ -85,6 +86,7 @@ pub fn write_ply<R: CellRows, K: Sink, L: Ledger>(
     ensures most { steps.new ≤ steps.old + 1536 * asked_among store.now.grid (field store.now.samples level)
         (R.named rows.old) 0 (brick_count store.now.grid) }
 {
+    // Reading the sizes brings in what is true of every volume.
     let _ = store.sizes();
     let style = Style {
         format: MeshFormat::Ply,
@@ -117,6 +119,7 @@ pub fn write_obj<R: CellRows, K: Sink, L: Ledger>(
     ensures most { steps.new ≤ steps.old + 1536 * asked_among store.now.grid (field store.now.samples level)
         (R.named rows.old) 0 (brick_count store.now.grid) }
 {
+    // Reading the sizes brings in what is true of every volume.
     let _ = store.sizes();
     let style = Style {
         format: MeshFormat::Obj,

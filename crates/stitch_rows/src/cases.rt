@@ -66,6 +66,7 @@ fn active_cases<R: CellRows, L: Ledger>(
     ensures most { steps.new
         ≤ steps.old + 8 * asked_among field.now.grid (heights field.now) (R.named rows.old) (row.bricks.first + x) 1 }
 {
+    // Reading the sizes brings in what is true of every volume at a level.
     let _ = field.sizes();
     let bricks = row.bricks;
     let mut run = ArrayVec::new();

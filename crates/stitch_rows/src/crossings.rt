@@ -52,6 +52,7 @@ fn place_of<T: Packed>(
         (3 * row_start field.now.grid row.y row.z + edge) ≡ true }
     ensures { result ≡ edge_place field.now.grid (heights field.now) (3 * row_start field.now.grid row.y row.z + edge) }
 {
+    // Reading the sizes brings in what is true of every volume at a level; the clauses alone speak of the row.
     let _ = (field.sizes(), row);
     let x = u32::from(edge / 3);
     let brick = (x / 8).min(last);

@@ -95,6 +95,7 @@ impl<'a> Field<'a> {
     pub fn copies(&self) -> PackedRun<'_>
         ensures { AreAllCopies self.now.grid self.now.samples (samples_in result) }
     {
+        // Reading the sizes brings in what is true of every volume.
         let _ = self.store.sizes();
         self.store.copies()
     }
@@ -148,7 +149,9 @@ impl<'a> Field<'a> {
             + 9 * (row.bricks.y + by.up + 9 * (row.bricks.z + by.far)) }
         ensures { IsRun self.now (8 * x) (row.y + by.up) (row.z + by.far) (map T.value result.now) }
     {
+        // The clauses alone speak of these.
         let _ = (row, by, x);
+        // Reading the sizes brings in what is true of every volume.
         let _ = self.store.sizes();
         &copies[start..start + 9]
     }
@@ -164,6 +167,7 @@ impl<'a> Field<'a> {
     pub fn next_active(&self, from: u32) -> u32
         ensures { IsNextFrom self.now.grid (heights self.now) from result }
     {
+        // Reading the sizes brings in what is true of every volume.
         let _ = self.store.sizes();
         match self.tree.next_active(from, self.level) {
             Some(brick) => brick.0,

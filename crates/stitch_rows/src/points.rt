@@ -92,6 +92,7 @@ fn brick_flags<T: Flagged>(
     ensures flags { AreFlagsTo field.now row.y row.z (8 * x + 8) flags.new }
     ensures zeros { AreZerosFrom (8 * x + 8) flags.new }
 {
+    // Reading the sizes brings in what is true of every volume at a level.
     let _ = field.sizes();
     let least = field.least_above();
     let runs = full_runs(field, copies, row, place, x);
@@ -110,6 +111,7 @@ fn last_flags<T: Flagged>(field: &Field, copies: &[T], row: PointRow, x: u32, fl
     requires before { AreFlagsTo field.now row.y row.z (8 * x) flags.old }
     ensures { AreFlags field.now row.y row.z flags.new }
 {
+    // Reading the sizes brings in what is true of every volume at a level.
     let _ = field.sizes();
     let least = field.least_above();
     let runs = point_runs(field, copies, row, x);

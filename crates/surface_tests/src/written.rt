@@ -10,7 +10,7 @@ use crossing_edges::EdgeVertices;
 use iso_base::{Level, MeshFormat, Sizes, Written};
 use list_mesh::ListMesh;
 use mesh_lines::{Origin, Style};
-use point_write::{STAGE, put_points};
+use point_write::put_points;
 use std::alloc::Global;
 use std::process::Abort;
 use std::test::Fail;
@@ -73,8 +73,7 @@ fn put_three(alloc: Global, sink: &mut MemSink, sizes: &Sizes) -> Result<(), Fai
         names: vec![in alloc; 0, 1, 2]?,
         places: vec![in alloc; 500, 500, 500]?,
     };
-    let mut waiting = Vec::with_capacity(alloc, STAGE)?;
-    put_points(sink, &mut waiting, sizes, &edges)?;
+    put_points(sink, sizes, &edges)?;
     Ok(())
 }
 

@@ -1,6 +1,7 @@
 -- Level numbers: an optional minus, one to eighteen digits, and where a point follows, one to three digits behind it.
 use Rattle.std.specs.Prelude.{ℕ, ◌==◌, ◌+◌, ◌-◌, ◌*◌, ◌^◌, nat_le, List, [], ◌∷◌, length, take, drop, position, ℤ, pos, neg_ℤ, Option, Some, None}
 use Rattle.std.specs.Prelude.{option_map, option_and_then, if◌then◌else◌}
+use Rattle.byte_names.specs.Bytes.{minus, dot}
 use Rattle.text_lines.specs.Numbers.{digits_value}
 
 -- the thousandths that one to three digits behind a point are
@@ -16,10 +17,10 @@ thousandths_by word (Some point) =
     (digits_value (take point word))
 
 abbrev pub thousandths_value : List ℕ → Option ℕ
-thousandths_value word = thousandths_by word (position (λ b. b == 46) word)
+thousandths_value word = thousandths_by word (position (λ b. b == dot) word)
 
 -- the thousandths that a level number says
 abbrev pub level_number_of : List ℕ → Option ℤ
 level_number_of [] = None
-level_number_of (b ∷ bs) = if b == 45 then option_map (λ n. neg_ℤ (pos n)) (thousandths_value bs)
+level_number_of (b ∷ bs) = if b == minus then option_map (λ n. neg_ℤ (pos n)) (thousandths_value bs)
     else option_map pos (thousandths_value (b ∷ bs))

@@ -1,5 +1,6 @@
 -- The lines of a text.
 use Rattle.std.specs.Prelude.{ℕ, zero, suc, Bool, false, ◌==◌, ◌&&◌, List, [], ◌∷◌, get_or, map, if◌then◌else◌}
+use Rattle.byte_names.specs.Bytes.{line_feed, carriage_return}
 
 -- a line, and the bytes after it
 pub record Line : Type 0 where
@@ -9,7 +10,7 @@ pub record Line : Type 0 where
 -- whether the next byte is a line feed
 abbrev pub begins_feed : List ℕ → Bool
 begins_feed [] = false
-begins_feed (b ∷ bs) = b == 10
+begins_feed (b ∷ bs) = b == line_feed
 
 -- a byte stands before the first of these lines, or alone in the last line
 abbrev pub joined : ℕ → List Line → List Line
@@ -20,8 +21,8 @@ joined b (l ∷ ls) = record { text = b ∷ l.text; after = l.after } ∷ ls
 abbrev pub lines_of : List ℕ → List Line
 lines_of [] = []
 lines_of (b ∷ bs) =
-    if b == 10 then record { text = []; after = bs } ∷ lines_of bs else
-    if b == 13 && begins_feed bs then lines_of bs else
+    if b == line_feed then record { text = []; after = bs } ∷ lines_of bs else
+    if b == carriage_return && begins_feed bs then lines_of bs else
     joined b (lines_of bs)
 
 -- the texts of all lines
@@ -31,4 +32,4 @@ texts_of bytes = map (λ (l : Line). l.text) (lines_of bytes)
 -- where the text of a line ends whose line feed stands at a place
 abbrev pub text_end : List ℕ → ℕ → ℕ
 text_end bs zero = zero
-text_end bs (suc i) = if get_or bs i 0 == 13 then i else suc i
+text_end bs (suc i) = if get_or bs i 0 == carriage_return then i else suc i

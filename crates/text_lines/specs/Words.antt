@@ -1,10 +1,11 @@
 -- Blanks, words and the case of letters.
 use Rattle.std.specs.Prelude.{ℕ, Bool, true, ◌==◌, ◌||◌, List, [], ◌∷◌, map, if◌then◌else◌, bytes_eq, Option, Some, None}
 use Rattle.std.specs.Char.{to_ascii_lowercase}
+use Rattle.byte_names.specs.Bytes.{tab, space}
 
 -- a space or a tab
 abbrev pub is_blank : ℕ → Bool
-is_blank b = b == 32 || b == 9
+is_blank b = b == space || b == tab
 
 -- without the blanks at the front
 abbrev pub skip_blanks : List ℕ → List ℕ

@@ -1,4 +1,7 @@
+//! Level numbers: whole numbers and numbers with up to three decimals.
+
 ghost use Rattle.std.specs.Prelude.{◌≡◌, ◌<◌, ◌^◌, ◌==◌, IfSome, pos, neg_ℤ, position};
+ghost use Rattle.byte_names.specs.Bytes.{dot};
 ghost use Rattle.text_lines.specs.Levels.{decimals_value, level_number_of, thousandths_value};
 
 use crate::numbers::digits;
@@ -19,7 +22,7 @@ fn decimals(word: &[u8]) -> Option<u128>
 
 /// The place of the first point.
 fn point_at(word: &[u8]) -> Option<usize>
-    ensures { result ≡ position (λ b. b == 46) word.now }
+    ensures { result ≡ position (λ b. b == dot) word.now }
 {
     word.iter().position(|b| *b == b'.')
 }

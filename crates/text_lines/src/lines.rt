@@ -1,4 +1,7 @@
+//! The lines of a text.
+
 ghost use Rattle.std.specs.Prelude.{◌≡◌, ℕ, ◌+◌, ◌<◌, ◌≤◌, ◌==◌, ◌∷◌, [], false, length, position, slice_index, MatchOption};
+ghost use Rattle.byte_names.specs.Bytes.{line_feed};
 ghost use Rattle.text_lines.specs.Lines.{lines_of, text_end};
 
 /// The length of a line without the one return before its line feed.
@@ -21,7 +24,7 @@ const STEP: usize = 16;
 #[inline(always)]
 fn has_feed(bytes: &[u8], from: usize) -> bool
     requires { from + STEP ≤ length bytes.now }
-    ensures { result ≡ false → (k : ℕ) → k < STEP → (slice_index bytes.now (from + k) == 10) ≡ false }
+    ensures { result ≡ false → (k : ℕ) → k < STEP → (slice_index bytes.now (from + k) == line_feed) ≡ false }
 {
     // No branch leaves the loop, so that it is one comparison of all the bytes.
     let mut found = false;
@@ -35,7 +38,7 @@ fn has_feed(bytes: &[u8], from: usize) -> bool
 #[inline(always)]
 fn without_feed(bytes: &[u8]) -> usize
     ensures within { result ≤ length bytes.now }
-    ensures none { (k : ℕ) → k < result → (slice_index bytes.now k == 10) ≡ false }
+    ensures none { (k : ℕ) → k < result → (slice_index bytes.now k == line_feed) ≡ false }
 {
     let steps = bytes.len() / STEP;
     for step in 0..steps {
@@ -48,7 +51,7 @@ fn without_feed(bytes: &[u8]) -> usize
 
 /// The place of the first line feed, from a look at each byte.
 fn first_feed(bytes: &[u8]) -> Option<usize>
-    ensures { result ≡ position (λ b. b == 10) bytes.now }
+    ensures { result ≡ position (λ b. b == line_feed) bytes.now }
 {
     bytes.iter().position(|b| *b == b'\n')
 }
@@ -56,7 +59,7 @@ fn first_feed(bytes: &[u8]) -> Option<usize>
 /// The place of the first line feed.
 #[inline(always)]
 fn feed_at(bytes: &[u8]) -> Option<usize>
-    ensures { result ≡ position (λ b. b == 10) bytes.now }
+    ensures { result ≡ position (λ b. b == line_feed) bytes.now }
 {
     let start = without_feed(bytes);
     let place = first_feed(&bytes[start..])?;

@@ -1,3 +1,5 @@
+//! Whole numbers of a text.
+
 ghost use Rattle.std.specs.Prelude.{◌≡◌, ◌<◌, ◌^◌, IfSome, pos, neg_ℤ};
 ghost use Rattle.text_lines.specs.Numbers.{digits_value, number_of, whole_of};
 

@@ -1,3 +1,5 @@
+//! The words of a line.
+
 ghost use Rattle.std.specs.Prelude.{◌≡◌, MatchOption, [], ◌∷◌, position};
 ghost use Rattle.std.specs.Option.{option_map};
 ghost use Rattle.text_lines.specs.Words.{is_blank, skip_blanks, trim_end, trimmed, is_word, words_of, three_in};

@@ -2,6 +2,7 @@
 use Rattle.std.specs.Prelude.{ℕ, zero, suc, ◌+◌, ◌-◌, ◌*◌, ◌/◌, Bool, ◌&&◌, nat_le, nat_lt, ℤ, List, [], ◌∷◌, map, take, length, Option, Some, None}
 use Rattle.std.specs.Prelude.{ok_or, Result, Ok, Err, if◌then◌else◌}
 use Rattle.std.specs.List.{enumerate_from}
+use Rattle.byte_names.specs.Bytes.{digit_zero, digit_nine, upper_a, upper_f, lower_a, lower_f}
 use Rattle.iso_base.specs.Samples.{width_of}
 use Rattle.iso_base.specs.declared.kind.SampleKind.{SampleKind}
 use Rattle.text_samples.specs.declared.fault.SampleFault.{SampleFault}
@@ -20,12 +21,12 @@ abbrev pub marks_in : List ℕ → List Mark
 marks_in [] = []
 marks_in (b ∷ bs) = if is_separator b then marks_in bs else record { byte = b; after = bs } ∷ marks_in bs
 
--- the value of a hex digit of either case
+-- the value of a hex digit of either case: 55 and 87 are the letters A and a less 10
 unfoldable pub hex_value : ℕ → Option ℕ
 hex_value b =
-    if nat_le 48 b && nat_le b 57 then Some (b - 48) else
-    if nat_le 65 b && nat_le b 70 then Some (b - 55) else
-    if nat_le 97 b && nat_le b 102 then Some (b - 87) else None
+    if nat_le digit_zero b && nat_le b digit_nine then Some (b - digit_zero) else
+    if nat_le upper_a b && nat_le b upper_f then Some (b - 55) else
+    if nat_le lower_a b && nat_le b lower_f then Some (b - 87) else None
 
 -- the digit at a place, or that the sample of that place has none there; a sample has so many digits
 abbrev pub digit_at : ℕ → ℕ × Mark → Result ℕ SampleFault

@@ -1,3 +1,5 @@
+//! Why a text is not read as samples.
+
 ghost use Rattle.std.specs.Prelude.{◌≡◌};
 ghost use Rattle.text_samples.specs.declared.fault.SampleFault.TheVariants.{Memory};
 

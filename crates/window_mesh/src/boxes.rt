@@ -59,6 +59,7 @@ pub fn window_sizes(sizes: &Sizes, area: &FillBox) -> Result<Sizes, WindowFault>
     ensures fault { IfErr result (IsFaultOf (window_of area.now).grid) }
     ensures memory { IfErr result (λ fault. fault ≢ WindowFault.Memory) }
 {
+    // Reading the number of points brings in that the sizes are those of a grid.
     let _ = sizes.count();
     let (low, high) = (area.low(), area.high());
     let nx = u64::from(high.x - low.x) + 1;
@@ -109,6 +110,7 @@ pub fn crop(alloc: Global, store: &BrickStore, area: &FillBox) -> Result<VoxelLi
     ensures thick { OnOk result (thin_axis (window_of area.now).grid ≡ None) }
     ensures fault { IfErr result (IsFaultOf (window_of area.now).grid) }
 {
+    // Reading a corner brings in that the box's corners are in order.
     let _ = area.low();
     let window = window_sizes(&store.sizes(), area)?;
     let mut samples = Vec::with_capacity(alloc, window.count() as usize)?;

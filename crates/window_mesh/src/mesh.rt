@@ -31,6 +31,7 @@ pub fn named_window(
     ensures thick { OnOk result (thin_axis (window_of area.now).grid ≡ None) }
     ensures fault { IfErr result (IsFaultOf (window_of area.now).grid) }
 {
+    // Reading a corner brings in that the box's corners are in order.
     let _ = area.low();
     let volume = crop(alloc, store, area)?;
     let mesh = extract_flat(alloc, &volume, level)?;

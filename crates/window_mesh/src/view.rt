@@ -82,7 +82,9 @@ impl<'a> BoxSamples<'a> {
         ensures count { length (boxed_list self.now) ≡ point_count result }
         ensures range { All IsSample (boxed_list self.now) }
     {
+        // Reading the sizes brings in what is true of every volume.
         let _ = self.store.sizes();
+        // Reading the number of points brings in that the sizes are those of a grid.
         let _ = self.sizes.count();
         self.sizes
     }
@@ -94,6 +96,7 @@ impl<'a> BoxSamples<'a> {
         ensures value { result ≡ whole_of self.now.window point }
         ensures point { IsPoint self.now.volume.grid result }
     {
+        // Reading both brings in what is true of every volume and of its grid.
         let _ = self.store.sizes().count();
         Point {
             x: self.low.x + point.x,
@@ -137,6 +140,7 @@ impl<'a> BoxSamples<'a> {
         ensures { map T.value into.new ≡ row_samples self.now.volume (whole_of self.now.window point)
             (length into.old) }
     {
+        // Reading the sizes brings in what is true of every box of a volume.
         let _ = self.sizes();
         let mut row = [0; LONGEST];
         let row = &mut row[..into.len()];

@@ -1,0 +1,2 @@
+//! Names of ASCII bytes, for definitions of texts.
+#![tactic(auto)]
