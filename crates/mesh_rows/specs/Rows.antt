@@ -1,11 +1,12 @@
 -- What is known of the points and the cells of a row of a volume.
-use Rattle.std.specs.Prelude.{◌≡◌, ℕ, ◌+◌, ◌*◌, ◌<◌, ◌≤◌, List, map, slice_index}
+use Rattle.std.specs.Prelude.{◌≡◌, ℕ, ◌+◌, ◌-◌, ◌*◌, ◌<◌, ◌≤◌, List, map, slice_index}
 use Rattle.iso_defs.specs.Grid.{index}
 use Rattle.cell_loops.specs.Loops.{row_loops}
 use Rattle.crossing_edges.specs.Flags.{flags_at, names_in, places_in}
 use Rattle.flat_mesh.specs.Lattice.{Leveled, heights}
 use Rattle.flat_mesh.specs.Faces.{loops_at}
 use Rattle.flat_mesh.specs.Rows.{row_start}
+use Rattle.row_lists.specs.Active.{active_among}
 
 -- a number of a case that has the loops of a cell
 pub record IsCaseOf (v : Leveled) (q case : ℕ) : Type 0 where
@@ -20,6 +21,14 @@ AreCasesTo v y z count cases = (x : ℕ) → x + 1 < v.grid.nx → x < count →
 -- those of all its cells
 abbrev pub AreCases : Leveled → ℕ → ℕ → List ℕ → Type 0
 AreCases v y z cases = AreCasesTo v y z v.grid.nx cases
+
+-- the cells of a row that may have loops, by how far they are along x, with numbers of cases that have their loops: among the cases of
+-- all its cells they are those of another number than 0
+pub record AreActive (v : Leveled) (y z : ℕ) (places cases : List ℕ) : Type 0 where
+  pub all : List ℕ
+  pub all_are : AreCases v y z all
+  pub places_are : places ≡ active_among all 0 (v.grid.nx - 1)
+  pub cases_are : cases ≡ map (slice_index all) places
 
 -- the flags of the first points of a row
 abbrev pub AreFlagsTo : Leveled → ℕ → ℕ → ℕ → List ℕ → Type 0

@@ -1,10 +1,11 @@
 //! What a row of a volume at a level has, however the volume lies.
-ghost use Rattle.std.specs.Prelude.{◌≡◌, ℕ, ◌+◌, ◌*◌, ◌<◌, ◌≤◌, false, IsTrue, length};
+ghost use Rattle.std.specs.Prelude.{◌≡◌, ℕ, ◌+◌, ◌*◌, ◌<◌, ◌≤◌, length, take};
 ghost use Rattle.mesh_rows.specs.Counts.{AreAllCounts};
-ghost use Rattle.mesh_rows.specs.Rows.{AreCases, AreEdges, AreFlags, IsStill, row_places};
+ghost use Rattle.mesh_rows.specs.Rows.{AreActive, AreEdges, row_names, row_places};
 
 use crate::counts::Counts;
 use flat_mesh::Heights;
+use row_lists::{EDGES, POINTS};
 
 /// The rows of a volume at a level: of points, with the crossing edges that begin at them, and of cells, with their cases. A row
 /// is named by its coordinates along y and z. Contracts see the volume, what else no call changes, and how many cells were
@@ -20,14 +21,22 @@ pub trait MeshRows: Heights {
 
     ghost spent: { Self → ℕ };
 
-    /// Fills in the flags of the points of a row, and says whether a crossing edge may begin there. Where it says that none does,
-    /// what it filled in is open.
-    fn fill_flags(&mut self, y: u32, z: u32, flags: &mut [u8]) -> bool
+    /// How many crossing edges begin in a row of points.
+    fn count_edges(&mut self, y: u32, z: u32) -> u32
         requires y { y < (Self.leveled self.old).grid.ny }
         requires z { z < (Self.leveled self.old).grid.nz }
-        requires count { length flags.old ≡ (Self.leveled self.old).grid.nx }
-        ensures flags { IsTrue result → AreFlags (Self.leveled self.old) y z flags.new }
-        ensures still { result ≡ false → IsStill (Self.leveled self.old) y z }
+        ensures count { result ≡ length (row_names (Self.leveled self.old) y z) }
+        ensures volume { Self.leveled self.new ≡ Self.leveled self.old }
+        ensures kept { kept self.new ≡ kept self.old }
+        ensures spent { spent self.new ≡ spent self.old };
+
+    /// Lists the crossing edges that begin in a row of points at the front of a buffer, in order of name, and says how many there
+    /// are. An edge is three times how far its point is along x, and its axis.
+    fn list_edges(&mut self, y: u32, z: u32, edges: &mut [u16; EDGES]) -> usize
+        requires y { y < (Self.leveled self.old).grid.ny }
+        requires z { z < (Self.leveled self.old).grid.nz }
+        ensures few { result ≤ 3 * (Self.leveled self.old).grid.nx }
+        ensures edges { AreEdges (Self.leveled self.old) y z (take result edges.new) }
         ensures volume { Self.leveled self.new ≡ Self.leveled self.old }
         ensures kept { kept self.new ≡ kept self.old }
         ensures spent { spent self.new ≡ spent self.old };
@@ -44,12 +53,19 @@ pub trait MeshRows: Heights {
         ensures kept { kept self.new ≡ kept self.old }
         ensures spent { spent self.new ≡ spent self.old };
 
-    /// Fills in a number for each point of a row: where a cell begins, that of a case that has its loops.
-    fn fill_cases(&mut self, y: u32, z: u32, cases: &mut [u16])
+    /// Lists the cells of a row that may have loops at the front of two buffers, and says how many there are: how far each is along
+    /// x, ascending, and the number of a case that has its loops.
+    fn list_cells(
+        &mut self,
+        y: u32,
+        z: u32,
+        places: &mut [u16; POINTS],
+        cases: &mut [u16; POINTS],
+    ) -> usize
         requires y { y + 1 < (Self.leveled self.old).grid.ny }
         requires z { z + 1 < (Self.leveled self.old).grid.nz }
-        requires count { length cases.old ≡ (Self.leveled self.old).grid.nx }
-        ensures cases { AreCases (Self.leveled self.old) y z cases.new }
+        ensures few { result < (Self.leveled self.old).grid.nx }
+        ensures cells { AreActive (Self.leveled self.old) y z (take result places.new) (take result cases.new) }
         ensures volume { Self.leveled self.new ≡ Self.leveled self.old }
         ensures kept { kept self.new ≡ kept self.old }
         ensures least { spent self.old ≤ spent self.new }

@@ -1,0 +1,4 @@
+pub mod FlagBits
+pub mod EdgeLists
+pub mod PairEdges
+pub mod ActiveLists
