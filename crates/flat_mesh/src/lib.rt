@@ -19,5 +19,4 @@ pub use centres::Cell;
 pub use extract::extract_flat;
 pub use heights::Heights;
 pub use mesh::{Mesh, VertexName};
-pub use ranks::{cell_numbers, rank_points};
 pub use rows::cell_row;

@@ -1,0 +1,2 @@
+//! A mesh as lists, for definitions.
+#![tactic(auto)]
