@@ -8,7 +8,7 @@ use Rattle.iso_defs.specs.Texts.{line, numbers_text, printed}
 use Rattle.iso_base.specs.declared.fault.Written.{Written}
 use Rattle.iso_base.specs.declared.format.MeshFormat.{MeshFormat}
 use Rattle.iso_base.specs.declared.format.MeshFormat.TheVariants.{Ply, Obj, Off, Vtk}
-use Rattle.flat_mesh.specs.Mesh.{FlatMesh}
+use Rattle.mesh_defs.specs.Lists.{FlatMesh}
 use Rattle.mesh_text.specs.Lines.{coordinates_text, ply_head}
 use Rattle.mesh_more.specs.Heads.{off_head, vtk_faces, vtk_head}
 use Rattle.mesh_lines.specs.declared.style.Origin.{Origin}

@@ -1,15 +1,15 @@
 -- The lines of triangles in their parts.
 use Rattle.std.specs.Prelude.{ℕ, ◌+◌, List, [], ◌∷◌, ◌++◌, decimal}
-use Rattle.byte_names.specs.Bytes.{space}
+use Rattle.byte_names.specs.Bytes.{digit_three, lower_f, space}
 use Rattle.iso_base.specs.declared.format.MeshFormat.{MeshFormat}
 use Rattle.iso_base.specs.declared.format.MeshFormat.TheVariants.{Ply, Obj, Off, Vtk}
 
 -- the letter that begins the line of a triangle
 abbrev pub letter_of : MeshFormat → ℕ
-letter_of Ply = 51
-letter_of Obj = 102
-letter_of Off = 51
-letter_of Vtk = 51
+letter_of Ply = digit_three
+letter_of Obj = lower_f
+letter_of Off = digit_three
+letter_of Vtk = digit_three
 
 -- the number of the first vertex: OBJ counts vertices from 1, the others from 0
 abbrev pub first_of : MeshFormat → ℕ

@@ -1,9 +1,11 @@
 -- A table of the digits of numbers, four to a number.
 use Rattle.std.specs.Prelude.{◌≡◌, ℕ, ◌+◌, ◌*◌, ◌/◌, ◌%◌, ◌<◌, ◌≤◌, List, [], ◌∷◌, length, take, drop, decimal, slice_index}
+use Rattle.byte_names.specs.Bytes.{digit_zero}
 
 -- a number below 10,000 in four digits
 abbrev pub four_digits : ℕ → List ℕ
-four_digits n = (48 + n / 1000) ∷ (48 + n / 100 % 10) ∷ (48 + n / 10 % 10) ∷ (48 + n % 10) ∷ []
+four_digits n =
+    (digit_zero + n / 1000) ∷ (digit_zero + n / 100 % 10) ∷ (digit_zero + n / 10 % 10) ∷ (digit_zero + n % 10) ∷ []
 
 -- the four digits of each number below 10,000, one number behind another, and four bytes more
 pub record AreFours (table : List ℕ) : Type 0 where

@@ -2,15 +2,11 @@
 
 ghost use Rattle.std.specs.Prelude.{◌≡◌, ◌+◌, ◌*◌, ◌≤◌, ◌<◌, ◌^◌, ◌∷◌, ◌++◌, [], take, length, decimal, unsigned_abs};
 ghost use Rattle.byte_names.specs.Bytes.{space, minus};
-ghost use Rattle.iso_defs.specs.Texts.{decimal_text, thousandths, three_digits, numbers_text, line};
-ghost use Rattle.iso_base.specs.Triangles.{triangle_of};
+ghost use Rattle.iso_defs.specs.Texts.{decimal_text, thousandths, three_digits, line};
 ghost use Rattle.mesh_text.specs.Lines.{along, coordinates_text};
 
 use iso_base::Thousandth;
 use number_digits::{Digits, put_byte};
-
-/// The room of a line.
-pub const ROOM: usize = 64;
 
 #[inline(always)]
 fn put_thousandths<D: Digits>(digits: &D, n: u64, room: &mut [u8], at: usize) -> usize
@@ -108,50 +104,6 @@ pub fn put_vertex<D: Digits>(
         coordinate(vertex, 0),
         coordinate(vertex, 1),
         coordinate(vertex, 2),
-        room,
-        at,
-    )
-}
-
-#[inline(always)]
-fn put_three<D: Digits>(digits: &D, a: u64, b: u64, c: u64, room: &mut [u8], at: usize) -> usize
-    requires a { a < 10 ^ 11 }
-    requires b { b < 10 ^ 11 }
-    requires c { c < 10 ^ 11 }
-    requires space { at + 39 ≤ length room.old }
-    ensures end { result ≤ at + 39 }
-    ensures behind { at ≤ result }
-    ensures written { take result room.new ≡ take at room.old
-        ++ line (decimal a ++ space ∷ (decimal b ++ space ∷ decimal c)) }
-{
-    let at = digits.put_number(a, room, at);
-    let at = put_byte(b' ', room, at);
-    let at = digits.put_number(b, room, at);
-    let at = put_byte(b' ', room, at);
-    let at = digits.put_number(c, room, at);
-    put_byte(b'\n', room, at)
-}
-
-/// Writes three numbers, each raised by `first`, and the end of their line.
-#[inline(always)]
-pub fn put_numbers<D: Digits>(
-    digits: &D,
-    first: u64,
-    corners: &[u32; 3],
-    room: &mut [u8],
-    at: usize,
-) -> usize
-    requires first { first ≤ 1 }
-    requires space { at + 39 ≤ length room.old }
-    ensures end { result ≤ at + 39 }
-    ensures behind { at ≤ result }
-    ensures written { take result room.new ≡ take at room.old ++ line (numbers_text first (triangle_of corners.now)) }
-{
-    put_three(
-        digits,
-        first + u64::from(corners[0]),
-        first + u64::from(corners[1]),
-        first + u64::from(corners[2]),
         room,
         at,
     )

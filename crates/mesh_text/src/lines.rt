@@ -2,15 +2,15 @@
 
 ghost use Rattle.std.specs.Prelude.{◌≡◌, ◌+◌, ◌<◌, ◌≤◌, ◌^◌, ◌++◌, [], All, length, decimal, unsigned_abs};
 ghost use Rattle.mesh_text.specs.Pieces.{parts_line, thirds_line};
-ghost use Rattle.mesh_text.specs.Lines.{along, letter_line, obj_face_line, obj_vertex_line, ply_face_line, ply_vertex_line};
+ghost use Rattle.mesh_text.specs.Lines.{along, letter_line, obj_vertex_line, ply_vertex_line};
 ghost use Rattle.mesh_text.specs.Numbers.{IsShort, number_text};
 
 use crate::digits::put_letter;
 use crate::fours::{Fours, put_last_three};
 use crate::number::{Number, put_line};
-use crate::obj::{write_obj_face, write_obj_vertex};
+use crate::obj::write_obj_vertex;
 use crate::piece::Piece;
-use crate::ply::{write_ply_face, write_ply_vertex};
+use crate::ply::write_ply_vertex;
 use iso_base::Thousandth;
 use number_digits::put_byte;
 use std::marker::Model;
@@ -101,26 +101,6 @@ impl Lines {
         ensures few { length self.new ≤ length self.old + 64 }
     {
         self.end = write_obj_vertex(&self.digits, vertex, &mut self.bytes, self.end);
-    }
-
-    /// Puts the line of a face in PLY behind the others.
-    #[inline(always)]
-    pub fn push_ply_face(&mut self, corners: &[u32; 3])
-        requires room { length self.old + 64 ≤ 4096 }
-        ensures line { self.new ≡ self.old ++ ply_face_line corners.now }
-        ensures few { length self.new ≤ length self.old + 64 }
-    {
-        self.end = write_ply_face(&self.digits, corners, &mut self.bytes, self.end);
-    }
-
-    /// Puts the line of a face in OBJ behind the others. Its corners are handed in counted from 0.
-    #[inline(always)]
-    pub fn push_obj_face(&mut self, corners: &[u32; 3])
-        requires room { length self.old + 64 ≤ 4096 }
-        ensures line { self.new ≡ self.old ++ obj_face_line corners.now }
-        ensures few { length self.new ≤ length self.old + 64 }
-    {
-        self.end = write_obj_face(&self.digits, corners, &mut self.bytes, self.end);
     }
 
     /// The table of digits.
