@@ -1,233 +1,119 @@
 -- The active cells of a row, in order, and the cells between them.
 use Rattle.std.proofs.Math.ListN.{get_or-eq_default}
-use Rattle.std.proofs.Common.{◌≡◌, ℕ, zero, suc, ◌+◌, ◌-◌, ◌<◌, ◌≤◌, Bool, true, false, cond, not, List, [], ◌∷◌, ◌++◌, map, length, get_or, append-nil, refl, sym, ◌∙◌, ap, subst, arith, eqb, if◌then◌else◌, inl, inr}
-use Rattle.std.specs.Int.{bit_at}
-use Rattle.std.specs.List.{filter, range_with_len}
-use Rattle.std.proofs.lemmas.Bool.{cases_lt, eqb-true, eqb-false}
-use Rattle.std.proofs.lemmas.List.{get_or-take, get_or_default, length-append}
-use Rattle.std.proofs.lemmas.List.Elements.{filter-append}
-use Rattle.iso_defs.proofs.Ranges.{range_append}
+use Rattle.std.proofs.Common.{◌≡◌, ℕ, zero, suc, ◌+◌, ◌-◌, ◌<◌, ◌≤◌, Bool, true, false, not, List, [], length, get_or, take, refl, sym, ◌∙◌, ap, subst, arith, eqb, inl, inr}
+use Rattle.std.proofs.lemmas.Bool.{cases_lt, eqb-true}
+use Rattle.std.proofs.lemmas.List.{get_or-map, get_or-take, get_or_default, length-take-le}
 use Rattle.flat_mesh.specs.Faces.{loops_at}
 use Rattle.flat_mesh.specs.Lattice.{Leveled}
 use Rattle.flat_mesh.specs.Rows.{row_start}
-use Rattle.mesh_walk.specs.Active.{active_among}
+use Rattle.row_lists.specs.Active.{active_among}
+use Rattle.row_lists.proofs.ActiveLists.{active_few, begins, between, inside}
+use Rattle.mesh_rows.specs.Rows.{IsCaseOf}
 use Rattle.mesh_walk.specs.Cells.{AreCells}
 use Rattle.mesh_walk.specs.Numbers.{AreQuiet}
 use Rattle.mesh_walk.specs.declared.cells.RowCells.{RowCells}
 use Rattle.mesh_walk.proofs.CellRuns.{case_at, last_point}
 use Rattle.mesh_walk.proofs.EmptyCase.{no_loops}
-use Rattle.mesh_walk.proofs.FlagBits.{bits_set, filter_none, is_set}
-
--- where the run of numbers begins that ends with the one listed at a place: behind the one before it
-abbrev pub begins : ℕ → List ℕ → ℕ → ℕ
-begins a xs zero = a
-begins a xs (suc k) = get_or xs k 0 + 1
-
-begins_next : (a x : ℕ) (xs : List ℕ) (k : ℕ) → x ≡ a → begins a (x ∷ xs) (suc k) ≡ begins (a + 1) xs k
-begins_next a x xs zero e = ap (λ n. n + 1) e
-begins_next a x xs (suc k) e = refl
-
--- the numbers of a run that pass a test: between them are those that do not
-module _ (p : ℕ → Bool) where
-  abbrev passing : ℕ → ℕ → List ℕ
-  passing a n = filter p (range_with_len a n)
-
-  -- the run with its first number, where it passes
-  abbrev with_first : Bool → ℕ → ℕ → List ℕ
-  with_first b a n = cond {A = List ℕ} b (a ∷ passing (a + 1) n) (passing (a + 1) n)
-
-  abbrev Between : ℕ → ℕ → List ℕ → ℕ → ℕ → Type 0
-  Between a end xs k x = k ≤ length xs → begins a xs k ≤ x → x < get_or xs k end → p x ≡ false
-
-  at_first : (a end n x : ℕ) (b : Bool) → eqb x a ≡ b → p a ≡ false → Between (a + 1) end (passing (a + 1) n) zero x → Between a end (passing (a + 1) n) zero x
-  at_first a end n x true e none rest low least most = ap p (eqb-true x a e) ∙ none
-  at_first a end n x false e none rest low least most = rest low (omega (arith, least, eqb-false x a e)) most
-
-  between_by : (a end n x : ℕ) (b : Bool) → p a ≡ b → ((k : ℕ) → Between (a + 1) end (passing (a + 1) n) k x) → (k : ℕ) → Between a end (with_first b a n) k x
-  between_by a end n x true e rest zero low least most = absurd (omega (arith, least, most))
-  between_by a end n x true e rest (suc k) low least most =
-      let from = begins_next a a (passing (a + 1) n) k refl in
-      rest k (omega (arith, low)) (omega (arith, from, least)) most
-  between_by a end n x false e rest zero low least most = at_first a end n x (eqb x a) refl e (rest zero) low least most
-  between_by a end n x false e rest (suc k) low least most = rest (suc k) low least most
-
-  pub between : (a n end k x : ℕ) → end ≡ a + n → Between a end (passing a n) k x
-  between a zero end zero x e low least most = absurd (omega (arith, e, least, most))
-  between a zero end (suc k) x e low least most = absurd (omega (arith, low))
-  between a (suc n) end k x e low least most = between_by a end n x (p a) refl (λ k. between (a + 1) n end k x (omega (arith, e))) k low least most
-
-  abbrev Inside : ℕ → ℕ → List ℕ → ℕ → Type 0
-  Inside a end xs k = k < length xs → (begins a xs k ≤ get_or xs k 0) × (get_or xs k 0 < end)
-
-  inside_by : (a end n : ℕ) (b : Bool) → a < end → ((k : ℕ) → Inside (a + 1) end (passing (a + 1) n) k) → (k : ℕ) → Inside a end (with_first b a n) k
-  inside_by a end n true some rest zero low = (omega arith, some)
-  inside_by a end n true some rest (suc k) low =
-      let r = rest k (omega (arith, low)) in
-      let from = begins_next a a (passing (a + 1) n) k refl in
-      (omega (arith, from, r.0), r.1)
-  inside_by a end n false some rest zero low = let r = rest zero low in (omega (arith, r.0), r.1)
-  inside_by a end n false some rest (suc k) low = rest (suc k) low
-
-  pub inside : (a n end k : ℕ) → end ≡ a + n → Inside a end (passing a n) k
-  inside a zero end k e low = absurd (omega (arith, low))
-  inside a (suc n) end k e low = inside_by a end n (p a) (omega (arith, e)) (λ k. inside (a + 1) n end k (omega (arith, e))) k low
-
-  few_by : (a n m : ℕ) (b : Bool) → length (passing (a + 1) n) ≤ m → length (with_first b a n) ≤ m + 1
-  few_by a n m true h = omega (arith, h)
-  few_by a n m false h = omega (arith, h)
-
-  pub few : (a n : ℕ) → length (passing a n) ≤ n
-  few a zero = omega arith
-  few a (suc n) = let h = few_by a n n (p a) (few (a + 1) n) in omega (arith, h)
-
--- the list grows by groups
-abbrev other : List ℕ → ℕ → Bool
-other cases x = not (eqb (get_or cases x 0) 0)
-
-pub active_none : (cases : List ℕ) (a : ℕ) → active_among cases a 0 ≡ []
-unfolding active_among
-active_none cases a = refl
-
-pub active_more : (cases : List ℕ) (a m n : ℕ) → active_among cases a (m + n) ≡ active_among cases a m ++ active_among cases (a + m) n
-unfolding active_among
-active_more cases a m n = ap (filter (other cases)) (range_append a m n) ∙ filter-append (other cases) (range_with_len a m) (range_with_len (a + m) n)
-
-pub active_on : (cases w1 w2 : List ℕ) (m at n k : ℕ) → m ≡ at → k ≡ m + n → w1 ≡ active_among cases 0 m → w2 ≡ w1 ++ active_among cases at n → w2 ≡ active_among cases 0 k
-active_on cases w1 w2 m at n k here to before more =
-    let zero_out : 0 + m ≡ at = omega (arith, here) in
-    more ∙ (ap (λ l. l ++ active_among cases at n) before
-    ∙ sym (ap (active_among cases 0) to ∙ (active_more cases 0 m n ∙ ap (λ a. active_among cases 0 m ++ active_among cases a n) zero_out)))
-
-pub length_on : (cases : List ℕ) (m at n k a b : ℕ) → m ≡ at → k ≡ m + n → a ≡ length (active_among cases 0 m) → b ≡ a + length (active_among cases at n) → b ≡ length (active_among cases 0 k)
-length_on cases m at n k a b here to before more =
-    let zero_out : 0 + m ≡ at = omega (arith, here) in
-    let cut = ap length (ap (active_among cases 0) to ∙ (active_more cases 0 m n ∙ ap (λ a. active_among cases 0 m ++ active_among cases a n) zero_out)) in
-    omega (arith, before, more, cut, length-append (active_among cases 0 m) (active_among cases at n))
-
-pub active_few : (cases : List ℕ) (a n : ℕ) → length (active_among cases a n) ≤ n
-unfolding active_among
-active_few cases a n = few (other cases) a n
-
--- the list of a row by its width
-pub listed_by : (cases xs : List ℕ) (m n : ℕ) → m ≡ n → xs ≡ active_among cases 0 (m - 1) → xs ≡ active_among cases 0 (n - 1)
-listed_by cases xs m n width is = is ∙ ap (λ n. active_among cases 0 (n - 1)) width
-
-pub counted_by : (cases : List ℕ) (k m n : ℕ) → m ≡ n → k ≡ length (active_among cases 0 (m - 1)) → k ≡ length (active_among cases 0 (n - 1))
-counted_by cases k m n width is = is ∙ ap (λ n. length (active_among cases 0 (n - 1))) width
-
--- the bits that are set in a number are the active cells of a group
-shifted_filter : (p q : ℕ → Bool) (from a n : ℕ) → ((k : ℕ) → a ≤ k → k < a + n → p k ≡ q (from + k))
-    → map (λ k. from + k) (filter p (range_with_len a n)) ≡ filter q (range_with_len (from + a) n)
-shifted_filter p q from a zero same = refl
-shifted_filter p q from a (suc n) same =
-    let e : from + (a + 1) ≡ from + a + 1 = omega arith in
-    let rest : map (λ k. from + k) (filter p (range_with_len (a + 1) n)) ≡ filter q (range_with_len (from + a + 1) n)
-    = shifted_filter p q from (a + 1) n (λ k least most. same k (omega (arith, least)) (omega (arith, most))) ∙ ap (λ b. filter q (range_with_len b n)) e in
-    by (p a) (q (from + a)) (same a (omega arith) (omega arith)) rest
-  where
-    by : (b c : Bool) → b ≡ c → map (λ k. from + k) (filter p (range_with_len (a + 1) n)) ≡ filter q (range_with_len (from + a + 1) n)
-        → map (λ k. from + k) (cond {A = List ℕ} b (a ∷ filter p (range_with_len (a + 1) n)) (filter p (range_with_len (a + 1) n)))
-        ≡ cond {A = List ℕ} c ((from + a) ∷ filter q (range_with_len (from + a + 1) n)) (filter q (range_with_len (from + a + 1) n))
-    by true true e rest = ap (λ l. (from + a) ∷ l) rest
-    by false false e rest = rest
-    by true false e rest = absurd (cc)
-    by false true e rest = absurd (cc)
-
-pub group_cells : (cases : List ℕ) (from n count : ℕ) → count ≤ 64
-    → ((k : ℕ) → k < count → bit_at n k ≡ (if eqb (get_or cases (from + k) 0) 0 then 0 else 1)) → ((k : ℕ) → count ≤ k → bit_at n k ≡ 0)
-    → map (λ k. from + k) (bits_set n) ≡ active_among cases from count
-unfolding bits_set active_among
-group_cells cases from n count few inside behind =
-    let all : 64 ≡ count + (64 - count) = omega arith in
-    let first : from + 0 ≡ from = omega arith in
-    ap (λ m. map (λ k. from + k) (filter (is_set n) (range_with_len 0 m))) all
-    ∙ (ap (λ l. map (λ k. from + k) (filter (is_set n) l)) (range_append 0 count (64 - count))
-    ∙ (ap (map (λ k. from + k)) (filter-append (is_set n) (range_with_len 0 count) (range_with_len (0 + count) (64 - count))
-    ∙ (ap (λ l. filter (is_set n) (range_with_len 0 count) ++ l) (filter_none (is_set n) (0 + count) (64 - count) (λ i least most. ap (λ b. eqb b 1) (behind i (omega (arith, least)))))
-    ∙ append-nil (filter (is_set n) (range_with_len 0 count))))
-    ∙ (shifted_filter (is_set n) (other cases) from 0 count (λ k least most. test k (omega (arith, most)))
-    ∙ ap (λ a. filter (other cases) (range_with_len a count)) first)))
-  where
-    test : (k : ℕ) → k < count → is_set n k ≡ other cases (from + k)
-    test k low = ap (λ b. eqb b 1) (inside k low) ∙ both (eqb (get_or cases (from + k) 0) 0)
-      where
-        both : (b : Bool) → eqb (if b then 0 else 1) 1 ≡ not b
-        both true = refl
-        both false = refl
 
 -- the cells of a row
 module _ (v : Leveled) (cells : RowCells) (are : AreCells v cells) where
-  abbrev pub listed : List ℕ
-  listed = active_among cells.cases 0 (v.grid.nx - 1)
+  -- the cases of all its cells
+  abbrev every : List ℕ
+  every = are.cells_are.all
+
+  abbrev other : ℕ → Bool
+  other x = not (eqb (get_or every x 0) 0)
+
+  abbrev listed : List ℕ
+  listed = active_among every 0 (v.grid.nx - 1)
 
   abbrev start : ℕ
   start = row_start v.grid cells.y cells.z
 
-  pub count_is : cells.count ≡ length listed
-  count_is = are.count
+  taken : length (take cells.count cells.places) ≡ cells.count
+  taken = length-take-le cells.count cells.places are.room
 
-  pub count_low : 0 < v.grid.nx → cells.count < v.grid.nx
-  count_low some = omega (arith, are.count, active_few cells.cases 0 (v.grid.nx - 1))
+  count_is : cells.count ≡ length listed
+  count_is = sym taken ∙ ap length are.cells_are.places_are
+
+  pub place_low : (k : ℕ) → k < cells.count → k + 1 < v.grid.nx
+  place_low k low = omega (arith, low, count_is, active_few every 0 (v.grid.nx - 1))
 
   -- where the run of cells without loops begins that ends with the cell listed at a place
   abbrev pub gap : ℕ → ℕ
-  gap k = begins 0 listed k
+  gap k = begins 0 cells.places k
 
-  pub active_at : (k : ℕ) → k < cells.count → get_or cells.active k 0 ≡ get_or listed k 0
-  active_at k low = sym (get_or-take cells.count cells.active k 0 low) ∙ ap (λ l. get_or l k 0) are.listed
+  active_at : (k : ℕ) → k < cells.count → get_or cells.places k 0 ≡ get_or listed k 0
+  active_at k low = sym (get_or-take cells.count cells.places k 0 low) ∙ ap (λ l. get_or l k 0) are.cells_are.places_are
 
-  pub gap_next : (k : ℕ) → k < cells.count → gap (k + 1) ≡ get_or cells.active k 0 + 1
+  gap_is : (k : ℕ) → k ≤ cells.count → gap k ≡ begins 0 listed k
+  gap_is zero low = refl
+  gap_is (suc k) low = ap (λ n. n + 1) (active_at k (omega (arith, low)))
+
+  pub gap_next : (k : ℕ) → k < cells.count → gap (k + 1) ≡ get_or cells.places k 0 + 1
   gap_next k low =
       let e : k + 1 ≡ suc k = omega arith in
-      ap gap e ∙ ap (λ n. n + 1) (sym (active_at k low))
+      ap gap e
 
-  pub gap_before : (k : ℕ) → k < cells.count → gap k ≤ get_or cells.active k 0
+  pub gap_before : (k : ℕ) → k < cells.count → gap k ≤ get_or cells.places k 0
   unfolding active_among
-  gap_before k low = let r = inside (other cells.cases) 0 (v.grid.nx - 1) (v.grid.nx - 1) k (omega arith) (omega (arith, low, count_is)) in omega (arith, r.0, active_at k low)
+  gap_before k low = let r = inside other 0 (v.grid.nx - 1) (v.grid.nx - 1) k (omega arith) (omega (arith, low, count_is)) in omega (arith, r.0, active_at k low, gap_is k (omega (arith, low)))
 
-  pub cell_low : (k : ℕ) → k < cells.count → get_or cells.active k 0 + 1 < v.grid.nx
+  pub cell_low : (k : ℕ) → k < cells.count → get_or cells.places k 0 + 1 < v.grid.nx
   unfolding active_among
-  cell_low k low = let r = inside (other cells.cases) 0 (v.grid.nx - 1) (v.grid.nx - 1) k (omega arith) (omega (arith, low, count_is)) in omega (arith, r.1, active_at k low)
+  cell_low k low = let r = inside other 0 (v.grid.nx - 1) (v.grid.nx - 1) k (omega arith) (omega (arith, low, count_is)) in omega (arith, r.1, active_at k low)
 
-  first_case : (k x : ℕ) → k ≤ length listed → gap k ≤ x → x < get_or listed k (v.grid.nx - 1) → get_or cells.cases x 0 ≡ 0
+  -- the case of the cell listed at a place
+  pub case_of : (k : ℕ) → k < cells.count → IsCaseOf v (start + get_or cells.places k 0) (get_or cells.cases k 0)
+  case_of k low =
+      let x : ℕ = get_or cells.places k 0 in
+      let here : get_or (take cells.count cells.places) k 0 ≡ x = get_or-take cells.count cells.places k 0 low in
+      let case : get_or cells.cases k 0 ≡ get_or every x 0
+      = sym (get_or-take cells.count cells.cases k 0 low) ∙ (ap (λ l. get_or l k 0) are.cells_are.cases_are
+      ∙ (get_or-map (λ x. get_or every x 0) (take cells.count cells.places) k 0 0 (omega (arith, taken, low)) ∙ ap (λ x. get_or every x 0) here)) in
+      subst (λ n. IsCaseOf v (start + x) n) (sym case) (case_at v cells are x (cell_low k low))
+
+  first_case : (k x : ℕ) → k ≤ length listed → begins 0 listed k ≤ x → x < get_or listed k (v.grid.nx - 1) → get_or every x 0 ≡ 0
   unfolding active_among
-  first_case k x low least most = zero_by (eqb (get_or cells.cases x 0) 0) refl (between (other cells.cases) 0 (v.grid.nx - 1) (v.grid.nx - 1) k x (omega arith) low least most)
+  first_case k x low least most = zero_by (eqb (get_or every x 0) 0) refl (between other 0 (v.grid.nx - 1) (v.grid.nx - 1) k x (omega arith) low least most)
     where
-      zero_by : (b : Bool) → eqb (get_or cells.cases x 0) 0 ≡ b → not b ≡ false → get_or cells.cases x 0 ≡ 0
-      zero_by true e h = eqb-true (get_or cells.cases x 0) 0 e
+      zero_by : (b : Bool) → eqb (get_or every x 0) 0 ≡ b → not b ≡ false → get_or every x 0 ≡ 0
+      zero_by true e h = eqb-true (get_or every x 0) 0 e
       zero_by false e h = absurd (cc)
 
-  no_loops_at : (q k : ℕ) → start ≤ q → k ≤ length listed → gap k ≤ q - start → q - start < get_or listed k (v.grid.nx - 1) → q - start + 1 < v.grid.nx → loops_at v q ≡ []
+  no_loops_at : (q k : ℕ) → start ≤ q → k ≤ length listed → begins 0 listed k ≤ q - start → q - start < get_or listed k (v.grid.nx - 1) → q - start + 1 < v.grid.nx → loops_at v q ≡ []
   no_loops_at q k low upto least most within =
       let x : ℕ = q - start in
       let here : start + x ≡ q = omega arith in
       let case = case_at v cells are x within in
-      subst (λ q. loops_at v q ≡ []) here (sym case.loops ∙ no_loops (get_or cells.cases x 0) (first_case k x upto least most))
+      subst (λ q. loops_at v q ≡ []) here (sym case.loops ∙ no_loops (get_or every x 0) (first_case k x upto least most))
 
   -- no cell between one that is listed and the next one has loops
-  pub quiet_gap : (k : ℕ) → k < cells.count → AreQuiet v (start + gap k) (get_or cells.active k 0 - gap k)
+  pub quiet_gap : (k : ℕ) → k < cells.count → AreQuiet v (start + gap k) (get_or cells.places k 0 - gap k)
   quiet_gap k low = record {
     none = λ q least most is.
         let here = active_at k low in
-        let all = count_is in
-        let end : get_or listed k (v.grid.nx - 1) ≡ get_or listed k 0 = get_or_default listed k (v.grid.nx - 1) 0 (omega (arith, low, all)) in
+        let count = count_is in
+        let from = gap_is k (omega (arith, low)) in
+        let end : get_or listed k (v.grid.nx - 1) ≡ get_or listed k 0 = get_or_default listed k (v.grid.nx - 1) 0 (omega (arith, low, count)) in
         let within = cell_low k low in
-        no_loops_at q k (omega (arith, least)) (omega (arith, low, all)) (omega (arith, least)) (omega (arith, least, most, here, end)) (omega (arith, least, most, within));
+        no_loops_at q k (omega (arith, least)) (omega (arith, low, count)) (omega (arith, least, from)) (omega (arith, least, most, here, end)) (omega (arith, least, most, within));
   }
 
   pub gap_low : 0 < v.grid.nx → (k : ℕ) → k ≤ cells.count → gap k < v.grid.nx
   gap_low some zero low = some
-  gap_low some (suc k) low = let here = active_at k (omega (arith, low)) in let within = cell_low k (omega (arith, low)) in omega (arith, here, within)
+  gap_low some (suc k) low = let within = cell_low k (omega (arith, low)) in omega (arith, within)
 
   -- and none behind the last one
   pub quiet_rest : 0 < v.grid.nx → AreQuiet v (start + gap cells.count) (v.grid.nx - gap cells.count)
   quiet_rest some = record {
     none = λ q least most is.
-        let all = count_is in
+        let count = count_is in
+        let from = gap_is cells.count (omega arith) in
         let low = gap_low some cells.count (omega arith) in
-        let end : get_or listed cells.count (v.grid.nx - 1) ≡ v.grid.nx - 1 = get_or-eq_default listed (v.grid.nx - 1) (omega (arith, all)) in
+        let end : get_or listed cells.count (v.grid.nx - 1) ≡ v.grid.nx - 1 = get_or-eq_default listed (v.grid.nx - 1) (omega (arith, count)) in
         elim (cases_lt (q - start + 1) v.grid.nx) [
-          | inl within ↦ no_loops_at q cells.count (omega (arith, least)) (omega (arith, all)) (omega (arith, least)) (omega (arith, within, end)) within
+          | inl within ↦ no_loops_at q cells.count (omega (arith, least)) (omega (arith, count)) (omega (arith, least, from)) (omega (arith, within, end)) within
           | inr last ↦ (last_point v cells.y cells.z some (omega (arith, are.y)) (omega (arith, are.z))).none q (omega (arith, least, last)) (omega (arith, least, most, low)) is
         ];
   }

@@ -42,7 +42,7 @@ no_centres_among v a n quiet = ap length (span_quiet (cell_centres v.grid (heigh
 pub last_point : (v : Leveled) (y z : ℕ) → 0 < v.grid.nx → y < v.grid.ny → z < v.grid.nz → AreQuiet v (row_start v.grid y z + (v.grid.nx - 1)) 1
 last_point v y z some hy hz = record { none = last_column v y z (row_start v.grid y z + (v.grid.nx - 1)) some hy hz (omega arith) }
 
--- a cell of a row, and its case
+-- a cell of a row, and its case among those of all its cells
 module _ (v : Leveled) (cells : RowCells) (are : AreCells v cells) where
   abbrev start : ℕ
   start = row_start v.grid cells.y cells.z
@@ -54,10 +54,10 @@ module _ (v : Leveled) (cells : RowCells) (are : AreCells v cells) where
   pub cell_in : (x : ℕ) → x + 1 < v.grid.nx → IsCellAt v.grid (cell_of x)
   cell_in x low = record { index = omega arith; x = low; y = are.y; z = are.z }
 
-  pub case_at : (x : ℕ) → x + 1 < v.grid.nx → IsCaseOf v (start + x) (get_or cells.cases x 0)
+  pub case_at : (x : ℕ) → x + 1 < v.grid.nx → IsCaseOf v (start + x) (get_or are.cells_are.all x 0)
   case_at x low =
       let same : index v.grid x cells.y cells.z ≡ start + x = omega arith in
-      subst (λ q. IsCaseOf v q (get_or cells.cases x 0)) same (are.each x low (omega arith))
+      subst (λ q. IsCaseOf v q (get_or are.cells_are.all x 0)) same (are.cells_are.all_are x low (omega arith))
 
 -- what it costs to ask for the rows of cells before one
 pub cost_next : (g : Grid) (cost : ℕ → ℕ) (r : ℕ) → cost_before g cost (r + 1) ≡ cost_before g cost r + cost_of_row g cost r

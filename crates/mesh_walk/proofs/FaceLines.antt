@@ -7,7 +7,9 @@ use Rattle.std.proofs.lemmas.List.Sums.{sum_by-cons}
 use Rattle.iso_defs.specs.Lists.{below}
 use Rattle.iso_defs.specs.Grid.{cells, is_cell, name_bound}
 use Rattle.iso_defs.specs.Rows.{row_count}
-use Rattle.iso_defs.specs.Cell.{Triangle}
+use Rattle.iso_defs.specs.Cell.{Triangle, case_loops}
+use Rattle.case_table.specs.Cases.{case_joined, case_signs}
+use Rattle.cell_loops.specs.Loops.{row_centres, row_loops}
 use Rattle.iso_defs.specs.Signs.{is_crossing}
 use Rattle.iso_defs.specs.Scratch.{cell_centres, cell_loops, crossing_edges, has_centre}
 use Rattle.iso_base.specs.Triangles.{triangle_of}
@@ -102,6 +104,11 @@ centre_sum n (l ∷ ls) =
       | true ↦ omega (arith, centre_sum (n + 1) ls)
       | false ↦ omega (arith, centre_sum (n + 1) ls)
     ]) ∙ sym (sum_by-cons centres_of l ls)
+
+-- how many centres a case has
+pub centres_counted : (n : ℕ) → length (row_centres n) ≡ sum_by centres_of (row_loops n)
+unfolding row_centres row_loops
+centres_counted n = centre_sum 0 (case_loops (case_signs n) (case_joined n))
 
 pub centres_of_cell : (v : Leveled) (q : ℕ) → length (cell_centres v.grid (heights v) q) ≡ sum_by centres_of (loops_at v q)
 unfolding loops_at

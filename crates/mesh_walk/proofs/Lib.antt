@@ -1,13 +1,10 @@
 pub mod ActiveCells
 pub mod Adding
 pub mod SpanLaws
-pub mod FlagRows
 pub mod RankedRows
 pub mod AnyName
 pub mod EdgeLines
 pub mod RowNames
-pub mod FlagBits
-pub mod PairEdges
 pub mod CellRuns
 pub mod FaceLines
 pub mod TextSlots

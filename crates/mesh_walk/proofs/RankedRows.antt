@@ -1,6 +1,6 @@
 -- How many crossing edges begin in a row of points, and before it.
-use Rattle.std.proofs.Common.{◌≡◌, ℕ, ℤ, zero, suc, ◌+◌, ◌*◌, ◌^◌, ◌<◌, ◌≤◌, List, [], ◌∷◌, All, length, get_or, set, take, refl, sym, ◌∙◌, ap, subst, arith, zero-add, add-zero}
-use Rattle.std.specs.List.{sum, sum_by}
+use Rattle.std.proofs.Common.{◌≡◌, ℕ, zero, suc, ◌+◌, ◌*◌, ◌^◌, ◌<◌, ◌≤◌, List, All, length, get_or, set, take, sym, ◌∙◌, ap, subst, arith, zero-add}
+use Rattle.std.specs.List.{sum}
 use Rattle.std.proofs.lemmas.List.{get_or-set_other, get_or-set_same, get_or_default, length-set}
 use Rattle.std.proofs.lemmas.List.FromFn.{get_or-map-range_with_len}
 use Rattle.std.proofs.lemmas.List.Sums.{sum_by_more}
@@ -8,45 +8,30 @@ use Rattle.std.proofs.Math.Nat.{mul-le-mul_left}
 use Rattle.iso_defs.specs.Grid.{Grid, point_count}
 use Rattle.iso_defs.specs.Rows.{row_count}
 use Rattle.iso_base.specs.Sizing.{IsGrid}
-use Rattle.crossing_edges.specs.Flags.{edges_in, flags_at, flags_from, rank}
-use Rattle.crossing_edges.proofs.Counting.{length-flags_from, rank_along, rank_next}
+use Rattle.iso_defs.specs.Signs.{is_crossing}
+use Rattle.crossing_edges.specs.Flags.{names_in, rank}
+use Rattle.crossing_edges.proofs.FlagParts.{row_in}
 use Rattle.edge_points.specs.Rows.{RowNumbers, sums_before}
-use Rattle.flat_mesh.specs.Lattice.{Leveled, heights}
+use Rattle.flat_mesh.specs.Lattice.{IsLeveled, Leveled, heights}
 use Rattle.flat_mesh.specs.Rows.{row_start}
 use Rattle.flat_mesh.proofs.FirstNumbers.{rank_low}
 use Rattle.flat_mesh.proofs.Quiet.{quiet_rows}
-use Rattle.mesh_rows.specs.Rows.{AreFlags, IsStill}
-use Rattle.mesh_walk.proofs.FlagRows.{flags_list}
+use Rattle.row_lists.proofs.ActiveLists.{few}
+use Rattle.mesh_rows.specs.Rows.{row_names}
+use Rattle.mesh_walk.proofs.RowSlots.{names_count}
 use Rattle.mesh_walk.specs.Numbers.{AreQuiet, AreRowRanks}
 
-whole : (xs : List ℕ) → take (length xs) xs ≡ xs
-whole [] = refl
-whole (x ∷ xs) = ap (λ l. x ∷ l) (whole xs)
+-- the edges of a row, by how many there are
+pub row_sum : (v : Leveled) (y z count : ℕ) → count ≡ length (row_names v y z)
+    → rank v.grid (heights v) (3 * (row_start v.grid y z + v.grid.nx)) ≡ rank v.grid (heights v) (3 * row_start v.grid y z) + count
+row_sum v y z count is =
+    let a : ℕ = 3 * row_start v.grid y z in
+    let behind : 3 * (row_start v.grid y z + v.grid.nx) ≡ a + 3 * v.grid.nx = omega arith in
+    ap (rank v.grid (heights v)) behind ∙ (names_count v.grid (heights v) a (3 * v.grid.nx) ∙ ap (λ n. rank v.grid (heights v) a + n) (sym is))
 
--- the edges of a row, by its flags
-pub row_sum : (v : Leveled) (y z sum : ℕ) (flags : List ℕ) → length flags ≡ v.grid.nx → AreFlags v y z flags → sum ≡ sum_by edges_in flags
-    → rank v.grid (heights v) (3 * (row_start v.grid y z + v.grid.nx)) ≡ rank v.grid (heights v) (3 * row_start v.grid y z) + sum
-row_sum v y z sum flags len each e =
-    let a : ℕ = row_start v.grid y z in
-    let n : ℕ = v.grid.nx in
-    let fs : List ℕ = flags_from v.grid (heights v) a n in
-    let all : take n fs ≡ fs = ap (λ k. take k fs) (sym (length-flags_from v.grid (heights v) a n)) ∙ whole fs in
-    rank_along v.grid (heights v) a n n (omega arith)
-    ∙ ap (λ k. rank v.grid (heights v) (3 * a) + k) (ap (sum_by edges_in) (all ∙ sym (flags_list v y z flags len each)) ∙ sym e)
-
--- where no edge begins at some points
-still_along : (g : Grid) (s : ℕ → ℤ) (a n : ℕ) → ((x : ℕ) → x < n → flags_at g s (a + x) ≡ 0) → rank g s (3 * (a + n)) ≡ rank g s (3 * a)
-still_along g s a zero none = ap (λ m. rank g s (3 * m)) (add-zero a)
-still_along g s a (suc n) none =
-    let behind : a + suc n ≡ a + n + 1 = omega arith in
-    ap (λ m. rank g s (3 * m)) behind
-    ∙ (rank_next g s (a + n) ∙ (ap (λ f. rank g s (3 * (a + n)) + edges_in f) (none n (omega arith))
-    ∙ (add-zero (rank g s (3 * (a + n))) ∙ still_along g s a n (λ x low. none x (omega arith)))))
-
--- none begins in a row
-pub still_sum : (v : Leveled) (y z : ℕ) → IsStill v y z
-    → rank v.grid (heights v) (3 * (row_start v.grid y z + v.grid.nx)) ≡ rank v.grid (heights v) (3 * row_start v.grid y z) + 0
-still_sum v y z still = still_along v.grid (heights v) (row_start v.grid y z) v.grid.nx still.none ∙ sym (add-zero (rank v.grid (heights v) (3 * row_start v.grid y z)))
+pub row_few : (v : Leveled) (y z count : ℕ) → count ≡ length (row_names v y z) → count ≤ 3 * v.grid.nx
+unfolding names_in
+row_few v y z count is = omega (arith, is, few (is_crossing v.grid (heights v)) (3 * row_start v.grid y z) (3 * v.grid.nx))
 
 -- a row of cells with its two rows of points, and the same of the next slice
 pub rows_in : (g : Grid) (y z : ℕ) → y + 1 < g.ny → z + 1 < g.nz → y + g.ny * z + g.ny + 2 ≤ row_count g
@@ -138,6 +123,18 @@ row_low g y z hy hz =
     let k : g.ny * suc z ≤ g.ny * g.nz = mul-le-mul_left g.ny hz in
     let e : g.ny * suc z ≡ g.ny * z + g.ny = omega arith in
     omega arith
+
+-- a row of points lies in the grid
+row_fits : (v : Leveled) (y z : ℕ) → y < v.grid.ny → z < v.grid.nz → row_start v.grid y z + v.grid.nx ≤ point_count v.grid
+row_fits v y z hy hz = row_in v.grid (y + v.grid.ny * z) (row_low v.grid y z hy hz)
+
+-- the numbers of the edges of a row
+pub before_low : (v : Leveled) (y z before : ℕ) → IsLeveled v → y < v.grid.ny → z < v.grid.nz → before ≡ rank v.grid (heights v) (3 * row_start v.grid y z) → before + 3 * v.grid.nx < 2 ^ 32
+before_low v y z before is hy hz start =
+    let fits = row_fits v y z hy hz in
+    let count = is.grid.count in
+    let low = rank_low v.grid (heights v) (3 * row_start v.grid y z) in
+    omega (arith, start)
 
 -- where a row of points stands
 pub record RowAt (v : Leveled) (row y z : ℕ) : Type 0 where

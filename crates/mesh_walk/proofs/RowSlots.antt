@@ -32,7 +32,8 @@ module _ (g : Grid) (s : ℕ → ℤ) where
   unfolding names_in
   not_one n h = ap (λ b. cond {A = List ℕ} b (n ∷ []) []) h
 
-  names_count : (a n : ℕ) → rank g s (a + n) ≡ rank g s a + length (names_in g s a n)
+  -- how many names there are
+  pub names_count : (a n : ℕ) → rank g s (a + n) ≡ rank g s a + length (names_in g s a n)
   unfolding rank names_in
   names_count a n =
       let p : ℕ → Bool = is_crossing g s in

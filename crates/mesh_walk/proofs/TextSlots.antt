@@ -1,8 +1,9 @@
 -- The texts of the numbers of edges in their slots.
-use Rattle.std.proofs.Common.{◌≡◌, ℕ, ◌+◌, ◌*◌, ◌^◌, ◌<◌, ◌≤◌, All, true, inl, inr, List, [], ◌∷◌, map, set, length, decimal, get_or, sym, ◌∙◌, ap, subst, arith, zero-add}
-use Rattle.std.proofs.lemmas.Bool.{cases_lt}
+use Rattle.std.proofs.Common.{◌≡◌, ℕ, ◌+◌, ◌-◌, ◌*◌, ◌^◌, if◌then◌else◌, ◌<◌, ◌≤◌, All, true, inl, inr, List, [], ◌∷◌, map, set, length, decimal, get_or, sym, ◌∙◌, ap, subst, arith, zero-add}
+use Rattle.std.specs.List.{sum_by}
+use Rattle.std.proofs.lemmas.Bool.{cases_lt, le-ltb, lt-ltb}
 use Rattle.std.proofs.lemmas.Fmt.{length-decimal-le}
-use Rattle.std.proofs.lemmas.List.{length-append, get_or-map, get_or-set_other, get_or-set_same, get_or_default}
+use Rattle.std.proofs.lemmas.List.{length-append, get_or-set_other, get_or-set_same, get_or_default}
 use Rattle.std.proofs.lemmas.List.FromFn.{get_or-map-range_with_len}
 use Rattle.iso_defs.specs.Cell.{cell_edge, cell_signs, crosses}
 use Rattle.iso_defs.specs.Grid.{name_bound}
@@ -17,7 +18,10 @@ use Rattle.mesh_laws.proofs.Numbers.{crossing_of_cell}
 use Rattle.crossing_edges.specs.Flags.{rank}
 use Rattle.flat_mesh.specs.declared.centres.Cell.{Cell}
 use Rattle.flat_mesh.specs.Centres.{IsCellAt}
-use Rattle.flat_mesh.specs.Faces.{loops_at}
+use Rattle.cell_loops.specs.Loops.{row_loops}
+use Rattle.case_faces.specs.Faces.{corner_number, row_faces}
+use Rattle.case_faces.proofs.Corners.{corners_each}
+use Rattle.flat_mesh.specs.Faces.{centres_of, loops_at}
 use Rattle.flat_mesh.specs.Lattice.{Leveled, heights}
 use Rattle.flat_mesh.specs.Numbers.{AreNumbers}
 use Rattle.flat_mesh.specs.Rows.{row_start}
@@ -30,8 +34,8 @@ use Rattle.mesh_text.specs.Numbers.{IsShort, number_text, text_at}
 use Rattle.mesh_lines.specs.declared.style.Style.{Style}
 use Rattle.mesh_lines.specs.Triangles.{corner_text, first_of}
 use Rattle.mesh_walk.specs.declared.faces.CellTexts.{CellTexts}
-use Rattle.mesh_walk.specs.Slots.{AreApart}
-use Rattle.mesh_walk.specs.Texts.{AreTexts, AreTextsAround, HasText, cell_slot, cell_text}
+use Rattle.mesh_walk.specs.Slots.{AreApart, AreAround, AreLaid, IsReady, row_slot}
+use Rattle.mesh_walk.specs.Texts.{AreTextsAround, HasText, cell_slot, cell_text}
 use Rattle.mesh_walk.proofs.RowSlots.{edge_is}
 use Rattle.mesh_walk.proofs.SlotRows.{edge_laid, slot_low}
 
@@ -104,12 +108,6 @@ short_number format n number low is =
     let brief = subst IsBrief (sym is) (short_text format n low) in
     record { some = brief.some; few = brief.few }
 
--- the text of a vertex of a loop
-pub text_there : (format : MeshFormat) (cell : CellTexts) (numbers edges text : List ℕ) (k e : ℕ) → AreTexts format cell numbers edges → k < length edges → e ≡ get_or edges k 0
-    → text ≡ cell_text cell e → text ≡ corner_text format (get_or (map (λ e. get_or numbers e 0) edges) k 0)
-text_there format cell numbers edges text k e are low at is =
-    is ∙ (ap (cell_text cell) at ∙ (are k 0 low ∙ ap (corner_text format) (sym (get_or-map (λ e. get_or numbers e 0) edges k 0 0 low))))
-
 -- the numbers of the edges of a cell
 module _ (v : Leveled) (q : ℕ) where
   abbrev number : ℕ → ℕ
@@ -121,18 +119,23 @@ module _ (v : Leveled) (q : ℕ) where
   pub numbers_are : AreNumbers v q numbers
   numbers_are e low = get_or-map-range_with_len number 0 12 e e 0 low (zero-add e)
 
--- the texts of the edges of a cell
+-- the texts of the corners of a cell
 module _ (v : Leveled) (is : IsGrid v.grid) (style : Style) (cell : Cell) (h : IsCellAt v.grid cell) (t : CellTexts) (at : t.at ≡ 3 * cell.low.x)
     (are : AreTextsAround style v cell.low.y cell.low.z t.texts.now t.slots.now) where
-  slot_is : (e : ℕ) → e < 12 → cell_slot t e ≡ get_or t.slots.now e 0 + 3 * cell.low.x
-  slot_is e low = ap (λ n. get_or t.slots.now e 0 + n) at
+  slot_is : (c : ℕ) → cell_slot t c ≡ get_or t.slots.now c 0 + 3 * cell.low.x
+  slot_is c = ap (λ n. get_or t.slots.now c 0 + n) at
+
+  has_number : (c n : ℕ) → c < 16 → cell_slot t c < 15390 → n < 2 ^ 32 → cell_text t c ≡ corner_text style.format n → HasText t c
+  has_number c n corner slot low text_is =
+      let brief = subst IsBrief (sym text_is) (short_text style.format n low) in
+      record { corner = corner; slot = slot; some = brief.some; few = brief.few }
 
   module _ (e : ℕ) (low : e < 12) (c : crosses (cell_signs v.grid (heights v) cell.index) e ≡ true) where
     crossing : is_crossing v.grid (heights v) (cell_edge v.grid cell.index e) ≡ true
     crossing = (In-filter (is_crossing v.grid (heights v)) (cell_edge v.grid cell.index e) (below (name_bound v.grid)) (crossing_of_cell v.grid (heights v) cell.index e (cell_placed v.grid cell h).known low c)).1
 
     text_is : cell_text t e ≡ corner_text style.format (number v cell.index e)
-    text_is = ap (text_at t.texts.now) (slot_is e low ∙ ap (λ n. n + 3 * cell.low.x) (are.each e low)) ∙ edge_laid _ _ v cell h are.around e low crossing
+    text_is = ap (text_at t.texts.now) (slot_is e ∙ ap (λ n. n + 3 * cell.low.x) (are.each e low)) ∙ edge_laid _ _ v cell h are.around e low crossing
 
     number_low : number v cell.index e < 2 ^ 32
     number_low =
@@ -140,29 +143,80 @@ module _ (v : Leveled) (is : IsGrid v.grid) (style : Style) (cell : Cell) (h : I
         omega (arith, rank_low v.grid (heights v) (cell_edge v.grid cell.index e), edge_in v.grid cell.index e (cell_placed v.grid cell h).known low)
 
     has_text : HasText t e
-    has_text = record {
-      edge = low;
-      slot = omega (arith, slot_is e low, are.each e low, slot_low cell.low.y cell.low.z e low, h.x, is.x.most);
-      some = (subst IsBrief (sym text_is) (short_text style.format (number v cell.index e) number_low)).some;
-      few = (subst IsBrief (sym text_is) (short_text style.format (number v cell.index e) number_low)).few;
-    }
+    has_text =
+        has_number e (number v cell.index e) (omega arith) (omega (arith, slot_is e, are.each e low, slot_low cell.low.y cell.low.z e low, h.x, is.x.most)) number_low text_is
 
-  module _ (ls : List (List ℕ)) (same : ls ≡ loops_at v cell.index) where
-    loop_at : (i : ℕ) (d : List ℕ) → i < length ls → get_or ls i d ≡ get_or (loops_at v cell.index) i []
-    loop_at i d low = get_or_default ls i d [] low ∙ ap (λ l. get_or l i []) same
+  -- the centres, from the number of the first one
+  module _ (first count : ℕ) (few : count ≤ 4) (small : first + 4 ≤ 2 ^ 32)
+      (centres : (i : ℕ) → i < count → text_at t.texts.now (12312 + 3 * cell.low.x + i) ≡ corner_text style.format (first + i)) where
+    abbrev pub named : ℕ → ℕ
+    named = corner_number (numbers v cell.index) first
 
-    low_at : (i : ℕ) → i < length ls → i < length (loops_at v cell.index)
-    low_at i low = subst (λ n. i < n) (ap length same) low
+    module _ (c : ℕ) (from : 12 ≤ c) (to : c < 12 + count) where
+      slot_at : get_or t.slots.now c 0 ≡ 12312 + (c - 12)
+      slot_at =
+          let same : 12 + (c - 12) ≡ c = omega arith in
+          ap (λ c. get_or t.slots.now c 0) (sym same) ∙ are.centres (c - 12) (omega (arith, from, to, few))
 
-    pub loops_have : All (All (HasText t)) ls
-    loops_have i d low =
-        let loop = loop_is v cell.index i (low_at i low) in
-        let cross = loop_crosses v cell.index i (low_at i low) in
-        subst (All (HasText t)) (sym (loop_at i d low)) (λ k d below. has_text _ (loop.low k d below) (cross.each k d below))
+      centre_text : cell_text t c ≡ corner_text style.format (first + (c - 12))
+      centre_text =
+          let there : get_or t.slots.now c 0 + 3 * cell.low.x ≡ 12312 + 3 * cell.low.x + (c - 12) = omega (arith, slot_at) in
+          ap (text_at t.texts.now) (slot_is c ∙ there) ∙ centres (c - 12) (omega (arith, from, to))
 
-    pub loops_are : All (AreTexts style.format t (numbers v cell.index)) ls
-    loops_are i d low =
-        let loop = loop_is v cell.index i (low_at i low) in
-        let cross = loop_crosses v cell.index i (low_at i low) in
-        subst (AreTexts style.format t (numbers v cell.index)) (sym (loop_at i d low))
-        (λ k d below. text_is _ (loop.low k d below) (cross.each k d below) ∙ ap (corner_text style.format) (sym (numbers_are v cell.index _ (loop.low k d below))))
+      centre_named : cell_text t c ≡ corner_text style.format (named c)
+      centre_named = centre_text ∙ ap (corner_text style.format) (sym (ap (λ b. if b then get_or (numbers v cell.index) c 0 else first + (c - 12)) (le-ltb c 12 from)))
+
+      centre_has : HasText t c
+      centre_has =
+          has_number c (first + (c - 12)) (omega (arith, to, few)) (omega (arith, slot_is c, slot_at, to, few, h.x, is.x.most)) (omega (arith, small, to, few)) centre_text
+
+    edge_named : (e : ℕ) → e < 12 → cell_text t e ≡ corner_text style.format (number v cell.index e) → cell_text t e ≡ corner_text style.format (named e)
+    edge_named e low there =
+        there ∙ ap (corner_text style.format) (sym (ap (λ b. if b then get_or (numbers v cell.index) e 0 else first + (e - 12)) (lt-ltb e 12 low) ∙ numbers_are v cell.index e low))
+
+    module _ (n : ℕ) (case : n < 656) (same : row_loops n ≡ loops_at v cell.index) (all : count ≡ sum_by centres_of (row_loops n)) where
+      loop_at : (i : ℕ) (d : List ℕ) → i < length (row_loops n) → get_or (row_loops n) i d ≡ get_or (loops_at v cell.index) i []
+      loop_at i d low = get_or_default (row_loops n) i d [] low ∙ ap (λ l. get_or l i []) same
+
+      low_at : (i : ℕ) → i < length (row_loops n) → i < length (loops_at v cell.index)
+      low_at i low = subst (λ n. i < n) (ap length same) low
+
+      each_edge : (P : ℕ → Type 0) → ((e : ℕ) → e < 12 → crosses (cell_signs v.grid (heights v) cell.index) e ≡ true → P e) → All (All P) (row_loops n)
+      each_edge P has i d low =
+          let loop = loop_is v cell.index i (low_at i low) in
+          let cross = loop_crosses v cell.index i (low_at i low) in
+          subst (All P) (sym (loop_at i d low)) (λ k d below. has _ (loop.low k d below) (cross.each k d below))
+
+      -- each corner of the triangles of the cell has a text
+      pub corners_have : All (All (HasText t)) (row_faces n)
+      corners_have = corners_each (HasText t) n case (each_edge (HasText t) has_text) (λ c from to. centre_has c from (omega (arith, to, all)))
+
+      -- that of its number
+      pub corners_are : All (All (λ c. cell_text t c ≡ corner_text style.format (named c))) (row_faces n)
+      corners_are =
+          corners_each (λ c. cell_text t c ≡ corner_text style.format (named c)) n case
+          (each_edge (λ c. cell_text t c ≡ corner_text style.format (named c)) (λ e low c. edge_named e low (text_is e low c)))
+          (λ c from to. centre_named c from (omega (arith, to, all)))
+
+row_slot_low : (y z : ℕ) → row_slot y z ≤ 9234
+row_slot_low y z = omega arith
+
+-- the texts of edges stay where those of centres are set
+module _ (v : Leveled) (is : IsGrid v.grid) (at new : ℕ → List ℕ) (due : ℕ → List ℕ) (same : (i : ℕ) → i < 12312 → new i ≡ at i) where
+  laid_still : (y z : ℕ) → AreLaid at due v y z → AreLaid new due v y z
+  laid_still y z laid = record { each = λ e low crossing. same (row_slot y z + e) (omega (arith, low, is.x.most, row_slot_low y z)) ∙ laid.each e low crossing }
+
+  pub around_still : (y z : ℕ) → AreAround at due v y z → AreAround new due v y z
+  around_still y z are = record {
+    near = laid_still y z are.near;
+    up = laid_still (y + 1) z are.up;
+    far = laid_still y (z + 1) are.far;
+    both = laid_still (y + 1) (z + 1) are.both;
+  }
+
+  pub ready_still : (row : ℕ) → IsReady at due v row → IsReady new due v row
+  ready_still row ready = record {
+    next = λ y z hy hz e.
+        let both = ready.next y z hy hz e in
+        record { near = laid_still y z both.near; far = laid_still y (z + 1) both.far };
+  }

@@ -1,4 +1,3 @@
-pub mod Active
 pub mod Spans
 pub mod Numbers
 pub mod Cells

@@ -1,29 +1,26 @@
-//! A row of cells, and its cases.
-ghost use Rattle.std.specs.Prelude.{◌≡◌, ℕ, [], ◌+◌, ◌*◌, ◌<◌, ◌≤◌, false, IsTrue, slice_index, length};
-ghost use Rattle.cell_loops.specs.Loops.{row_loops};
-ghost use Rattle.flat_mesh.specs.Lattice.{Leveled};
+//! A row of cells, by those that may have loops.
+ghost use Rattle.std.specs.Prelude.{◌≡◌, ◌+◌, ◌*◌, ◌<◌, ◌≤◌, false, IsTrue, length};
 ghost use Rattle.flat_mesh.specs.Centres.{IsCellAt};
 ghost use Rattle.flat_mesh.specs.Rows.{row_start};
 ghost use Rattle.mesh_walk.specs.Cells.{AreCells};
 ghost use Rattle.mesh_walk.specs.Numbers.{AreQuiet, AreRowRanks, cost_of_row};
 
-use crate::active::{CASES, list_active};
-use crate::ranks::ROW;
 use crate::walk::Walk;
 use flat_mesh::{Cell, Heights};
 use iso_base::Point;
 use mesh_rows::MeshRows;
+use row_lists::POINTS;
 
-/// A row of cells: where its first point is, for each cell the number of a case that has its loops, and the places of the
-/// `count` cells that have another case than 0. Most cells have that case, which has no loops.
+/// A row of cells: where its first point is, and the `count` cells that may have loops, each by how far it is along x and
+/// the number of a case that has its loops. Most cells have none.
 #[derive(Drop)]
 pub struct RowCells {
     pub y: u32,
     pub z: u32,
     pub start: u32,
-    pub cases: [u16; CASES],
     pub count: usize,
-    pub active: [u16; ROW],
+    pub places: [u16; POINTS],
+    pub cases: [u16; POINTS],
 }
 
 impl RowCells {
@@ -33,9 +30,9 @@ impl RowCells {
             y: 0,
             z: 0,
             start: 0,
-            cases: [0; CASES],
             count: 0,
-            active: [0; ROW],
+            places: [0; POINTS],
+            cases: [0; POINTS],
         }
     }
 
@@ -60,7 +57,16 @@ impl RowCells {
         }
     }
 
-    /// Turns to a row of cells. It has their cases then.
+    /// So many cells can be listed.
+    #[inline(always)]
+    fn room(&self) -> usize
+        ensures cells { result ≡ length self.now.places }
+        ensures points { result ≡ 1026 }
+    {
+        self.places.len()
+    }
+
+    /// Turns to a row of cells. It lists those that may have loops then.
     fn turn_to<R: MeshRows>(&mut self, rows: &mut R, y: u32, z: u32)
         requires y { y + 1 < (R.leveled rows.old).grid.ny }
         requires z { z + 1 < (R.leveled rows.old).grid.nz }
@@ -74,13 +80,12 @@ impl RowCells {
             R.spent rows.new ≤ R.spent rows.old + cost (y + (R.leveled rows.old).grid.ny * z) }
     {
         let sizes = rows.sizes();
-        let nx = sizes.nx();
         self.y = y;
         self.z = z;
-        self.start = nx * (y + sizes.ny() * z);
-        rows.fill_cases(y, z, &mut self.cases[..nx as usize]);
-        // The last point of a row begins no cell.
-        self.count = list_active(&self.cases, nx as usize - 1, &mut self.active);
+        self.start = sizes.nx() * (y + sizes.ny() * z);
+        self.count = rows.list_cells(y, z, &mut self.places, &mut self.cases);
+        // Contracts see by this that the list ends within its buffer.
+        let _ = self.room();
     }
 
     /// Turns to the row of cells that a row of points begins, and says whether it may have loops: not where the row begins

@@ -1,5 +1,5 @@
 //! The lines of the centres of loops, cell by cell.
-ghost use Rattle.std.specs.Prelude.{◌≡◌, ℕ, ◌+◌, ◌-◌, ◌*◌, ◌<◌, ◌≤◌, IfOk};
+ghost use Rattle.std.specs.Prelude.{◌≡◌, ℕ, ◌+◌, ◌-◌, ◌*◌, ◌<◌, ◌≤◌, IfOk, slice_index};
 ghost use Rattle.iso_defs.specs.Rows.{row_count};
 ghost use Rattle.cell_loops.specs.Loops.{IsLoop, row_loops};
 ghost use Rattle.flat_mesh.specs.Centres.{IsCellAt, loop_centre, loop_centres};
@@ -125,11 +125,11 @@ impl<'a> CentreRow<'a> {
     }
 }
 
-/// Puts the lines of the centres of a cell of a row behind the others, and first makes room for them.
+/// Puts the lines of the centres of the cell listed at a place behind the others, and first makes room for them.
 fn write_cell<H: Heights, K: Sink>(
     field: &H,
     row: CentreRow<'_>,
-    x: u32,
+    k: usize,
     block: &mut Block,
     sink: &mut K,
 ) -> Result<(), Failed>
@@ -137,18 +137,19 @@ fn write_cell<H: Heights, K: Sink>(
     requires texts { AreTexts (H.leveled field.now).grid row.cells.now.y row.cells.now.z row.texts.now }
     requires places { let cells = row.cells.now in
         AreRowPlaces (H.leveled field.now) cells.y cells.z row.places.now.places row.slots.now }
-    requires x { x + 1 < (H.leveled field.now).grid.nx }
+    requires k { k < row.cells.now.count }
     ensures adds { let v = H.leveled field.now in
+        let cells = row.entry.cells.now in
         Adds (K.seen sink.old) (K.seen sink.new) block.old block.new result
-        (centres_text row.entry.texts.now.style v (cells_start v row.entry.cells.now + x) 1) }
+        (centres_text row.entry.texts.now.style v (cells_start v cells + slice_index cells.places k) 1) }
     ensures bytes { IfOk result (λ _. block.new.total ≤ block.old.total + 256) }
 {
-    let case = CaseRow::of(row.cells.cases[x as usize]);
+    let case = CaseRow::of(row.cells.cases[k]);
     if centre_count(case) == 0 {
         return Ok(());
     }
     block.reserve(sink)?;
-    let cell = row.cells.cell(field, x);
+    let cell = row.cells.cell(field, row.cells.places[k] as u32);
     put_centres(
         field,
         row.texts,
@@ -178,8 +179,7 @@ fn write_cells<H: Heights, K: Sink>(
 {
     let _ = field.sizes();
     for k in 0..row.cells.count {
-        let x = row.cells.active[k] as u32;
-        write_cell(field, row, x, block, sink)?;
+        write_cell(field, row, k, block, sink)?;
     }
     Ok(())
 }

@@ -8,14 +8,13 @@ ghost use Rattle.mesh_walk.specs.Edges.{AreRowEdges};
 ghost use Rattle.mesh_walk.specs.Numbers.{AreRowRanks};
 ghost use Rattle.mesh_walk.specs.Spans.{all_edges_text, edge_line, edges_text, row_edges_text};
 
-use crate::offsets::ROOM;
-use crate::ranks::{ROW, row_at};
-use crate::slots::list_edges;
+use crate::ranks::row_at;
 use crate::walk::Walk;
 use byte_streams::{Failed, Sink};
 use flat_mesh::Heights;
 use mesh_lines::{Block, RowTexts};
 use mesh_rows::MeshRows;
+use row_lists::EDGES;
 
 /// Fills in where the crossing edges of a row are crossed, at the front of a buffer.
 pub fn set_places<R: MeshRows>(
@@ -23,7 +22,7 @@ pub fn set_places<R: MeshRows>(
     y: u32,
     z: u32,
     edges: &[u16],
-    places: &mut [u16; ROOM],
+    places: &mut [u16; EDGES],
 )
     requires y { y < (R.leveled rows.old).grid.ny }
     requires z { z < (R.leveled rows.old).grid.nz }
@@ -38,15 +37,13 @@ pub fn set_places<R: MeshRows>(
 }
 
 /// The crossing edges that begin in a row of points: so many offsets, three times how far an edge's point is along x and
-/// its axis, and where they are crossed, in thousandths from their lower ends. The texts are for that row, and the flags of
-/// the points are a buffer.
+/// its axis, and where they are crossed, in thousandths from their lower ends. The texts are for that row.
 #[derive(Drop)]
 pub struct RowEdges {
     pub texts: RowTexts,
     pub count: usize,
-    pub edges: [u16; ROOM],
-    pub places: [u16; ROOM],
-    pub flags: [u8; ROW],
+    pub edges: [u16; EDGES],
+    pub places: [u16; EDGES],
 }
 
 impl RowEdges {
@@ -57,24 +54,9 @@ impl RowEdges {
         RowEdges {
             texts,
             count: 0,
-            edges: [0; ROOM],
-            places: [0; ROOM],
-            flags: [0; ROW],
+            edges: [0; EDGES],
+            places: [0; EDGES],
         }
-    }
-
-    /// Lists the crossing edges of a row of points.
-    fn list<R: MeshRows>(&mut self, rows: &mut R, y: u32, z: u32)
-        requires y { y < (R.leveled rows.old).grid.ny }
-        requires z { z < (R.leveled rows.old).grid.nz }
-        ensures texts { self.new.texts ≡ self.old.texts }
-        ensures count { self.new.count ≤ 3 * (R.leveled rows.old).grid.nx }
-        ensures edges { AreEdges (R.leveled rows.old) y z (take self.new.count self.new.edges) }
-        ensures volume { R.leveled rows.new ≡ R.leveled rows.old }
-        ensures kept { R.kept rows.new ≡ R.kept rows.old }
-        ensures spent { R.spent rows.new ≡ R.spent rows.old }
-    {
-        self.count = list_edges(rows, y, z, &mut self.flags, &mut self.edges);
     }
 
     /// Turns to a row of points. It has its crossing edges then, where they are crossed, and the texts of their lines.
@@ -94,7 +76,7 @@ impl RowEdges {
         ensures spent { R.spent rows.new ≡ R.spent rows.old }
     {
         let _ = rows.sizes();
-        self.list(rows, y, z);
+        self.count = rows.list_edges(y, z, &mut self.edges);
         let edges = &self.edges[..self.count];
         set_places(rows, y, z, edges, &mut self.places);
         self.texts.turn_to(y, z, block);

@@ -1,215 +1,207 @@
 //! The lines of the triangles, cell by cell.
-ghost use Rattle.std.specs.Prelude.{◌≡◌, ℕ, List, ◌+◌, ◌-◌, ◌*◌, ◌<◌, ◌≤◌, ◌^◌, All, IfOk, length, map, slice_index};
-ghost use Rattle.std.specs.List.{sum_by};
+ghost use Rattle.std.specs.Prelude.{◌≡◌, ℕ, ◌+◌, ◌*◌, ◌<◌, ◌≤◌, All, IfOk, length, map, slice_index};
 ghost use Rattle.iso_defs.specs.Rows.{row_count};
-ghost use Rattle.cell_loops.specs.Loops.{IsLoop, row_loops};
-ghost use Rattle.flat_mesh.specs.Faces.{cell_faces, centres_of, loop_faces};
 ghost use Rattle.mesh_text.specs.Numbers.{IsShort, number_text, text_at};
 ghost use Rattle.mesh_lines.specs.Blocks.{Adds, IsBehind};
+ghost use Rattle.mesh_lines.specs.Triangles.{corner_text};
 ghost use Rattle.mesh_walk.specs.Cells.{AreCells, cells_start};
-ghost use Rattle.mesh_walk.specs.Numbers.{AreRowRanks, HasNumber, cells_cost, cost_of_row};
-ghost use Rattle.mesh_walk.specs.Slots.{IsReady};
+ghost use Rattle.mesh_walk.specs.Numbers.{AreRowRanks, HasNumber, IsNext, cells_cost, cost_of_row};
+ghost use Rattle.mesh_walk.specs.Slots.{IsReady, edge_slot};
 ghost use Rattle.mesh_walk.specs.Spans.{all_faces_text, face_lines, faces_text, row_faces_text};
-ghost use Rattle.mesh_walk.specs.Texts.{AreTexts, AreTextsAround, HasText, cell_text, number_due};
+ghost use Rattle.mesh_walk.specs.Texts.{AreTextsAround, HasCentres, HasText, cell_text, number_due};
 
 use crate::cells::RowCells;
 use crate::ranks::row_at;
-use crate::slots::{Around, SLOTS, edge_slots};
-use crate::texts::NumberTexts;
+use crate::slots::{Around, CENTRES, TEXTS, edge_slots};
+use crate::texts::{NumberTexts, set_centres};
 use crate::walk::Walk;
 use byte_streams::{Failed, Sink};
+use case_faces::faces_of;
 use case_table::CaseRow;
-use cell_loops::{loop_count, loop_edges};
+use cell_loops::centre_count;
 use flat_mesh::Heights;
 use mesh_lines::{Block, Style};
 use mesh_rows::MeshRows;
-use mesh_text::Number;
+use mesh_text::{Counter, Number};
 
-/// The texts of the numbers of the edges of a cell, each in its slot: so far from that of the edge of the row's first cell.
+/// The texts of the numbers of the corners of a cell's triangles, each in its slot: so far from that of the row's first cell.
 #[derive(Clone, Copy)]
 struct CellTexts<'a> {
-    texts: &'a [Number; SLOTS],
-    slots: &'a [u16; 12],
+    texts: &'a [Number; TEXTS],
+    slots: &'a [u16; 16],
     at: u16,
 }
 
 impl<'a> CellTexts<'a> {
-    /// The text of an edge.
+    /// The text of a corner.
     #[inline(always)]
-    fn text(self, edge: u8) -> &'a Number
-        requires { HasText self edge }
-        ensures text { number_text result.now ≡ cell_text self.entry edge }
+    fn text(self, corner: u8) -> &'a Number
+        requires { HasText self corner }
+        ensures text { number_text result.now ≡ cell_text self.entry corner }
         ensures short { IsShort result.now }
     {
-        &self.texts[(self.slots[edge as usize] + self.at) as usize]
+        &self.texts[(self.slots[corner as usize] + self.at) as usize]
     }
 }
 
-/// Puts the lines of the triangles of a loop with a centre behind the others.
-fn put_fan(style: Style, texts: CellTexts<'_>, edges: &[u8], centre: u32, block: &mut Block)
-    requires texts { All (HasText texts) edges.now }
-    requires long { 3 < length edges.now }
-    requires few { length edges.now ≤ 12 }
-    requires room { block.old.page + 768 ≤ 4096 }
-    ensures put { (numbers : List ℕ) → AreTexts style.format texts.entry numbers edges.now
-        → let corners = map (slice_index numbers) edges.now in
-        IsBehind block.old block.new (face_lines style.format (loop_faces corners centre)) }
-    ensures few { block.new.page ≤ block.old.page + 768 }
-    ensures bytes { block.new.total ≤ block.old.total + 768 }
+/// The slots of the corners of the first cell of a row: its edges, and behind them its centres.
+fn corner_slots(y: u32, z: u32) -> [u16; 16]
+    requires y { y < 1026 }
+    requires z { z < 1026 }
+    ensures edges { (e : ℕ) → e < 12 → slice_index result e ≡ edge_slot y z e }
+    ensures centres { (k : ℕ) → k < 4 → slice_index result (12 + k) ≡ 12312 + k }
 {
-    let mut centre_text = Number::none();
-    block.set_next(&mut block.count_corners(style, centre), &mut centre_text);
-    let first = texts.text(edges[0]);
-    let mut last = first;
-    for i in 1..edges.len() {
-        let next = texts.text(edges[i]);
-        block.push_texts(style, last, next, &centre_text);
-        last = next;
-    }
-    block.push_texts(style, last, first, &centre_text);
+    let [a, b, c, d, e, f, g, h, i, j, k, l] = edge_slots(y, z);
+    let first = CENTRES;
+    [
+        a,
+        b,
+        c,
+        d,
+        e,
+        f,
+        g,
+        h,
+        i,
+        j,
+        k,
+        l,
+        first,
+        first + 1,
+        first + 2,
+        first + 3,
+    ]
 }
 
-/// Puts the lines of the triangles of a loop behind the others, from the texts of the edges of its cell and the number of
-/// its centre.
-fn put_loop(style: Style, texts: CellTexts<'_>, edges: &[u8], centre: u32, block: &mut Block)
-    requires edges { IsLoop edges.now }
-    requires texts { All (HasText texts) edges.now }
-    requires room { block.old.page + 768 ≤ 4096 }
-    ensures put { (numbers : List ℕ) → AreTexts style.format texts.entry numbers edges.now
-        → let corners = map (slice_index numbers) edges.now in
-        IsBehind block.old block.new (face_lines style.format (loop_faces corners centre)) }
-    ensures few { block.new.page ≤ block.old.page + 768 }
-    ensures bytes { block.new.total ≤ block.old.total + 768 }
-{
-    if edges.len() > 3 {
-        put_fan(style, texts, edges, centre, block);
-        return;
-    }
-    let a = texts.text(edges[0]);
-    let b = texts.text(edges[1]);
-    let c = texts.text(edges[2]);
-    block.push_texts(style, a, b, c);
-}
-
-/// The number of the next centre behind a loop.
+/// Puts the lines of triangles behind the others, by the texts of their corners. No branch rests on a triangle.
 #[inline(always)]
-fn behind_loop(edges: &[u8], next: u32) -> u32
-    requires { next < 2 ^ 32 - 1 }
-    ensures value { result ≡ next + centres_of edges.now }
-    ensures bound { result ≤ next + 1 }
+fn put_faces(style: Style, texts: CellTexts<'_>, faces: &[[u8; 3]], block: &mut Block)
+    requires texts { All (All (HasText texts)) faces.now }
+    requires few { length faces.now ≤ 12 }
+    requires room { block.old.page + 768 ≤ 4096 }
+    ensures put { (number : ℕ → ℕ) →
+        All (All (λ c. cell_text texts.entry c ≡ corner_text style.format (number c))) faces.now →
+        IsBehind block.old block.new (face_lines style.format (map (map number) faces.now)) }
+    ensures bytes { block.new.total ≤ block.old.total + 768 }
 {
-    if edges.len() > 3 { next + 1 } else { next }
-}
-
-/// Puts the lines of the triangles of the loops of a case behind the others, where `first` is the number of the first
-/// centre, and gives that of the next one.
-fn put_loops(
-    style: Style,
-    texts: CellTexts<'_>,
-    case: CaseRow,
-    first: u32,
-    block: &mut Block,
-) -> u32
-    requires texts { All (All (HasText texts)) (row_loops case) }
-    requires room { block.old.page + 3072 ≤ 4096 }
-    requires first { first < 2 ^ 31 }
-    ensures put { (numbers : List ℕ) → All (AreTexts style.format texts.entry numbers) (row_loops case)
-        → let faces = cell_faces numbers (row_loops case) first in
-        IsBehind block.old block.new (face_lines style.format faces) }
-    ensures next { result ≡ first + sum_by centres_of (row_loops case) }
-    ensures bytes { block.new.total ≤ block.old.total + 3072 }
-{
-    let mut next = first;
-    for turn in 0..loop_count(case) {
-        let edges = loop_edges(case, turn);
-        put_loop(style, texts, edges, next, block);
-        next = behind_loop(edges, next);
+    for i in 0..faces.len() {
+        let [a, b, c] = faces[i];
+        block.push_texts(style, texts.text(a), texts.text(b), texts.text(c));
     }
-    next
 }
 
-/// A row of cells with the texts in the slots round it, and how its triangles are written.
+/// A row of cells with the slots of the corners of its first cell, and how its triangles are written.
 #[derive(Clone, Copy)]
 struct FaceRow<'a> {
     style: Style,
     cells: &'a RowCells,
-    texts: &'a [Number; SLOTS],
-    slots: &'a [u16; 12],
+    slots: &'a [u16; 16],
 }
 
 impl<'a> FaceRow<'a> {
-    /// Puts the lines of the triangles of the cell at a place behind the others, where `next` is the number of its first
-    /// centre, and gives that of the next cell's.
+    /// Puts the lines of the triangles of the cell listed at a place behind the others.
     #[inline(always)]
     fn write_cell<H: Heights, K: Sink>(
         self,
         field: &H,
-        x: u32,
-        next: u32,
+        k: usize,
+        texts: &[Number; TEXTS],
         block: &mut Block,
         sink: &mut K,
-    ) -> Result<u32, Failed>
+    ) -> Result<(), Failed>
         requires cells { AreCells (H.leveled field.now) self.cells.now }
         requires texts { let cells = self.cells.now in
-            AreTextsAround self.style (H.leveled field.now) cells.y cells.z self.texts.now self.slots.now }
-        requires x { x + 1 < (H.leveled field.now).grid.nx }
-        requires next { let v = H.leveled field.now in
-            HasNumber v (cells_start v self.cells.now + x) next }
+            AreTextsAround self.style (H.leveled field.now) cells.y cells.z texts.now self.slots.now }
+        requires k { k < self.cells.now.count }
+        requires centres { HasCentres self.style.format (H.leveled field.now) self.cells.now texts.now k }
         ensures adds { let v = H.leveled field.now in
+            let cells = self.entry.cells.now in
             Adds (K.seen sink.old) (K.seen sink.new) block.old block.new result
-            (faces_text self.entry.style.format v (cells_start v self.entry.cells.now + x) 1) }
-        ensures next { let v = H.leveled field.now in
-            IfOk result (λ n. HasNumber v (cells_start v self.entry.cells.now + x + 1) n) }
+            (faces_text self.entry.style.format v (cells_start v cells + slice_index cells.places k) 1) }
         ensures bytes { IfOk result (λ _. block.new.total ≤ block.old.total + 3072) }
     {
         let _ = field.sizes();
-        let case = self.cells.cases[x as usize];
+        let case = CaseRow::of(self.cells.cases[k]);
         block.reserve(sink)?;
         let texts = CellTexts {
-            texts: self.texts,
+            texts,
             slots: self.slots,
-            at: 3 * x as u16,
+            at: 3 * self.cells.places[k],
         };
-        let next = put_loops(self.style, texts, CaseRow::of(case), next, block);
-        Ok(next)
+        put_faces(self.style, texts, faces_of(case), block);
+        Ok(())
     }
 
-    /// Puts the lines of the triangles of the row behind the others.
+    /// Sets the texts of the numbers of the centres of the cell listed at a place, and says how many there are.
+    #[inline(always)]
+    fn set_centres<H: Heights>(
+        self,
+        field: &H,
+        k: usize,
+        corners: &mut Counter,
+        texts: &mut [Number; TEXTS],
+        block: &Block,
+    ) -> u32
+        requires cells { AreCells (H.leveled field.now) self.cells.now }
+        requires k { k < self.cells.now.count }
+        requires next { let v = H.leveled field.now in
+            let cells = self.cells.now in
+            IsNext self.style.format v (cells_start v cells + slice_index cells.places k) corners.old }
+        ensures centres { HasCentres self.entry.style.format (H.leveled field.now) self.entry.cells.now texts.new k }
+        ensures edges { (i : ℕ) → i < 12312 → text_at texts.new i ≡ text_at texts.old i }
+        ensures next { let v = H.leveled field.now in
+            let cells = self.entry.cells.now in
+            IsNext self.entry.style.format v (cells_start v cells + slice_index cells.places k + 1) corners.new }
+        ensures count { corners.new ≡ corners.old + result }
+    {
+        let _ = field.sizes();
+        let count = centre_count(CaseRow::of(self.cells.cases[k]));
+        let first = usize::from(CENTRES + 3 * self.cells.places[k]);
+        set_centres(block, corners, count, first, texts);
+        u32::from(count)
+    }
+
+    /// Puts the lines of the triangles of the row behind the others, where `next` is the number of its first centre, and gives that of
+    /// the next row's.
     fn write<H: Heights, K: Sink>(
         self,
         field: &H,
+        texts: &mut [Number; TEXTS],
         next: u32,
         block: &mut Block,
         sink: &mut K,
     ) -> Result<u32, Failed>
         requires cells { AreCells (H.leveled field.now) self.cells.now }
         requires texts { let cells = self.cells.now in
-            AreTextsAround self.style (H.leveled field.now) cells.y cells.z self.texts.now self.slots.now }
+            AreTextsAround self.style (H.leveled field.now) cells.y cells.z texts.old self.slots.now }
         requires next { let v = H.leveled field.now in
             HasNumber v (cells_start v self.cells.now) next }
         ensures adds { let v = H.leveled field.now in
             let start = cells_start v self.entry.cells.now in
             Adds (K.seen sink.old) (K.seen sink.new) block.old block.new result
             (faces_text self.entry.style.format v start v.grid.nx) }
+        ensures edges { (i : ℕ) → i < 12312 → text_at texts.new i ≡ text_at texts.old i }
         ensures next { let v = H.leveled field.now in
             IfOk result (λ n. HasNumber v (cells_start v self.entry.cells.now + v.grid.nx) n) }
         ensures bytes { IfOk result (λ _. block.new.total ≤ block.old.total + 3072 * (H.leveled field.now).grid.nx) }
     {
         let _ = field.sizes();
+        let mut corners = block.count_corners(self.style, next);
         let mut next = next;
         for k in 0..self.cells.count {
-            let x = self.cells.active[k] as u32;
-            next = self.write_cell(field, x, next, block, sink)?;
+            next += self.set_centres(field, k, &mut corners, texts, block);
+            self.write_cell(field, k, texts, block, sink)?;
         }
         Ok(next)
     }
 }
 
-/// How far the lines of the triangles are: the number of the next centre, and buffers for a row of cells and the texts
-/// round it.
+/// How far the lines of the triangles are: the number of the next centre, and buffers for a row of cells, the slots of the corners of
+/// its first cell, and the texts in the slots round it.
 #[derive(Drop)]
 struct Faces {
     cells: RowCells,
+    slots: [u16; 16],
     texts: Around<NumberTexts>,
     next: u32,
 }
@@ -247,13 +239,13 @@ fn write_row<R: MeshRows, K: Sink>(
         return Ok(());
     }
     faces.texts.turn_to(rows, walk, block, y, z);
-    let face_row = FaceRow {
+    faces.slots = corner_slots(y, z);
+    let row = FaceRow {
         style: walk.style,
         cells: &faces.cells,
-        texts: &faces.texts.slots.texts,
-        slots: &edge_slots(y, z),
+        slots: &faces.slots,
     };
-    faces.next = face_row.write(rows, faces.next, block, sink)?;
+    faces.next = row.write(rows, &mut faces.texts.slots.texts, faces.next, block, sink)?;
     Ok(())
 }
 
@@ -278,6 +270,7 @@ pub fn write_faces<R: MeshRows, K: Sink>(
     let sizes = rows.sizes();
     let mut faces = Faces {
         cells: RowCells::new(),
+        slots: [0; 16],
         texts: Around::of(NumberTexts::new()),
         next: walk.total,
     };

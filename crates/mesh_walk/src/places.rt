@@ -1,5 +1,5 @@
 //! Where crossing edges are crossed, and where the centres of loops are by that, relative to their cells.
-ghost use Rattle.std.specs.Prelude.{◌≡◌, ℕ, ◌+◌, ◌*◌, ◌<◌, ◌≤◌, true, All, length, slice_index, take};
+ghost use Rattle.std.specs.Prelude.{◌≡◌, ℕ, ◌+◌, ◌*◌, ◌<◌, ◌≤◌, true, All, slice_index, take};
 ghost use Rattle.iso_defs.specs.Cell.{cell_signs, crosses};
 ghost use Rattle.cell_loops.specs.Loops.{IsLoop};
 ghost use Rattle.flat_mesh.specs.Centres.{IsCellAt, cell_place, local_mean};
@@ -10,14 +10,13 @@ ghost use Rattle.mesh_walk.specs.Places.{AreCellPlaces, due_to, in_slot, lanes_o
 ghost use Rattle.mesh_walk.specs.Slots.{AreLaid, row_slot};
 
 use crate::edges::set_places;
-use crate::offsets::ROOM;
-use crate::ranks::ROW;
-use crate::slots::{SLOTS, Slots, list_edges, row_slot};
+use crate::slots::{SLOTS, Slots, row_slot};
 use crate::walk::Walk;
 use edge_points::rounded_mean;
 use flat_mesh::{Cell, Heights};
 use mesh_lines::Block;
 use mesh_rows::MeshRows;
+use row_lists::EDGES;
 
 /// Where the edges of a cell begin, in thousandths from its lowest point. One number has all three coordinates, that
 /// along x in its lowest 16 bits, then that along y and that along z. So the three sums of a loop are one sum.
@@ -138,14 +137,12 @@ fn lay_places<H: Heights>(
 }
 
 /// The places of the crossing edges of the rows of points round a row of cells, in thousandths from the edges' lower
-/// ends. The other fields are buffers for a row: its crossing edges by their offsets, their places, and the flags of its
-/// points.
+/// ends. The other fields are buffers for a row: its crossing edges by their offsets, and their places.
 #[derive(Drop)]
 pub struct EdgePlaces {
     pub places: [u16; SLOTS],
-    pub edges: [u16; ROOM],
-    pub row: [u16; ROOM],
-    pub flags: [u8; ROW],
+    pub edges: [u16; EDGES],
+    pub row: [u16; EDGES],
 }
 
 impl EdgePlaces {
@@ -153,9 +150,8 @@ impl EdgePlaces {
     pub fn new() -> EdgePlaces {
         EdgePlaces {
             places: [0; SLOTS],
-            edges: [0; ROOM],
-            row: [0; ROOM],
-            flags: [0; ROW],
+            edges: [0; EDGES],
+            row: [0; EDGES],
         }
     }
 
@@ -172,7 +168,7 @@ impl EdgePlaces {
         ensures spent { R.spent rows.new ≡ R.spent rows.old }
     {
         let _ = rows.sizes();
-        let count = list_edges(rows, y, z, &mut self.flags, &mut self.edges);
+        let count = rows.list_edges(y, z, &mut self.edges);
         set_places(rows, y, z, &self.edges[..count], &mut self.row);
         count
     }

@@ -1,20 +1,24 @@
 //! What belongs to the crossing edges of the four rows of points round a row of cells, each edge's in a slot of its own.
-ghost use Rattle.std.specs.Prelude.{◌≡◌, ℕ, List, ◌+◌, ◌*◌, ◌<◌, ◌≤◌, slice_index, take};
+ghost use Rattle.std.specs.Prelude.{◌≡◌, ℕ, List, ◌+◌, ◌*◌, ◌<◌, ◌≤◌, slice_index};
 ghost use Rattle.iso_base.specs.Sizing.{IsGrid};
 ghost use Rattle.flat_mesh.specs.Lattice.{Leveled};
 ghost use Rattle.mesh_lines.specs.declared.style.Style.{Style};
-ghost use Rattle.mesh_rows.specs.Rows.{AreEdges};
 ghost use Rattle.mesh_walk.specs.Numbers.{AreRowRanks};
 ghost use Rattle.mesh_walk.specs.Slots.{AreAround, AreLaid, AreLaidInBoth, IsReady, edge_slot, row_slot};
 
-use crate::offsets::{ROOM, put_row};
-use crate::ranks::{ROW, set_flags};
 use crate::walk::Walk;
 use mesh_lines::{Block, Style};
 use mesh_rows::MeshRows;
 
 /// So many slots there are: those of four of the longest rows of points.
 pub const SLOTS: usize = 12_312;
+
+/// So many slots there are for the texts of corners: those of edges, and behind them three for each cell of the longest row, in which
+/// the texts of its centres stand.
+pub const TEXTS: usize = 15_390;
+
+/// The first slot of the centres of a row's cells.
+pub const CENTRES: u16 = 12_312;
 
 /// The first slot of a row of points.
 #[inline(always)]
@@ -50,27 +54,6 @@ pub fn edge_slots(y: u32, z: u32) -> [u16; 12]
         up + 2,
         up + 5,
     ]
-}
-
-/// Lists the crossing edges of a row of points by their offsets, and says how many there are. `flags` is a buffer.
-pub fn list_edges<R: MeshRows>(
-    rows: &mut R,
-    y: u32,
-    z: u32,
-    flags: &mut [u8; ROW],
-    edges: &mut [u16; ROOM],
-) -> usize
-    requires y { y < (R.leveled rows.old).grid.ny }
-    requires z { z < (R.leveled rows.old).grid.nz }
-    ensures count { result ≤ 3 * (R.leveled rows.old).grid.nx }
-    ensures edges { AreEdges (R.leveled rows.old) y z (take result edges.new) }
-    ensures volume { R.leveled rows.new ≡ R.leveled rows.old }
-    ensures kept { R.kept rows.new ≡ R.kept rows.old }
-    ensures spent { R.spent rows.new ≡ R.spent rows.old }
-{
-    let nx = rows.sizes().nx() as usize;
-    set_flags(rows, y, z, flags);
-    put_row(&flags[..nx], edges)
 }
 
 /// What is laid into slots. Contracts see what stands in each, and what is due to an edge, by its name.

@@ -1,8 +1,7 @@
 //! What the whole walk reads, and no part of it changes.
-ghost use Rattle.std.specs.Prelude.{◌≡◌, ◌+◌, ◌*◌, ◌<◌, ◌≤◌, false, IsTrue};
+ghost use Rattle.std.specs.Prelude.{◌≡◌, ◌+◌, ◌<◌, ◌≤◌, false, IsTrue};
 ghost use Rattle.flat_mesh.specs.Rows.{row_start};
 ghost use Rattle.mesh_walk.specs.Numbers.{AreQuiet, AreRowRanks, edges_to};
-ghost use Rattle.mesh_walk.specs.Spans.{edge_count};
 
 use edge_points::RowRanks;
 use flat_mesh::Heights;

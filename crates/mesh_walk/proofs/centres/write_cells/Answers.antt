@@ -4,7 +4,7 @@ use Rattle.iso_defs.specs.Grid.{is_cell}
 use Rattle.flat_mesh.specs.Rows.{row_start}
 use Rattle.mesh_walk.specs.Spans.{centre_lines, centres_text}
 use Rattle.mesh_walk.proofs.Adding.{adds_as}
-use Rattle.mesh_walk.proofs.ActiveCells.{cell_low, count_low, gap, gap_before, gap_low, gap_next, quiet_gap, quiet_rest}
+use Rattle.mesh_walk.proofs.ActiveCells.{cell_low, gap, gap_before, gap_low, gap_next, quiet_gap, quiet_rest}
 use Rattle.mesh_walk.proofs.CentreLines.{quiet_centres}
 use Rattle.mesh_walk.proofs.SpanLaws.{run_failed, run_more, run_none, run_quiet}
 use Rattle.mesh_walk.proofs.centres.write_cells.Goals as goal
@@ -15,23 +15,6 @@ loop-k-init g c =
     let a = row_start v.grid c.args.row.cells.now.y c.args.row.cells.now.z in
     record { adds = run_none (centre_lines c.args.row.texts.now.style v) (is_cell v.grid) a _ _ tt; bytes = omega arith }
 
-pub bounds-row-k : goal.bounds-row-k
-bounds-row-k g c =
-    let v = g.H.Heights.leveled c.args.field.now in
-    let x = c.sizes.ensures.leveled.grid.x in
-    omega (arith, count_low v c.args.row.cells.now c.requires.cells (omega (arith, x)), x, c.loop-k-test.true)
-
-pub offset_bounds-row-k : goal.offset_bounds-row-k
-offset_bounds-row-k g c =
-    let v = g.H.Heights.leveled c.args.field.now in
-    let x = c.sizes.ensures.leveled.grid.x in
-    omega (arith, count_low v c.args.row.cells.now c.requires.cells (omega (arith, x)), x, c.loop-k-test.true)
-
-pub write_cell-requires-clause-x : goal.write_cell-requires-clause-x
-write_cell-requires-clause-x g c =
-    let v = g.H.Heights.leveled c.args.field.now in
-    cell_low v c.args.row.cells.now c.requires.cells c.loop-k.k c.loop-k-test.true
-
 pub returns-in_err-write_cell-clause-adds : goal.returns-in_err-write_cell-clause-adds
 returns-in_err-write_cell-clause-adds g c =
     let v = g.H.Heights.leveled c.args.field.now in
@@ -40,7 +23,7 @@ returns-in_err-write_cell-clause-adds g c =
     let are = c.requires.cells in
     let k = c.loop-k.k in
     let more = c.loop-k-test.true in
-    let x = get_or cells.active k 0 in
+    let x = get_or cells.places k 0 in
     let a = row_start v.grid cells.y cells.z in
     let p = err_from_is_err_and c.from_residual.result c.from_residual.ensures.1 in
     let none = quiet_centres style v (a + gap v cells are k) (x - gap v cells are k) (quiet_gap v cells are k more) in
@@ -56,7 +39,7 @@ loop-k-preserved g c =
     let are = c.requires.cells in
     let k = c.loop-k.k in
     let more = c.loop-k-test.true in
-    let x = get_or cells.active k 0 in
+    let x = get_or cells.places k 0 in
     let a = row_start v.grid cells.y cells.z in
     let within = gap_before v cells are k more in
     let next = gap_next v cells are k more in

@@ -1,4 +1,8 @@
-use Rattle.std.proofs.Common.{◌+◌, ◌*◌, sym, ap, subst, arith}
+use Rattle.std.proofs.Common.{◌+◌, ◌*◌, sym, ap, subst, rules, arith}
+use Rattle.mesh_text.specs.Numbers.{text_at}
+use Rattle.mesh_walk.specs.Slots.{IsReady}
+use Rattle.mesh_walk.specs.Texts.{number_due}
+use Rattle.mesh_walk.proofs.TextSlots.{ready_still}
 use Rattle.mesh_walk.specs.Numbers.{AreQuiet}
 use Rattle.mesh_walk.proofs.Adding.{adds_as, adds_none}
 use Rattle.mesh_walk.proofs.FaceLines.{quiet_faces, quiet_number}
@@ -18,3 +22,17 @@ returns-then-not-find-clause-next g c =
     let at = found_row v _ _ _ _ c.sizes-sizes.ensures.value c.row_at-y.ensures.y c.row_at-y.ensures.z c.row_at-y.ensures.row in
     let quiet = subst (λ a. AreQuiet v a v.grid.nx) (ap (λ n. v.grid.nx * n) at.row_is) (c.find.ensures.quiet c.if-not-find.true) in
     quiet_number v (v.grid.nx * c.args.row) v.grid.nx (v.grid.nx * (c.args.row + 1)) c.args.faces.now.next quiet (omega arith) c.requires.next
+
+pub returns-in_err-faces-clause-ready : goal.returns-in_err-faces-clause-ready
+returns-in_err-faces-clause-ready g c =
+    let v = g.R.Heights.leveled c.args.rows.now in
+    let due = number_due c.args.walk.style v in
+    let ready : IsReady (text_at c.turn_to.new.self.slots.texts) due v c.turn_to.new.self.next = search rules in
+    ready_still v c.sizes-sizes.ensures.leveled.grid (text_at c.turn_to.new.self.slots.texts) (text_at c.write.new.texts) due c.write.ensures.edges c.turn_to.new.self.next ready
+
+pub returns-clause-ready : goal.returns-clause-ready
+returns-clause-ready g c =
+    let v = g.R.Heights.leveled c.args.rows.now in
+    let due = number_due c.args.walk.style v in
+    let ready : IsReady (text_at c.turn_to.new.self.slots.texts) due v c.turn_to.new.self.next = search rules in
+    ready_still v c.sizes-sizes.ensures.leveled.grid (text_at c.turn_to.new.self.slots.texts) (text_at c.write.new.texts) due c.write.ensures.edges c.turn_to.new.self.next ready

@@ -1,12 +1,12 @@
-use Rattle.std.proofs.Common.{◌≡◌, ◌+◌, ◌*◌, ◌≤◌, get_or, sym, refl, ◌∙◌, ap, subst, inl, inr, arith}
+use Rattle.std.proofs.Common.{◌≡◌, ◌+◌, ◌*◌, ◌≤◌, get_or, length, sym, refl, ◌∙◌, ap, subst, inl, inr, arith}
 use Rattle.std.proofs.lemmas.Bool.{cases_lt}
 use Rattle.iso_defs.specs.Grid.{Grid}
 use Rattle.iso_defs.specs.Rows.{row_count}
 use Rattle.edge_points.specs.Rows.{sums_before}
 use Rattle.flat_mesh.specs.Lattice.{Leveled}
-use Rattle.flat_mesh.specs.Rows.{row_start}
+use Rattle.mesh_rows.specs.Rows.{row_names}
 use Rattle.mesh_walk.specs.Numbers.{edges_to}
-use Rattle.mesh_walk.proofs.RankedRows.{count_more, each_few, found_row, none_before, ranked, row_of_same, rows_are, total_low}
+use Rattle.mesh_walk.proofs.RankedRows.{count_more, each_few, found_row, none_before, ranked, row_few, row_of_same, row_sum, rows_are, total_low}
 use Rattle.mesh_walk.proofs.ranks.rank_rows.Goals as goal
 
 pub loop-row-init : goal.loop-row-init
@@ -21,38 +21,51 @@ loop-row-init g c = record {
   spent = refl;
 }
 
-pub row_edges-count-requires-clause-y : goal.row_edges-count-requires-clause-y
-row_edges-count-requires-clause-y g c =
+pub count_edges-count-requires-clause-y : goal.count_edges-count-requires-clause-y
+count_edges-count-requires-clause-y g c =
     let v = g.R.Heights.leveled c.args.rows.now in
     let at = found_row v _ _ _ _ c.sizes-sizes.ensures.value c.row_at-y.ensures.y c.row_at-y.ensures.z c.row_at-y.ensures.row in
     (row_of_same (g.R.Heights.leveled c.loop-row.rows) v _ _ _ c.loop-row.invariant.volume at).y_low
 
-pub row_edges-count-requires-clause-z : goal.row_edges-count-requires-clause-z
-row_edges-count-requires-clause-z g c =
+pub count_edges-count-requires-clause-z : goal.count_edges-count-requires-clause-z
+count_edges-count-requires-clause-z g c =
     let v = g.R.Heights.leveled c.args.rows.now in
     let at = found_row v _ _ _ _ c.sizes-sizes.ensures.value c.row_at-y.ensures.y c.row_at-y.ensures.z c.row_at-y.ensures.row in
     (row_of_same (g.R.Heights.leveled c.loop-row.rows) v _ _ _ c.loop-row.invariant.volume at).z_low
+
+pub set_count-requires-clause-crossing : goal.set_count-requires-clause-crossing
+set_count-requires-clause-crossing g c =
+    let v = g.R.Heights.leveled c.args.rows.now in
+    let y = c.row_at-y.result.0 in
+    let z = c.row_at-y.result.1 in
+    let count = c.count_edges-count.result in
+    let is = subst (λ (v : Leveled). count ≡ length (row_names v y z)) c.loop-row.invariant.volume c.count_edges-count.ensures.count in
+    subst (λ (g : Grid). count ≤ 3 * g.nx) (sym c.loop-row.invariant.grid) (row_few v y z count is)
 
 pub overflow_add-total : goal.overflow_add-total
 overflow_add-total g c =
     let v = g.R.Heights.leveled c.args.rows.now in
     let rows = rows_are v _ _ _ c.sizes-sizes.ensures.value c.ny.ensures.value c.nz.ensures.value in
-    let few = subst (λ (v : Leveled). c.row_edges-count.result ≤ 3 * v.grid.nx) c.loop-row.invariant.volume c.row_edges-count.ensures.bound in
-    omega (arith, total_low v c.loop-row.total c.loop-row.row c.sizes-sizes.ensures.leveled.grid (omega (arith, c.loop-row-test.true, rows)) c.loop-row.invariant.total, few)
+    let y = c.row_at-y.result.0 in
+    let z = c.row_at-y.result.1 in
+    let count = c.count_edges-count.result in
+    let is = subst (λ (v : Leveled). count ≡ length (row_names v y z)) c.loop-row.invariant.volume c.count_edges-count.ensures.count in
+    omega (arith, total_low v c.loop-row.total c.loop-row.row c.sizes-sizes.ensures.leveled.grid (omega (arith, c.loop-row-test.true, rows)) c.loop-row.invariant.total, row_few v y z count is)
 
 pub loop-row-preserved : goal.loop-row-preserved
 loop-row-preserved g c =
     let v = g.R.Heights.leveled c.args.rows.now in
     let row = c.loop-row.row in
-    let count = c.row_edges-count.result in
+    let count = c.count_edges-count.result in
     let new = c.set_count.new.self in
     let invariant = c.loop-row.invariant in
     let rows = rows_are v _ _ _ c.sizes-sizes.ensures.value c.ny.ensures.value c.nz.ensures.value in
     let y = c.row_at-y.result.0 in
     let z = c.row_at-y.result.1 in
     let at = found_row v _ _ _ _ c.sizes-sizes.ensures.value c.row_at-y.ensures.y c.row_at-y.ensures.z c.row_at-y.ensures.row in
-    let value = subst (λ (v : Leveled). edges_to v (row_start v.grid y z + v.grid.nx) ≡ edges_to v (row_start v.grid y z) + count) invariant.volume c.row_edges-count.ensures.value in
-    let bound = subst (λ (v : Leveled). count ≤ 3 * v.grid.nx) invariant.volume c.row_edges-count.ensures.bound in
+    let is = subst (λ (v : Leveled). count ≡ length (row_names v y z)) invariant.volume c.count_edges-count.ensures.count in
+    let value = row_sum v y z count is in
+    let bound = row_few v y z count is in
     let place : v.grid.nx * (y + v.grid.ny * z) ≡ v.grid.nx * row = ap (λ n. v.grid.nx * n) at.row_is in
     let next : v.grid.nx * (y + v.grid.ny * z) + v.grid.nx ≡ v.grid.nx * (row + 1) = omega (arith, place) in
     let one : edges_to v (v.grid.nx * (row + 1)) ≡ edges_to v (v.grid.nx * row) + count
@@ -74,9 +87,9 @@ loop-row-preserved g c =
             let same : k ≡ row = omega arith in
             subst (λ n. get_or new.numbers n 0 ≤ 3 * v.grid.nx) (sym same) (subst (λ n. n ≤ 3 * v.grid.nx) (sym set.same) bound))
       ];
-      volume = c.row_edges-count.ensures.volume ∙ invariant.volume;
-      kept = c.row_edges-count.ensures.kept ∙ invariant.kept;
-      spent = c.row_edges-count.ensures.spent ∙ invariant.spent;
+      volume = c.count_edges-count.ensures.volume ∙ invariant.volume;
+      kept = c.count_edges-count.ensures.kept ∙ invariant.kept;
+      spent = c.count_edges-count.ensures.spent ∙ invariant.spent;
     }
 
 pub finish-requires : goal.finish-requires

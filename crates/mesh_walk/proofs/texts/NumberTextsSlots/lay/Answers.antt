@@ -3,7 +3,7 @@ use Rattle.std.proofs.lemmas.List.{get_or_default, length-take}
 use Rattle.mesh_text.specs.Numbers.{text_at}
 use Rattle.mesh_lines.specs.Triangles.{corner_text}
 use Rattle.mesh_walk.specs.Texts.{number_due}
-use Rattle.mesh_walk.proofs.FlagRows.{before_low}
+use Rattle.mesh_walk.proofs.RankedRows.{before_low}
 use Rattle.mesh_walk.proofs.RowSlots.{edge_is, laid_by, none_due}
 use Rattle.mesh_walk.proofs.TextSlots.{edges_apart}
 use Rattle.mesh_walk.proofs.texts.NumberTextsSlots.lay.Goals as goal
@@ -14,7 +14,7 @@ returns-then-not-has_edges-clause-laid g c =
     none_due v c.args.y c.args.z (text_at c.args.self.now.texts) (number_due c.args.walk.style v) (c.has_edges.ensures c.if-not-has_edges.true)
 
 pub shared_ref_as_front-edges : goal.shared_ref_as_front-edges
-shared_ref_as_front-edges g c = omega (arith, c.list_edges-count.ensures.count, c.sizes.ensures.leveled.grid.x.most)
+shared_ref_as_front-edges g c = omega (arith, c.list_edges-count.ensures.few, c.sizes.ensures.leveled.grid.x.most)
 
 pub set_texts-requires-clause-low : goal.set_texts-requires-clause-low
 set_texts-requires-clause-low g c = λ k d low.
@@ -28,7 +28,7 @@ set_texts-requires-clause-apart g c = edges_apart (g.R.Heights.leveled c.args.ro
 pub set_texts-requires-clause-few : goal.set_texts-requires-clause-few
 set_texts-requires-clause-few g c =
     let v = g.R.Heights.leveled c.args.rows.now in
-    omega (arith, before_low v c.args.y c.args.z _ c.sizes.ensures.leveled c.requires.y c.requires.z c.edges_to_row-before.ensures, c.list_edges-count.ensures.count, length-take c.list_edges-count.result c.list_edges-count.new.edges)
+    omega (arith, before_low v c.args.y c.args.z _ c.sizes.ensures.leveled c.requires.y c.requires.z c.edges_to_row-before.ensures, c.list_edges-count.ensures.few, length-take c.list_edges-count.result c.list_edges-count.new.edges)
 
 pub returns-clause-laid : goal.returns-clause-laid
 returns-clause-laid g c =

@@ -1,9 +1,0 @@
-use Rattle.std.proofs.Common.{◌≡◌, ◌*◌, ◌≤◌, take}
-use Rattle.mesh_walk.specs.Edges.{edges_among}
-use Rattle.mesh_walk.proofs.offsets.put_row.Given as goal
-
-abbrev pub invariant-loop-block : goal.invariant-loop-block
-invariant-loop-block l = record {
-  put : take l.at l.edges ≡ edges_among l.flags 0 (32 * l.block);
-  end : l.at ≤ 3 * (32 * l.block);
-}
