@@ -7,10 +7,10 @@ ghost use Rattle.flat_mesh.specs.Lattice.{heights};
 ghost use Rattle.flat_mesh.specs.Mesh.{mesh_of};
 ghost use Rattle.mesh_lines.specs.Lines.{text_of, written_of};
 
-use crate::rows::ListRows;
 use byte_streams::{Failed, Sink};
 use edge_points::RowRanks;
 use iso_base::{Level, Memory, Sizes, Written};
+use list_rows::ListRows;
 use mesh_lines::Style;
 use mesh_walk::write_mesh;
 use samples::Samples;

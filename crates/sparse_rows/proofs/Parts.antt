@@ -1,10 +1,10 @@
 -- Rows in lists that grow.
-use Rattle.std.proofs.Common.{◌≡◌, ℕ, zero, suc, ◌+◌, ◌*◌, ◌<◌, ◌≤◌, ◌^◌, Bool, true, false, cond, List, [], ◌∷◌, ◌++◌, length, All, map, take, drop, get_or, replicate, refl, sym, ◌∙◌, ap, ap₂, subst, arith, append-nil}
-use Rattle.std.proofs.lemmas.List.{drop-append-le, get_or-replicate, length-append, length-drop, length-replicate, length-map, map-append, take-append-le, take_all}
+use Rattle.std.proofs.Common.{◌≡◌, ℕ, ◌+◌, ◌*◌, ◌<◌, ◌≤◌, Bool, true, false, cond, List, [], ◌∷◌, ◌++◌, length, All, map, take, drop, replicate, refl, sym, ◌∙◌, ap, ap₂, subst, arith, append-nil}
+use Rattle.std.proofs.lemmas.List.{drop-append-le, get_or-replicate, length-append, length-drop, length-replicate, map-append, take-append-le, take_all}
 use Rattle.std.proofs.lemmas.List.Elements.{All-append, All-cons, All-head, All-nil, All-tail, All-weaker}
 use Rattle.std.proofs.lemmas.Bool.{false≢true}
 use Rattle.std.proofs.Math.Seq.{drop-append_seam}
-use Rattle.sparse_rows.specs.Rows.{AreSparse, IsWithin, placed_to, row_of, rows_of, scattered}
+use Rattle.sparse_rows.specs.Rows.{AreSparse, IsListed, IsWithin, placed_to, row_of, rows_of, scattered}
 use Rattle.sparse_rows.specs.declared.rows.Placed.{Placed}
 use Rattle.sparse_rows.specs.declared.rows.RowPart.{RowPart}
 use Rattle.sparse_rows.specs.declared.rows.SparseRows.{SparseRows}
@@ -62,14 +62,26 @@ module _ (old new : SparseRows) (whole : List ℕ) (few : List Placed) (longer :
     few_fit = λ e. omega (arith, within.few_fit e, few_length);
   }
 
+  listed_still : (part : RowPart) → (IsWithin old.width (length old.whole.items) (length old.few.items) part × IsListed old part) → IsListed new part
+  listed_still part known = record {
+    numbers = λ e. ap (λ l. take part.count (drop part.start l)) longer.few_more ∙ (cut_same old.few.items few part.start part.count (known.0.few_fit e)
+        ∙ (known.1.numbers e ∙ ap₂ placed_to (sym (row_same part known.0)) (sym longer.width)));
+  }
+
+  all_listed : (parts : List RowPart) → All (IsWithin old.width (length old.whole.items) (length old.few.items)) parts → All (IsListed old) parts → All (IsListed new) parts
+  all_listed [] within listed = All-nil (IsListed new)
+  all_listed (p ∷ ps) within listed =
+      let P : RowPart → Type 0 = IsWithin old.width (length old.whole.items) (length old.few.items) in
+      All-cons (IsListed new) p ps (listed_still p (All-head P p ps within, All-head (IsListed old) p ps listed)) (all_listed ps (All-tail P p ps within) (All-tail (IsListed old) p ps listed))
+
   -- a row more
   pub rows_more : (part : RowPart) → AreSparse old → new.parts.items ≡ old.parts.items ++ (part ∷ []) → rows_of new ≡ rows_of old ++ (row_of new part ∷ [])
   rows_more part sparse parts =
       ap (map (row_of new)) parts ∙ (map-append (row_of new) old.parts.items (part ∷ []) ∙ ap (λ l. l ++ (row_of new part ∷ [])) (all_same old.parts.items sparse.parts))
 
   pub sparse_more : (part : RowPart) → AreSparse old → new.parts.items ≡ old.parts.items ++ (part ∷ []) → IsWithin new.width (length new.whole.items) (length new.few.items) part
-      → length whole ≤ old.width → length few ≤ old.width → All (λ (p : Placed). p.place < old.width) few → AreSparse new
-  sparse_more part sparse parts here whole_low few_low places =
+      → IsListed new part → length whole ≤ old.width → length few ≤ old.width → All (λ (p : Placed). p.place < old.width) few → AreSparse new
+  sparse_more part sparse parts here listed whole_low few_low places =
       let count : length new.parts.items ≡ length old.parts.items + 1 = ap length parts ∙ length-append old.parts.items (part ∷ []) in
       let room : new.width * length new.parts.items ≡ old.width * length old.parts.items + old.width = ap₂ ◌*◌ longer.width count ∙ omega arith in
       let P : RowPart → Type 0 = IsWithin new.width (length new.whole.items) (length new.few.items) in
@@ -78,6 +90,8 @@ module _ (old new : SparseRows) (whole : List ℕ) (few : List Placed) (longer :
         narrow = omega (arith, sparse.narrow, longer.width);
         parts = subst (All P) (sym parts) (All-append P old.parts.items (part ∷ [])
             (All-weaker (IsWithin old.width (length old.whole.items) (length old.few.items)) P within_still old.parts.items sparse.parts) (All-cons P part [] here (All-nil P)));
+        listed = subst (All (IsListed new)) (sym parts) (All-append (IsListed new) old.parts.items (part ∷ [])
+            (all_listed old.parts.items sparse.parts sparse.listed) (All-cons (IsListed new) part [] listed (All-nil (IsListed new))));
         places = subst (λ n. All (λ (p : Placed). p.place < n) new.few.items) (sym longer.width)
             (subst (All Q) (sym longer.few_more) (All-append Q old.few.items few sparse.places places));
         whole_few = omega (arith, room, whole_length, sparse.whole_few);
@@ -100,6 +114,7 @@ whole_pushed old new row part sparse count width few whole parts is start =
     record {
       sparse = sparse_more old new row [] longer part sparse parts
           (record { whole_fits = λ e. omega (arith, more, start, width, count); few_fit = λ e. absurd (false≢true (sym e ∙ is)) })
+          (record { numbers = λ e. absurd (false≢true (sym e ∙ is)) })
           (omega (arith, count)) (omega arith) (All-nil (λ (p : Placed). p.place < old.width));
       rows = rows_more old new row [] longer part sparse parts ∙ ap (λ r. rows_of old ++ (r ∷ [])) here;
     }
@@ -118,6 +133,7 @@ few_pushed old new row part sparse count width whole few parts is start many =
     record {
       sparse = sparse_more old new [] placed longer part sparse parts
           (record { whole_fits = λ e. absurd (false≢true (sym is ∙ e)); few_fit = λ e. omega (arith, more, start, many) })
+          (record { numbers = λ e. cut_at old.few.items placed new.few.items part.start part.count start many few ∙ ap₂ placed_to (sym here) (count ∙ sym width) })
           (omega arith) (omega (arith, placed_few row (length row), count)) (placed_within row (length row) old.width (omega (arith, count)));
       rows = rows_more old new [] placed longer part sparse parts ∙ ap (λ r. rows_of old ++ (r ∷ [])) here;
     }

@@ -4,4 +4,4 @@
 mod listing;
 mod rows;
 
-pub use rows::SparseRows;
+pub use rows::{Placed, RowView, SparseRows};

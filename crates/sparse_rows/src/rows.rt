@@ -1,6 +1,6 @@
 //! Rows of numbers, kept as they are or as the few numbers of them that are not 0.
-ghost use Rattle.std.specs.Prelude.{◌≡◌, ◌*◌, ◌<◌, ◌≤◌, ◌^◌, ◌++◌, ◌∷◌, [], All, IfOk, cond, length, replicate, slice_index_or};
-ghost use Rattle.sparse_rows.specs.Rows.{AreSparse, rows_of, scattered};
+ghost use Rattle.std.specs.Prelude.{◌≡◌, ◌*◌, ◌<◌, ◌^◌, ◌++◌, ◌∷◌, [], IfOk, cond, length, replicate, slice_index_or};
+ghost use Rattle.sparse_rows.specs.Rows.{AreSparse, IsViewOf, rows_of};
 
 use crate::listing::list_row;
 use std::alloc::{AllocError, Global};
@@ -30,15 +30,11 @@ pub struct SparseRows {
     pub parts: Vec<RowPart>,
 }
 
-/// Writes numbers to their places.
-#[inline(always)]
-fn scatter(few: &[Placed], row: &mut [u16])
-    requires { All (λ (p : Placed). p.place < length row.old) few.now }
-    ensures { row.new ≡ scattered row.old few.now }
-{
-    for placed in few {
-        row[placed.place as usize] = placed.number;
-    }
+/// A row that is lent, as it is kept: all its numbers, or those that are not 0, with their places.
+#[derive(Clone, Copy)]
+pub enum RowView<'a> {
+    Whole(&'a [u16]),
+    Few(&'a [Placed]),
 }
 
 impl SparseRows {
@@ -132,20 +128,20 @@ impl SparseRows {
         Ok(())
     }
 
-    /// Fills in a row.
-    pub fn fill(&self, row: usize, into: &mut [u16])
+    /// Lends a row, whichever way it is kept.
+    #[inline(always)]
+    pub fn row<'a>(&'a self, row: usize) -> RowView<'a>
         requires sparse { AreSparse self.now }
         requires row { row < length (rows_of self.now) }
-        requires width { length into.old ≡ self.now.width }
-        ensures { into.new ≡ slice_index_or (rows_of self.now) row [] }
+        requires width { length (slice_index_or (rows_of self.now) row []) ≡ self.now.width }
+        ensures { IsViewOf (slice_index_or (rows_of self.now) row []) result }
     {
         let part = self.parts[row];
         let start = part.start as usize;
         if part.is_whole {
-            into.copy_from_slice(&self.whole[start..start + into.len()]);
+            RowView::Whole(&self.whole[start..start + self.width])
         } else {
-            into.fill(0);
-            scatter(&self.few[start..start + part.count as usize], into);
+            RowView::Few(&self.few[start..start + usize::from(part.count)])
         }
     }
 }

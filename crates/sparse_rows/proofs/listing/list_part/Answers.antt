@@ -1,4 +1,4 @@
-use Rattle.std.proofs.Common.{◌≡◌, get_or, Vec, Global, ◌+◌, ◌++◌, ◌∷◌, [], ◌∙◌, sym, ap, arith}
+use Rattle.std.proofs.Common.{get_or, Vec, Global, ◌++◌, ◌∷◌, [], ◌∙◌, sym, ap, arith}
 use Rattle.std.proofs.lemmas.List.{append_assoc}
 use Rattle.sparse_rows.specs.Rows.{placed_to}
 use Rattle.sparse_rows.specs.declared.rows.Placed.{Placed}

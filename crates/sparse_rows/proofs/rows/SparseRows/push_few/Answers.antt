@@ -1,4 +1,4 @@
-use Rattle.std.proofs.Common.{◌≡◌, ◌+◌, ◌-◌, ◌∙◌, ap, length, refl, arith}
+use Rattle.std.proofs.Common.{◌≡◌, ◌+◌, ◌∙◌, ap, length, refl, arith}
 use Rattle.std.proofs.lemmas.List.{length-append}
 use Rattle.sparse_rows.specs.Rows.{placed_to}
 use Rattle.sparse_rows.proofs.Parts.{few_pushed}

@@ -1,4 +1,0 @@
-pub mod Cases
-pub mod Places
-pub mod Ends
-pub mod Kept

@@ -1,0 +1,6 @@
+pub mod Signs
+pub mod Cases
+pub mod Places
+pub mod Ends
+pub mod Kept
+pub mod Lists

@@ -1,0 +1,191 @@
+//! The cases of the cells of a row, from the signs of the points around it.
+ghost use Rattle.std.specs.Prelude.{◌≡◌, ℕ, ◌+◌, ◌-◌, ◌*◌, ◌<◌, ◌≤◌, ◌==◌, ◌||◌, IfOk, cond, length, slice_index};
+ghost use Rattle.std.specs.Int.{bit_at};
+ghost use Rattle.iso_defs.specs.Bricks.{bits_of};
+ghost use Rattle.flat_mesh.specs.Cases.{signs_at};
+ghost use Rattle.flat_mesh.specs.Centres.{IsCellAt};
+ghost use Rattle.flat_mesh.specs.Rows.{IsSignRow, byte_of, row_start};
+ghost use Rattle.mesh_rows.specs.Counts.{AreCounts};
+ghost use Rattle.mesh_rows.specs.Rows.{AreCases, IsCaseOf};
+ghost use Rattle.list_rows.specs.Cases.{AreBytes, ArePut, AreRowCases, HaveRoom};
+ghost use Rattle.list_rows.specs.Signs.{AreRowSigns};
+
+use crate::counts::count_cell;
+use crate::signs::RowSigns;
+use flat_mesh::{Cell, Heights, cell_case, cell_row};
+use iso_base::{Point, Sizes};
+use mesh_rows::Counts;
+use std::alloc::{AllocError, Global};
+use std::simd::prelude::*;
+
+/// A number of a case that has the loops of a cell, from its sign byte.
+#[inline(always)]
+fn case_number<H: Heights>(field: &H, cell: Cell, signs: u8) -> u16
+    requires cell { IsCellAt (H.leveled field.now).grid cell }
+    requires signs { bits_of 8 signs ≡ signs_at (H.leveled field.now) cell.index }
+    ensures { IsCaseOf (H.leveled field.now) cell.index result }
+{
+    if signs == 0 || signs == 255 {
+        return 0;
+    }
+    cell_case(field, cell, signs).number()
+}
+
+/// A bit for each of the 64 bytes from a place on: whether it is neither 0 nor 255.
+#[inline(always)]
+fn mixed_at(bytes: &[u8], from: usize) -> u64
+    requires { from + 64 ≤ length bytes.now }
+    ensures { let byte = λ (k : ℕ). slice_index bytes.now (from + k) in
+        (k : ℕ) → k < 64 → bit_at result k ≡ cond (byte k == 0 || byte k == 255) 0 1 }
+{
+    // One more turns these two into 1 and 0, so that one comparison tells.
+    let next = u8x64::from_slice(&bytes[from..]) + u8x64::splat(1);
+    next.simd_gt(u8x64::splat(1)).to_bitmask()
+}
+
+/// Writes and counts the cases of 64 cells of a row from one on, bit after bit of those that may have loops.
+#[inline(always)]
+fn put_many<H: Heights>(
+    field: &H,
+    low: Point,
+    bytes: &[u8],
+    cases: &mut [u16],
+    counts: Counts,
+) -> Counts
+    requires y { low.y + 1 < (H.leveled field.now).grid.ny }
+    requires z { low.z + 1 < (H.leveled field.now).grid.nz }
+    requires x { low.x < (H.leveled field.now).grid.nx }
+    requires many { low.x + 64 ≤ length bytes.now }
+    requires room { HaveRoom (H.leveled field.now).grid bytes.now }
+    requires bytes { AreBytes (H.leveled field.now) low.y low.z bytes.now }
+    requires count { length cases.old ≡ (H.leveled field.now).grid.nx }
+    requires before { ArePut (H.leveled field.now) low.y low.z low.x cases.old counts }
+    ensures { ArePut (H.leveled field.now) low.y low.z (low.x + 64) cases.new result }
+{
+    let sizes = field.sizes();
+    let start = sizes.nx() * (low.y + sizes.ny() * low.z);
+    let mut counts = counts;
+    let mut mixed = mixed_at(bytes, low.x as usize);
+    while mixed != 0 {
+        let place = mixed.trailing_zeros();
+        let x = low.x + place;
+        let cell = Cell {
+            index: start + x,
+            low: Point { x, ..low },
+        };
+        let case = case_number(field, cell, bytes[x as usize]);
+        cases[x as usize] = case;
+        counts = count_cell(field, cell, case, counts);
+        mixed ^= 1 << place;
+    }
+    counts
+}
+
+/// Writes and counts the cases of the cells of a row over zeros, from their sign bytes.
+fn put_cases<H: Heights>(
+    field: &H,
+    y: u32,
+    z: u32,
+    bytes: &[u8],
+    cases: &mut [u16],
+    counts: Counts,
+) -> Counts
+    requires y { y + 1 < (H.leveled field.now).grid.ny }
+    requires z { z + 1 < (H.leveled field.now).grid.nz }
+    requires room { HaveRoom (H.leveled field.now).grid bytes.now }
+    requires bytes { AreBytes (H.leveled field.now) y z bytes.now }
+    requires count { length cases.old ≡ (H.leveled field.now).grid.nx }
+    requires zeros { ArePut (H.leveled field.now) y z 0 cases.old counts }
+    ensures cases { AreCases (H.leveled field.now) y z cases.new }
+    ensures last { slice_index cases.new ((H.leveled field.now).grid.nx - 1) ≡ 0 }
+    ensures counts { let g = (H.leveled field.now).grid in
+        AreCounts (H.leveled field.now) (row_start g (y + 1) z) result }
+{
+    let nx = field.sizes().nx();
+    let mut counts = counts;
+    for many in 0..(nx + 63) / 64 {
+        let low = Point { x: 64 * many, y, z };
+        counts = put_many(field, low, bytes, cases, counts);
+    }
+    counts
+}
+
+/// Writes the sign bytes of a row of cells at the front of a buffer, from their four rows of signs, and a 0 behind them.
+#[inline(always)]
+fn put_front_bytes(near: &[u8], up: &[u8], far: &[u8], both: &[u8], bytes: &mut [u8])
+    requires some { 0 < length near.now }
+    requires near { IsSignRow (length near.now) near.now }
+    requires up { IsSignRow (length near.now) up.now }
+    requires far { IsSignRow (length near.now) far.now }
+    requires both { IsSignRow (length near.now) both.now }
+    requires room { length near.now ≤ length bytes.old }
+    ensures bytes { (x : ℕ) → x + 1 < length near.now
+        → slice_index bytes.new x ≡ byte_of near.now up.now far.now both.now x }
+    ensures last { slice_index bytes.new (length near.now - 1) ≡ 0 }
+    ensures behind { (x : ℕ) → length near.now ≤ x → slice_index bytes.new x ≡ slice_index bytes.old x }
+{
+    let count = near.len();
+    cell_row(near, up, far, both, &mut bytes[..count]);
+    bytes[count - 1] = 0;
+}
+
+/// Buffers for a row of cells: their sign bytes, and the numbers of their cases.
+#[derive(Drop)]
+pub struct CaseBuffers {
+    pub bytes: Vec<u8>,
+    pub cases: Vec<u16>,
+}
+
+/// Buffers for the rows of a volume.
+pub fn case_buffers(alloc: Global, sizes: &Sizes) -> Result<CaseBuffers, AllocError>
+    ensures room { IfOk result (λ b. HaveRoom sizes.now b.bytes.items) }
+    ensures count { IfOk result (λ b. length b.cases.items ≡ sizes.now.nx) }
+{
+    let nx = sizes.nx() as usize;
+    Ok(CaseBuffers {
+        bytes: vec![in alloc; 0u8; (nx + 63) / 64 * 64]?,
+        cases: vec![in alloc; 0u16; nx]?,
+    })
+}
+
+/// Writes the sign bytes of the cells of a row.
+fn put_bytes<H: Heights>(field: &H, signs: RowSigns, y: u32, z: u32, bytes: &mut [u8])
+    requires y { y + 1 < (H.leveled field.now).grid.ny }
+    requires z { z + 1 < (H.leveled field.now).grid.nz }
+    requires signs { AreRowSigns (H.leveled field.now) y z signs }
+    requires room { HaveRoom (H.leveled field.now).grid bytes.old }
+    ensures bytes { AreBytes (H.leveled field.now) y z bytes.new }
+    ensures room { HaveRoom (H.leveled field.now).grid bytes.new }
+{
+    let _ = (field.sizes(), y, z);
+    put_front_bytes(signs.here, signs.up, signs.far, signs.both, bytes);
+}
+
+/// Writes and counts the cases of the cells that begin in a row of points, and zeros where none begins.
+pub fn put_row<H: Heights>(
+    field: &H,
+    signs: RowSigns,
+    y: u32,
+    z: u32,
+    row: &mut CaseBuffers,
+    counts: Counts,
+) -> Counts
+    requires y { y < (H.leveled field.now).grid.ny }
+    requires z { z < (H.leveled field.now).grid.nz }
+    requires signs { AreRowSigns (H.leveled field.now) y z signs }
+    requires room { HaveRoom (H.leveled field.now).grid row.old.bytes.items }
+    requires count { length row.old.cases.items ≡ (H.leveled field.now).grid.nx }
+    requires counts { AreCounts (H.leveled field.now) (row_start (H.leveled field.now).grid y z) counts }
+    ensures cases { AreRowCases (H.leveled field.now) y z row.new.cases.items }
+    ensures counts { let g = (H.leveled field.now).grid in
+        AreCounts (H.leveled field.now) (row_start g (y + 1) z) result }
+    ensures room { HaveRoom (H.leveled field.now).grid row.new.bytes.items }
+{
+    let sizes = field.sizes();
+    row.cases.fill(0);
+    if y + 1 == sizes.ny() || z + 1 == sizes.nz() {
+        return counts;
+    }
+    put_bytes(field, signs, y, z, &mut row.bytes);
+    put_cases(field, y, z, &row.bytes, &mut row.cases, counts)
+}
