@@ -1,5 +1,2 @@
-pub mod Asked
-pub mod Kept
 pub mod Joining
 pub mod Origins
-pub mod Recent
