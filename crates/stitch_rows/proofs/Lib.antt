@@ -15,3 +15,4 @@ pub mod Corners
 pub mod EightLanes
 pub mod OneSide
 pub mod EdgeEnds
+pub mod BetweenSamples

@@ -1,46 +1,29 @@
--- Runs of bytes that are all on one side of a level.
-use Rattle.std.proofs.Common.{◌≡◌, ◌∙◌, ℕ, ◌+◌, ◌<◌, Bool, true, false, cond, List, map, length, get_or, ltb, ℤ, pos, negsuc, refl, ap, ap₂, arith, inl, inr, w8, Fits}
-use Rattle.std.specs.Int.{FitsUnsignedBits}
-use Rattle.std.proofs.lemmas.Bool.{cases_lt, lt-leb}
-use Rattle.std.proofs.Math.ListN.{get_or-map}
+-- Flags by the signs of samples, where these are known in another way.
+use Rattle.std.proofs.Common.{◌≡◌, ◌∙◌, ℕ, ◌+◌, ◌<◌, cond, List, All, length, ℤ, pos, false, refl, sym, ap, ap₂, arith}
+use Rattle.std.specs.Prelude.{int_le}
+use Rattle.std.proofs.lemmas.Bool.{lt-ltb}
 use Rattle.iso_base.specs.Volume.{sample}
 use Rattle.corner_signs.specs.Rows.{bit_from}
 use Rattle.crossing_edges.specs.Signs.{flag_of}
 use Rattle.stitch_rows.specs.Rows.{bit_right, run_flags}
 
--- all items are bytes
-abbrev pub AreBytes : List ℕ → Type 0
-AreBytes xs = (k : ℕ) → Fits w8 (get_or xs k 0)
+module _ (FitsHere : ℤ → Type 0) (here up far : List ℤ) (more : 8 < length here) (up_long : length up ≡ length here) (far_long : length far ≡ length here)
+    (here_fit : All FitsHere here) (up_fit : All FitsHere up) (far_fit : All FitsHere far) where
+  module _ (least : ℤ) (sign : ℤ → ℕ) (known : (v : ℤ) → FitsHere v → bit_from least v ≡ sign v) where
+    by_signs : (i : ℕ) → i < 8 → run_flags least here up far i ≡ flag_of (sign (sample here i)) (sign (sample here (i + 1))) (sign (sample up i)) (sign (sample far i))
+    unfolding run_flags
+    by_signs i low =
+        let right : bit_right least here i ≡ sign (sample here (i + 1))
+        = ap (λ b. cond b (bit_from least (sample here (i + 1))) (bit_from least (sample here i))) (lt-ltb (i + 1) (length here) (omega arith))
+        ∙ known (sample here (i + 1)) (here_fit (i + 1) (pos 0) (omega arith)) in
+        ap₂ (λ a b. flag_of a b (bit_from least (sample up i)) (bit_from least (sample far i))) (known (sample here i) (here_fit i (pos 0) (omega arith))) right
+        ∙ ap₂ (flag_of (sign (sample here i)) (sign (sample here (i + 1)))) (known (sample up i) (up_fit i (pos 0) (omega arith))) (known (sample far i) (far_fit i (pos 0) (omega arith)))
 
--- the sign of each byte, for a least number that is no byte
-abbrev side : ℤ → ℕ
-side (pos n) = 0
-side (negsuc n) = 1
+  -- two least numbers that tell the same samples apart
+  pub same_flags : (least bound : ℤ) → ((v : ℤ) → FitsHere v → int_le bound v ≡ int_le least v) → (i : ℕ) → i < 8 → run_flags bound here up far i ≡ run_flags least here up far i
+  same_flags least bound same i low =
+      by_signs bound (bit_from least) (λ v fits. ap (λ b. cond b 1 0) (same v fits)) i low ∙ sym (by_signs least (bit_from least) (λ v fits. refl) i low)
 
-bit_is : (least : ℤ) (byte : ℕ) → (FitsUnsignedBits 8 least → ⊥) → byte < 256 → bit_from least (pos byte) ≡ side least
-bit_is (pos n) byte none low = elim (cases_lt n 256) [
-  | inl fits ↦ absurd (none fits)
-  | inr more ↦ ap (λ b. cond b 1 0) (lt-leb n byte (omega arith))
-]
-bit_is (negsuc n) byte none low = refl
-
-module _ (least : ℤ) (none : FitsUnsignedBits 8 least → ⊥) where
-  sign_is : (xs : List ℕ) (k : ℕ) → AreBytes xs → bit_from least (sample (map pos xs) k) ≡ side least
-  sign_is xs k fits = ap (bit_from least) (get_or-map pos xs k 0) ∙ bit_is least (get_or xs k 0) none (fits k).fits
-
-  right_is : (xs : List ℕ) (k : ℕ) → AreBytes xs → bit_right least (map pos xs) k ≡ side least
-  right_is xs k fits = either (ltb (k + 1) (length (map pos xs)))
-    where
-      either : (t : Bool) → cond t (bit_from least (sample (map pos xs) (k + 1))) (bit_from least (sample (map pos xs) k)) ≡ side least
-      either true = sign_is xs (k + 1) fits
-      either false = sign_is xs k fits
-
-  alike : (z : ℤ) → flag_of (side z) (side z) (side z) (side z) ≡ 0
-  alike (pos n) = refl
-  alike (negsuc n) = refl
-
-  pub no_flags : (here up far : List ℕ) → AreBytes here → AreBytes up → AreBytes far → (i : ℕ) → run_flags least (map pos here) (map pos up) (map pos far) i ≡ 0
-  unfolding run_flags
-  no_flags here up far h u f i =
-      ap₂ (λ a b. flag_of a b (bit_from least (sample (map pos up) i)) (bit_from least (sample (map pos far) i))) (sign_is here i h) (right_is here i h)
-      ∙ (ap₂ (flag_of (side least) (side least)) (sign_is up i u) (sign_is far i f) ∙ alike least)
+  -- no sample is so much
+  pub no_flags : (least : ℤ) → ((v : ℤ) → FitsHere v → int_le least v ≡ false) → (i : ℕ) → i < 8 → run_flags least here up far i ≡ 0
+  no_flags least none i low = by_signs least (λ v. 0) (λ v fits. ap (λ b. cond b 1 0) (none v fits)) i low

@@ -4,7 +4,7 @@ ghost use Rattle.iso_base.specs.Volume.{sample};
 ghost use Rattle.crossing_edges.specs.Signs.{flag_of};
 ghost use Rattle.stitch_rows.specs.Rows.{AreZerosFrom, run_flags};
 
-use crate::lanes::flag_bytes;
+use crate::lanes::flag_lanes;
 use samples::{Packed, sign};
 
 /// Numbers that samples are kept as, of which the flags of points are taken eight at a time.
@@ -125,38 +125,35 @@ pub(crate) fn put_zeros(flags: &mut [u8])
 }
 
 impl Flagged for u8 {
-    /// The bytes are compared all at once. With a least number that is no byte all of them are on one side.
     #[inline(always)]
     fn flag_eight(here: &[u8], up: &[u8], far: &[u8], least: i64, out: &mut [u8]) {
-        match u8::try_from(least) {
-            Ok(least) => flag_bytes(here, up, far, least, out),
-            Err(_) => put_zeros(out),
-        }
+        flag_lanes(here, up, far, least, out);
     }
 }
 
 impl Flagged for i16 {
     #[inline(always)]
     fn flag_eight(here: &[i16], up: &[i16], far: &[i16], least: i64, out: &mut [u8]) {
-        flag_front(here, up, far, least, 8, out);
+        flag_lanes(here, up, far, least, out);
     }
 }
 
 impl Flagged for u16 {
     #[inline(always)]
     fn flag_eight(here: &[u16], up: &[u16], far: &[u16], least: i64, out: &mut [u8]) {
-        flag_front(here, up, far, least, 8, out);
+        flag_lanes(here, up, far, least, out);
     }
 }
 
 impl Flagged for i32 {
     #[inline(always)]
     fn flag_eight(here: &[i32], up: &[i32], far: &[i32], least: i64, out: &mut [u8]) {
-        flag_front(here, up, far, least, 8, out);
+        flag_lanes(here, up, far, least, out);
     }
 }
 
 impl Flagged for i64 {
+    /// Few processors compare so wide numbers at once.
     #[inline(always)]
     fn flag_eight(here: &[i64], up: &[i64], far: &[i64], least: i64, out: &mut [u8]) {
         flag_front(here, up, far, least, 8, out);
