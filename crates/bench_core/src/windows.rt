@@ -1,12 +1,7 @@
 //! Windows of a volume as files of a shelf.
 
-ghost use Rattle.std.specs.Prelude.{◌≡◌, IfOk, OnOk, Some};
-ghost use Rattle.byte_streams.specs.Seen.{Puts};
-ghost use Rattle.iso_io.specs.Shelves.{Stores, file_tape};
+ghost use Rattle.std.specs.Prelude.{◌≡◌, OnOk, Some};
 ghost use Rattle.voxel_list.specs.Areas.{IsArea};
-ghost use Rattle.flat_mesh.specs.Lattice.{heights};
-ghost use Rattle.flat_mesh.specs.Mesh.{mesh_of};
-ghost use Rattle.mesh_lines.specs.Lines.{text_of, written_of};
 ghost use Rattle.window_mesh.specs.Crops.{IsWindowOfMesh};
 ghost use Rattle.inner_volume.specs.Places.{IsInside};
 ghost use Rattle.bench_core.specs.Windows.{WritesWindow, inner_corner};
@@ -14,7 +9,7 @@ ghost use Rattle.bench_core.specs.Windows.{WritesWindow, inner_corner};
 use brick_store::BrickStore;
 use inner_volume::layer_of;
 use iso_base::{BenchFault, Level, MeshFormat, Point, Written};
-use iso_io::{Failed, Shelf, ShelfFile, Sink};
+use iso_io::{Failed, FileText, Shelf, Sink, write_file};
 use list_mesh::ListMesh;
 use mesh_lines::{Origin, Style};
 use samples::Samples;
@@ -45,36 +40,30 @@ fn corner_of(store: &BrickStore, area: &FillBox) -> Point
     }
 }
 
-// Apart, so that its caller learns that it is the same shelf afterwards.
-fn fill_file<H: Shelf, S: Samples>(
-    file: &mut ShelfFile<H>,
-    mesh: &mut ListMesh<S>,
+/// The text of a mesh in a style.
+#[derive(Drop)]
+struct MeshText<'a, S: Samples> {
+    mesh: ListMesh<'a, S>,
     style: Style,
-) -> Result<Written, Failed>
-    ensures text { Puts
-        (file_tape file.old.shelf.ghost_name (H.seen file.old.shelf.now) file.old.name.now)
-        (file_tape file.new.shelf.ghost_name (H.seen file.new.shelf.now) file.new.name.now)
-        result (text_of style (mesh_of mesh.old.grid (heights mesh.old))) }
-    ensures written { IfOk result (λ w. w ≡ written_of style (mesh_of mesh.old.grid (heights mesh.old))) }
-    ensures same_reference { file.new.shelf.ghost_name ≡ file.old.shelf.ghost_name }
-{
-    mesh.write(style, file)
 }
 
-/// Makes the name's file the text of a mesh in a style.
-fn write_file<H: Shelf, S: Samples>(
-    shelf: &mut H,
-    name: &str,
-    mesh: &mut ListMesh<S>,
-    style: Style,
-) -> Result<Written, Failed>
-    ensures file { let text = text_of style (mesh_of mesh.old.grid (heights mesh.old)) in
-        Stores (H.seen shelf.old) (H.seen shelf.new) result name.now text }
-    ensures written { IfOk result (λ w. w ≡ written_of style (mesh_of mesh.old.grid (heights mesh.old))) }
-{
-    shelf.start(name)?;
-    let mut file = ShelfFile::new(shelf, name);
-    fill_file(&mut file, mesh, style)
+impl<'a, S: Samples> FileText for MeshText<'a, S> {
+    ghost use Rattle.flat_mesh.specs.Lattice.{heights};
+    ghost use Rattle.flat_mesh.specs.Mesh.{mesh_of};
+    ghost use Rattle.mesh_lines.specs.Lines.{text_of, written_of};
+    ghost use Rattle.std.specs.Prelude.{◌≡◌};
+
+    type Told = Written;
+
+    ghost text = { λ t. text_of t.style (mesh_of t.mesh.grid (heights t.mesh)) };
+
+    ghost tells = { λ t w. w ≡ written_of t.style (mesh_of t.mesh.grid (heights t.mesh)) };
+
+    ghost stays = { λ _. tt };
+
+    fn put<K: Sink>(&mut self, sink: &mut K) -> Result<Written, Failed> {
+        self.mesh.write(self.style, sink)
+    }
 }
 
 /// Makes the name's file the mesh of a box of points off the pad's layer, in its place in the volume without its pad. The text
@@ -93,10 +82,11 @@ pub fn write_window<H: Shelf>(
     ensures part { OnOk result (IsWindowOfMesh store.now level window.now.area) }
 {
     let samples = BoxSamples::new(store, &window.area)?;
-    let mut mesh = ListMesh::of(alloc, samples.sizes(), &samples, level)?;
+    let mesh = ListMesh::of(alloc, samples.sizes(), &samples, level)?;
     let style = Style {
         format: window.format,
         origin: Origin::Window(corner_of(store, &window.area)),
     };
-    Ok(write_file(shelf, window.name, &mut mesh, style)?)
+    let mut text = MeshText { mesh, style };
+    Ok(write_file(shelf, window.name, &mut text)?)
 }

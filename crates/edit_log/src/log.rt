@@ -1,7 +1,7 @@
 //! The last changes, and those that were taken back.
 
 ghost use Rattle.std.specs.Prelude.{◌≡◌, ◌+◌, ◌≤◌, IfOk, [], length, option_copied, slice_get};
-ghost use Rattle.edit_log.specs.Log.{last_change, pushed, stepped_back, stepped_forward};
+ghost use Rattle.edit_log.specs.Log.{last_change, most_changes, pushed, stepped_back, stepped_forward};
 ghost use Rattle.std.specs.Borrow.{sem};
 
 use crate::change::Change;
@@ -24,13 +24,13 @@ pub struct EditLog {
 
 impl Model for EditLog {
     ghost use Rattle.std.specs.Prelude.{◌≡◌, ◌≤◌, length, take, drop};
-    ghost use Rattle.edit_log.specs.Log.{Log};
+    ghost use Rattle.edit_log.specs.Log.{Log, most_changes};
 
     ghost Value = { Log };
 
     ghost view = { λ l. record { done = take l.done l.changes.items; undone = drop l.done l.changes.items } };
 
-    ghost invariant = { λ l. (l.done ≤ length l.changes.items) × (l.changes.capacity ≡ 128) };
+    ghost invariant = { λ l. (l.done ≤ length l.changes.items) × (l.changes.capacity ≡ most_changes) };
 }
 
 impl EditLog {
@@ -47,7 +47,7 @@ impl EditLog {
     /// The number of changes that can be taken back.
     pub fn length(&self) -> u32
         ensures value { result ≡ length self.now.done }
-        ensures most { length self.now.done + length self.now.undone ≤ 128 }
+        ensures most { length self.now.done + length self.now.undone ≤ most_changes }
     {
         // Reading the length brings in that there are no more changes than the log has room for.
         let _ = self.changes.len();

@@ -17,7 +17,7 @@ returns-clause-window g c =
     let mesh : mesh_of m.grid (heights m) ≡ mesh_in v c.args.level a
     = mesh_over v c.args.level a c.in_ok-samples.samples c.sizes.result m c.in_ok-samples.ensures.samples c.sizes.ensures.value c.in_ok-mesh.ensures in
     window_filed v c.args.level a c.args.window.now.format c.corner_of.result (mesh_of m.grid (heights m)) mesh c.corner_of.ensures.corner _ _ _ _
-    (no_fault a _ c.in_ok-samples.ensures.thick) c.in_ok-write_file.ensures.file c.in_ok-write_file.ensures.written
+    (no_fault a _ c.in_ok-samples.ensures.thick) c.in_ok-write_file.ensures.file c.in_ok-write_file.ensures.tells
 
 pub returns-in_err-write_file-clause-window : goal.returns-in_err-write_file-clause-window
 returns-in_err-write_file-clause-window g c =
