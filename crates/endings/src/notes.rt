@@ -146,7 +146,7 @@ fn put_mesh(fault: MeshFault, into: &mut ArrayString<128>)
 }
 
 /// The front of each note.
-fn begun() -> ArrayString<128>
+fn front_of_note() -> ArrayString<128>
     ensures text { result.bytes ≡ codes "isobench: " }
     ensures room { array_string_len result ≡ 10 }
 {
@@ -159,7 +159,7 @@ fn line_of(words: &str) -> ArrayString<128>
     requires { length words.now ≤ 20 }
     ensures { result.bytes ≡ note_line words.now }
 {
-    let mut text = begun();
+    let mut text = front_of_note();
     text.push_str(words);
     text.push('\n');
     text
@@ -168,7 +168,7 @@ fn line_of(words: &str) -> ArrayString<128>
 fn volume_line(fault: VolumeFault) -> ArrayString<128>
     ensures { result.bytes ≡ note_line (volume_fault_text fault) }
 {
-    let mut text = begun();
+    let mut text = front_of_note();
     put_volume(fault, &mut text);
     text.push('\n');
     text
@@ -177,14 +177,14 @@ fn volume_line(fault: VolumeFault) -> ArrayString<128>
 fn mesh_line(fault: MeshFault) -> ArrayString<128>
     ensures { result.bytes ≡ note_line (mesh_fault_text fault) }
 {
-    let mut text = begun();
+    let mut text = front_of_note();
     put_mesh(fault, &mut text);
     text.push('\n');
     text
 }
 
 #[tactic(auto, unfolding(crate::specs::Notes::note_of))]
-fn note(answer: Answer) -> ArrayString<128>
+fn note_of(answer: Answer) -> ArrayString<128>
     ensures { result.bytes ≡ note_of answer }
 {
     match answer {
@@ -206,5 +206,5 @@ pub fn put_note<N: Sink>(notes: &mut N, answer: &Answer)
     ensures { Tries (N.seen notes.old) (N.seen notes.new) (note_of answer.now) }
 {
     // No one is told where the sink fails.
-    let _ = write_all_of(notes, note(*answer).as_str().as_bytes());
+    let _ = write_all_of(notes, note_of(*answer).as_str().as_bytes());
 }

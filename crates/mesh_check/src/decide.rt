@@ -76,7 +76,7 @@ fn surface_verdict(alloc: Global, vertices: u32, triangles: &[[u32; 3]]) -> Resu
             }
         }
     }
-    Ok(summed(split, loose))
+    Ok(verdict_of(split, loose))
 }
 
 fn first_of(split: Option<u32>, v: u32) -> Option<u32>
@@ -88,7 +88,8 @@ fn first_of(split: Option<u32>, v: u32) -> Option<u32>
     }
 }
 
-fn summed(split: Option<u32>, loose: u64) -> Verdict
+/// The verdict, from the first vertex with several fans, if any, and the number of edges that bound one triangle.
+fn verdict_of(split: Option<u32>, loose: u64) -> Verdict
     requires { loose < 2 ^ 32 }
     ensures { result ≡ summed_of split loose }
 {

@@ -29,13 +29,14 @@ pub fn mark_arcs(marks: &mut [Mark], arcs: &[(u32, u32)], stamp: u32) -> Option<
 {
     let mut twice = None;
     for &(begin, end) in arcs.iter().rev() {
-        twice = noted(twice, begin, marks[begin as usize].owner == stamp);
+        twice = least_twice(twice, begin, marks[begin as usize].owner == stamp);
         put_mark(marks, begin, end, stamp);
     }
     twice
 }
 
-fn noted(twice: Option<u32>, b: u32, again: bool) -> Option<u32>
+/// The least vertex at which two arcs begin, with one more arc that begins at b, again or for the first time.
+fn least_twice(twice: Option<u32>, b: u32, again: bool) -> Option<u32>
     ensures { result ≡ noted_of twice b again }
 {
     match twice {

@@ -1,5 +1,6 @@
 //! Lines in the form that nearly every writer gives them, read in one pass over their bytes.
 ghost use Rattle.std.specs.Prelude.{◌≡◌, ◌+◌, ◌<◌, ◌≤◌, ◌∷◌, length, slice_index, IfSome, false};
+ghost use Rattle.byte_names.specs.Bytes.{digit_three, space};
 ghost use Rattle.text_lines.specs.Numbers.{is_digit};
 ghost use Rattle.mesh_read.specs.Corners.{IsInside};
 ghost use Rattle.mesh_read.specs.Plain.{BeginsLine, BeginsNumber, BeginsFace, IsFirstFeed};
@@ -67,7 +68,7 @@ fn number_before(bytes: &[u8], mark: u8) -> Option<(u64, &[u8])>
 /// What follows the number of a triangle's corners and a space.
 #[inline(always)]
 fn behind_three(bytes: &[u8]) -> Option<&[u8]>
-    ensures { IfSome result (λ x. bytes.now ≡ 51 ∷ 32 ∷ x.now) }
+    ensures { IfSome result (λ x. bytes.now ≡ digit_three ∷ space ∷ x.now) }
 {
     match bytes {
         [b'3', b' ', rest @ ..] => Some(rest),

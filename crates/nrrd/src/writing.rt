@@ -93,7 +93,7 @@ pub fn put_nrrd_head<K: Sink>(sink: &mut K, sizes: &Sizes, kind: SampleKind) -> 
 }
 
 /// The encoding of samples in print.
-fn printed(hex: bool) -> Encoding
+fn encoding_of(hex: bool) -> Encoding
     ensures { result ≡ coded_by hex }
 {
     if hex { Encoding::Hex } else { Encoding::Text }
@@ -110,7 +110,7 @@ pub fn put_coded_head<K: Sink>(
 ) -> Result<(), Failed>
     ensures { Puts (K.seen sink.old) (K.seen sink.new) result (coded_head_text sizes.now kind hex) }
 {
-    let text = made_head(printed(hex), sizes, kind);
+    let text = made_head(encoding_of(hex), sizes, kind);
     write_all_of(sink, text.as_bytes())
 }
 
@@ -119,7 +119,7 @@ pub fn coded_head_bytes(sizes: &Sizes, kind: SampleKind, hex: bool) -> u64
     ensures bytes { result ≡ length (coded_head_text sizes.now kind hex) }
     ensures few { result ≤ 128 }
 {
-    made_head(printed(hex), sizes, kind).len() as u64
+    made_head(encoding_of(hex), sizes, kind).len() as u64
 }
 
 #[inline]

@@ -16,7 +16,7 @@ use script::{Command, LineFault, Reply};
 use std::sync::ledger::Ledger;
 
 /// The response to a change.
-fn changed(made: Result<(), BenchFault>) -> Response
+fn response_to_change(made: Result<(), BenchFault>) -> Response
     ensures { result ≡ Response.Line (reply_to_change made) }
 {
     match made {
@@ -26,7 +26,7 @@ fn changed(made: Result<(), BenchFault>) -> Response
 }
 
 /// The response to the writing of a mesh.
-fn meshed(made: Result<Written, BenchFault>) -> Response
+fn response_to_mesh(made: Result<Written, BenchFault>) -> Response
     ensures { result ≡ Response.Line (reply_to_mesh made) }
 {
     match made {
@@ -36,7 +36,7 @@ fn meshed(made: Result<Written, BenchFault>) -> Response
 }
 
 /// The response to the saving of a volume.
-fn saved(made: Result<u64, BenchFault>) -> Response
+fn response_to_save(made: Result<u64, BenchFault>) -> Response
     ensures { result ≡ Response.Line (reply_to_save made) }
 {
     match made {
@@ -55,7 +55,7 @@ fn run_ply<H: Shelf, L: Ledger>(
     ensures { TakesTurn bench.old steps.old (H.seen shelf.old) (Command.Ply name.now) (response_text result)
         bench.new steps.new (H.seen shelf.new) }
 {
-    meshed(bench.write_ply(shelf, name, steps))
+    response_to_mesh(bench.write_ply(shelf, name, steps))
 }
 
 /// Writes the mesh to a file as OBJ.
@@ -68,7 +68,7 @@ fn run_obj<H: Shelf, L: Ledger>(
     ensures { TakesTurn bench.old steps.old (H.seen shelf.old) (Command.Obj name.now) (response_text result)
         bench.new steps.new (H.seen shelf.new) }
 {
-    meshed(bench.write_obj(shelf, name, steps))
+    response_to_mesh(bench.write_obj(shelf, name, steps))
 }
 
 /// Writes the volume to a file, with raw samples.
@@ -78,7 +78,7 @@ fn run_save<H: Shelf>(bench: &Bench, shelf: &mut H, name: &str) -> Response
     ensures { (steps : ℕ) → TakesTurn bench.now steps (H.seen shelf.old) (Command.Save name.now)
         (response_text result) bench.now steps (H.seen shelf.new) }
 {
-    saved(bench.save(shelf, name))
+    response_to_save(bench.save(shelf, name))
 }
 
 /// Writes the volume to a file, with its samples in decimal numbers.
@@ -86,7 +86,7 @@ fn run_savetext<H: Shelf>(bench: &Bench, shelf: &mut H, name: &str) -> Response
     ensures { (steps : ℕ) → TakesTurn bench.now steps (H.seen shelf.old) (Command.SaveText name.now)
         (response_text result) bench.now steps (H.seen shelf.new) }
 {
-    saved(bench.save_text(shelf, name))
+    response_to_save(bench.save_text(shelf, name))
 }
 
 /// Writes the volume to a file, with its samples in hex digits.
@@ -94,7 +94,7 @@ fn run_savehex<H: Shelf>(bench: &Bench, shelf: &mut H, name: &str) -> Response
     ensures { (steps : ℕ) → TakesTurn bench.now steps (H.seen shelf.old) (Command.SaveHex name.now)
         (response_text result) bench.now steps (H.seen shelf.new) }
 {
-    saved(bench.save_hex(shelf, name))
+    response_to_save(bench.save_hex(shelf, name))
 }
 
 /// Writes the mesh of a box of points to a file.
@@ -111,7 +111,7 @@ fn run_window<H: Shelf>(
         (response_text result)
         bench.now steps (H.seen shelf.new) }
 {
-    meshed(bench.window(shelf, name, corners, format))
+    response_to_mesh(bench.window(shelf, name, corners, format))
 }
 
 /// Draws the contour lines of a plane.
@@ -161,11 +161,11 @@ pub fn run_command<H: Shelf, L: Ledger>(
         steps.new (H.seen shelf.new) }
 {
     match command {
-        Command::Set { at, value } => changed(bench.set(at[0], at[1], at[2], *value)),
-        Command::Fill { corners, value } => changed(bench.fill(*corners, *value)),
-        Command::Level { value } => changed(bench.level(*value)),
-        Command::Undo => changed(bench.undo()),
-        Command::Redo => changed(bench.redo()),
+        Command::Set { at, value } => response_to_change(bench.set(at[0], at[1], at[2], *value)),
+        Command::Fill { corners, value } => response_to_change(bench.fill(*corners, *value)),
+        Command::Level { value } => response_to_change(bench.level(*value)),
+        Command::Undo => response_to_change(bench.undo()),
+        Command::Redo => response_to_change(bench.redo()),
         Command::Work { n } => {
             bench.work(*n, steps);
             Response::Line(Reply::Done)

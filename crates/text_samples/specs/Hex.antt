@@ -21,12 +21,12 @@ abbrev pub marks_in : List ℕ → List Mark
 marks_in [] = []
 marks_in (b ∷ bs) = if is_separator b then marks_in bs else record { byte = b; after = bs } ∷ marks_in bs
 
--- the value of a hex digit of either case: 55 and 87 are the letters A and a less 10
+-- the value of a hex digit of either case
 unfoldable pub hex_value : ℕ → Option ℕ
 hex_value b =
     if nat_le digit_zero b && nat_le b digit_nine then Some (b - digit_zero) else
-    if nat_le upper_a b && nat_le b upper_f then Some (b - 55) else
-    if nat_le lower_a b && nat_le b lower_f then Some (b - 87) else None
+    if nat_le upper_a b && nat_le b upper_f then Some (b - upper_a + 10) else
+    if nat_le lower_a b && nat_le b lower_f then Some (b - lower_a + 10) else None
 
 -- the digit at a place, or that the sample of that place has none there; a sample has so many digits
 abbrev pub digit_at : ℕ → ℕ × Mark → Result ℕ SampleFault

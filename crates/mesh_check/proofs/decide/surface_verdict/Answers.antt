@@ -81,8 +81,8 @@ loop-v-preserved c =
           })
     ]
 
-pub summed-requires : goal.summed-requires
-summed-requires c =
+pub verdict_of-requires : goal.verdict_of-requires
+verdict_of-requires c =
     let ts : List Triangle = triangles_of c.args.triangles.now in
     let d : AllByRecursion HasThreeCorners ts = all_of HasThreeCorners c.args.triangles.now c.requires.different in
     let low : AllByRecursion (IsBelow c.args.vertices) ts = all_of (IsBelow c.args.vertices) c.args.triangles.now c.requires.inside in
@@ -100,4 +100,4 @@ returns c =
     let low : AllByRecursion (IsBelow c.args.vertices) ts = all_of (IsBelow c.args.vertices) c.args.triangles.now c.requires.inside in
     let v : c.loop-v.v ≡ c.args.vertices = omega arith in
     let j : IsJudged ts c.args.vertices c.loop-v.split c.loop-v.loose = subst (λ n. IsJudged ts n c.loop-v.split c.loop-v.loose) v c.loop-v.invariant.judged in
-    subst (λ a. IsVerdict ts (said a)) (sym c.summed.ensures) (judged_all ts d c.args.vertices low c.loop-v.split c.loop-v.loose j)
+    subst (λ a. IsVerdict ts (said a)) (sym c.verdict_of.ensures) (judged_all ts d c.args.vertices low c.loop-v.split c.loop-v.loose j)

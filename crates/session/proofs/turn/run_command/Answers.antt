@@ -11,24 +11,24 @@ pub returns-in-Set : goal.returns-in-Set
 returns-in-Set g c =
     let step : IsSureStep {T = Unit {0}} c.args.bench.now.state c.set.new.self.state c.set.result (set_step c.args.bench.now.state (three_from c.in-Set.at 0) c.in-Set.value) = search (rules, c.set.ensures.step) in
     let kept : Keeps c.args.bench.now c.set.new.self c.set.result (set_area c.args.bench.now.state (three_from c.in-Set.at 0)) = search (rules, c.set.ensures.kept) in
-    change_by _ _ _ _ _ (Set c.in-Set.at c.in-Set.value) _ _ c.in-Set.is c.changed.ensures step c.set.ensures.not_shelf refl refl (λ reply same. (same, refl)) kept
+    change_by _ _ _ _ _ (Set c.in-Set.at c.in-Set.value) _ _ c.in-Set.is c.response_to_change.ensures step c.set.ensures.not_shelf refl refl (λ reply same. (same, refl)) kept
 
 pub returns-in-Fill : goal.returns-in-Fill
 returns-in-Fill g c =
     let step : IsStep {T = Unit {0}} c.args.bench.now.state c.fill.new.self.state c.fill.result (fill_step c.args.bench.now.state (three_from c.in-Fill.corners 0) (three_from c.in-Fill.corners 3) c.in-Fill.value) = search (rules, c.fill.ensures.step) in
     let kept : Keeps c.args.bench.now c.fill.new.self c.fill.result (fill_area c.args.bench.now.state (three_from c.in-Fill.corners 0) (three_from c.in-Fill.corners 3)) = search (rules, c.fill.ensures.kept) in
-    fill_by _ _ _ _ _ (Fill c.in-Fill.corners c.in-Fill.value) _ _ c.in-Fill.is c.changed-in-Fill.ensures step c.fill.ensures.not_shelf refl refl refl (λ reply same. (same, refl)) kept
+    fill_by _ _ _ _ _ (Fill c.in-Fill.corners c.in-Fill.value) _ _ c.in-Fill.is c.response_to_change-in-Fill.ensures step c.fill.ensures.not_shelf refl refl refl (λ reply same. (same, refl)) kept
 
 pub returns-in-Level : goal.returns-in-Level
 returns-in-Level g c =
     let step : IsSureStep {T = Unit {0}} c.args.bench.now.state c.level.new.self.state c.level.result (level_step c.args.bench.now.state c.in-Level.value) = search (rules, c.level.ensures.step) in
-    change_by _ _ _ _ _ (Level c.in-Level.value) _ _ c.in-Level.is c.changed-in-Level.ensures step c.level.ensures.not_shelf refl refl (λ reply same. (same, refl)) (stays_keeps c.args.bench.now c.level.new.self c.level.result c.level.ensures.kept)
+    change_by _ _ _ _ _ (Level c.in-Level.value) _ _ c.in-Level.is c.response_to_change-in-Level.ensures step c.level.ensures.not_shelf refl refl (λ reply same. (same, refl)) (stays_keeps c.args.bench.now c.level.new.self c.level.result c.level.ensures.kept)
 
 pub returns-in-Undo : goal.returns-in-Undo
-returns-in-Undo g c = change_by _ _ _ _ _ Undo _ _ c.in-Undo.is c.changed-in-Undo.ensures c.undo.ensures.step c.undo.ensures.not_shelf refl refl (λ reply same. (same, refl)) c.undo.ensures.kept
+returns-in-Undo g c = change_by _ _ _ _ _ Undo _ _ c.in-Undo.is c.response_to_change-in-Undo.ensures c.undo.ensures.step c.undo.ensures.not_shelf refl refl (λ reply same. (same, refl)) c.undo.ensures.kept
 
 pub returns-in-Redo : goal.returns-in-Redo
-returns-in-Redo g c = change_by _ _ _ _ _ Redo _ _ c.in-Redo.is c.changed-in-Redo.ensures c.redo.ensures.step c.redo.ensures.not_shelf refl refl (λ reply same. (same, refl)) c.redo.ensures.kept
+returns-in-Redo g c = change_by _ _ _ _ _ Redo _ _ c.in-Redo.is c.response_to_change-in-Redo.ensures c.redo.ensures.step c.redo.ensures.not_shelf refl refl (λ reply same. (same, refl)) c.redo.ensures.kept
 
 pub returns-in-Work : goal.returns-in-Work
 returns-in-Work g c = work_by _ _ _ _ _ _ c.in-Work.n c.in-Work.is c.work.ensures
