@@ -1,10 +1,10 @@
 -- Rows of samples in a pad: the pad, a row and the pad, or all pad.
-use Rattle.std.proofs.Common.{◌≡◌, ℕ, ◌+◌, ◌-◌, ◌*◌, ◌<◌, ◌≤◌, ◌⊎◌, inl, inr, min, eq-zero-or-pos, ℤ, pos, List, length, take, drop, get_or, map, set, ltb, refl, sym, ap, ◌∙◌, subst, arith, true}
+use Rattle.std.proofs.Common.{◌≡◌, ℕ, ◌+◌, ◌-◌, ◌*◌, ◌<◌, ◌≤◌, ◌%◌, ◌/◌, ◌⊎◌, inl, inr, min, eq-zero-or-pos, ℤ, pos, List, length, take, drop, get_or, map, set, ltb, refl, sym, ap, ◌∙◌, subst, arith, true}
 use Rattle.std.proofs.lemmas.Bool.{ltb-true, ltb-false}
 use Rattle.std.proofs.lemmas.Grind.{get_or-set_at}
 use Rattle.std.proofs.lemmas.List.{ext_get_or, get_or-drop, get_or-map, get_or-set_other, get_or-take, length-drop, length-map, length-set, length-take-le}
 use Rattle.std.proofs.lemmas.List.FromFn.{get_or-map-range_with_len, length-map-range_with_len}
-use Rattle.std.proofs.Math.Nat.{mul-le-mul_left}
+use Rattle.std.proofs.Math.Nat.{le_of_mul-le-mul_left, mul-le-mul_left}
 use Rattle.iso_defs.specs.Grid.{Grid, index, point_count}
 use Rattle.iso_defs.specs.Outside.{is_outer}
 use Rattle.iso_base.specs.Volume.{sample}
@@ -215,3 +215,16 @@ signs_are f p start n signs room len each =
     ext_get_or 0 signs (map f run) (len ∙ sym (length-map run f ∙ size))
     (λ i low. (let within : i < n = omega (arith, low, len) in
     each i within ∙ sym (get_or-map f run i (pos 0) 0 (omega (arith, size, within)) ∙ ap f (run_at p start n i within room))))
+
+-- whole rows of a grid: so many come before a place, so many from it on, and no more than the grid has
+pub record AreRows (w m start n : ℕ) : Type 0 where
+  pub first : w * (start / w) ≡ start
+  pub count : w * (n / w) ≡ n
+  pub within : start / w + n / w ≤ m
+
+pub whole_rows : (w m start n : ℕ) → 0 < w → start + n ≤ w * m → start % w ≡ 0 → n % w ≡ 0 → AreRows w m start n
+whole_rows w m start n some room before whole =
+    let first : w * (start / w) ≡ start = omega (arith, before, some) in
+    let count : w * (n / w) ≡ n = omega (arith, whole, some) in
+    let sum : w * (start / w + n / w) ≡ w * (start / w) + w * (n / w) = omega arith in
+    record { first = first; count = count; within = le_of_mul-le-mul_left (omega (arith, sum, first, count, room)) some }

@@ -216,22 +216,18 @@ impl<'a, S: Samples> Padded<'a, S> {
         into[from + 1 + count] = sign;
     }
 
-    /// Writes the signs of the first rows of the grid with the layer, so many.
-    fn put_rows(&self, rows: u32, level: Level, into: &mut [u8])
-        requires rows { rows ≤ (self.now.grid.ny + 2) * (self.now.grid.nz + 2) }
+    /// Writes the signs of so many rows of the grid with the layer, from one on.
+    fn put_rows(&self, first: u32, rows: u32, level: Level, into: &mut [u8])
+        requires rows { first + rows ≤ (self.now.grid.ny + 2) * (self.now.grid.nz + 2) }
         requires room { length into.old ≡ (self.now.grid.nx + 2) * rows }
-        ensures { (i : ℕ) → i < length into.old → slice_index into.new i ≡ sign_of level (padded_at self.now i) }
+        ensures { (i : ℕ) → i < length into.old → slice_index into.new i
+            ≡ sign_of level (padded_at self.now ((self.now.grid.nx + 2) * first + i)) }
     {
         let width = self.sizes.nx() as usize + 2;
         let height = self.sizes.ny() + 2;
-        for row in 0..rows {
-            self.put_row(
-                row % height,
-                row / height,
-                level,
-                width * row as usize,
-                into,
-            );
+        for k in 0..rows {
+            let row = first + k;
+            self.put_row(row % height, row / height, level, width * k as usize, into);
         }
     }
 
@@ -283,11 +279,12 @@ impl<'a, S: Samples> Samples for Padded<'a, S> {
         }
     }
 
-    // The signs of all samples are written row by row.
+    // Signs are asked for slice by slice, so in whole rows.
     fn put_signs(&self, start: u32, level: Level, into: &mut [u8]) {
-        let rows = self.stored.ny() * self.stored.nz();
-        if start == 0 && into.len() == self.stored.nx() as usize * rows as usize {
-            self.put_rows(rows, level, into);
+        let width = self.stored.nx();
+        let rows = (into.len() / width as usize) as u32;
+        if start % width == 0 && into.len() % width as usize == 0 {
+            self.put_rows(start / width, rows, level, into);
         } else {
             self.put_each(start, level, into);
         }
