@@ -4,6 +4,7 @@ use Rattle.iso_defs.specs.Grid.{Grid, point_count}
 use Rattle.iso_base.specs.Sizing.{IsGrid}
 use Rattle.iso_base.specs.Samples.{IsSample}
 use Rattle.iso_base.specs.Shifted.{field}
+use Rattle.crossing_edges.specs.Flags.{flags_from}
 
 -- a grid with samples and a level
 pub record Leveled : Type 0 where
@@ -20,3 +21,8 @@ pub record IsLeveled (v : Leveled) : Type 0 where
   pub grid : IsGrid v.grid
   pub count : length v.samples ≡ point_count v.grid
   pub range : All IsSample v.samples
+
+-- and the flags of all its points
+pub record AreFlagged (v : Leveled) (flags : List ℕ) : Type 0 where
+  pub leveled : IsLeveled v
+  pub flags_are : flags ≡ flags_from v.grid (heights v) 0 (point_count v.grid)

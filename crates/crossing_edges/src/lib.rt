@@ -6,9 +6,9 @@ mod counts;
 mod edges;
 mod flags;
 mod lanes;
-mod leveled;
-mod row_vertices;
+mod rows;
 
 pub use counts::{begin_none, count_all_edges, count_edges};
-pub use edges::{EdgeVertices, crossing_points, edge_vertices, position_on};
+pub use edges::{EdgeVertices, edge_vertices, position_on};
 pub use flags::{PointBits, flag_row, point_bits, point_flags, put_flags};
+pub use rows::{EdgeRows, RowEdges};

@@ -7,6 +7,6 @@ mod loop_centre;
 mod row_ranks;
 
 pub use cell_edges::{x_in_cell, y_in_cell, z_in_cell};
-pub use crossings::{place, place_or_any};
+pub use crossings::place;
 pub use loop_centre::{centre, rounded_mean};
 pub use row_ranks::RowRanks;

@@ -3,6 +3,6 @@
 //! print are read into bytes of their own first, in the width of their kind.
 #![tactic(auto)]
 
-mod edges;
+mod points;
 
-pub use edges::{FileEdges, edges_of_file};
+pub use points::put_points_of_file;

@@ -1,5 +1,5 @@
 -- What is known of the points and the cells of a row of a volume.
-use Rattle.std.specs.Prelude.{◌≡◌, ℕ, ◌+◌, ◌-◌, ◌*◌, ◌<◌, ◌≤◌, List, map, slice_index}
+use Rattle.std.specs.Prelude.{◌≡◌, ℕ, ◌+◌, ◌-◌, ◌*◌, ◌<◌, List, map, slice_index}
 use Rattle.iso_defs.specs.Grid.{index}
 use Rattle.cell_loops.specs.Loops.{row_loops}
 use Rattle.crossing_edges.specs.Flags.{flags_at, names_in, places_in}

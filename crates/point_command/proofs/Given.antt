@@ -1,5 +1,5 @@
 -- What the program of points alone does, by what its words ask for: the causes of its statuses, and that nothing else stands in the way.
-use Rattle.std.proofs.Common.{◌≡◌, List, ℕ, Some, None, MatchOption, refl, sym, ap, ◌∙◌, subst}
+use Rattle.std.proofs.Common.{◌≡◌, Some, None, MatchOption, refl, sym, ap, ◌∙◌, subst}
 use Rattle.std.specs.Prelude.{Option}
 use Rattle.byte_streams.specs.Causes.{Rose}
 use Rattle.endings.specs.Status.{status_of}

@@ -1,3 +1,2 @@
-pub mod Texts
-pub mod FileEdges
+pub mod FilePoints
 pub mod Given

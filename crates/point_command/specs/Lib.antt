@@ -1,4 +1,4 @@
-pub mod Edges
+pub mod Points
 pub mod Meaning
 pub mod Help
 pub mod Words

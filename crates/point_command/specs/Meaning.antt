@@ -1,5 +1,5 @@
 -- Which text `points` gives for the bytes of its input.
-use Rattle.std.specs.Prelude.{ℕ, List, None, Result, Ok, Err, ℤ}
+use Rattle.std.specs.Prelude.{ℕ, List, None, Result, ℤ}
 use Rattle.iso_defs.specs.Texts.{points_text}
 use Rattle.iso_base.specs.Shifted.{field}
 use Rattle.iso_base.specs.Volume.{Volume}

@@ -1,62 +1,53 @@
 //! The points at which a surface crosses the lattice edges of a volume.
 
-ghost use Rattle.std.specs.Prelude.{◌≡◌, ◌++◌, ℤ, None, IfOk, IfErr, length};
-ghost use Rattle.iso_base.specs.Volume.{Voxels};
-ghost use Rattle.byte_streams.specs.Seen.{Puts, ReadsWithin};
-ghost use Rattle.mesh_text.specs.Lines.{points_head};
-ghost use Rattle.point_write.specs.Edges.{placed_lines};
-ghost use Rattle.file_points.specs.Edges.{AreEdgesOf, AreEdgesOfFile};
+ghost use Rattle.std.specs.Prelude.{◌≡◌, None, IfOk, IfErr};
+ghost use Rattle.byte_streams.specs.Seen.{ReadsWithin};
+ghost use Rattle.file_points.specs.Points.{PutsPointsOf};
 ghost use Rattle.point_command.specs.Meaning.{points_given};
+ghost use Rattle.point_command.specs.Points.{HoldsPoints};
 ghost use Rattle.command_terms.specs.Outcome.{Converts, streams_between};
-ghost use Rattle.point_command.specs.Edges.{HoldsEdges};
 ghost use Rattle.command_terms.specs.Volumes.{HoldsNone, IsNoVolume, volume_limit};
 
 use byte_streams::{Failed, Sink, Source};
 use command_terms::{NoVolume, bytes_of_input};
 use endings::Answer;
-use file_points::{FileEdges, edges_of_file};
+use file_points::put_points_of_file;
 use iso_base::Level;
-use point_write::put_points;
 use std::alloc::Global;
 
-/// The crossing edges of the volume of the bytes of a file, which are let go.
-fn edges_in(alloc: Global, bytes: Vec<u8>, level: Level) -> Result<FileEdges, NoVolume>
-    ensures edges { IfOk result
-        (λ e. AreEdgesOfFile bytes.items level e.sizes e.edges.names.items e.edges.places.items) }
-    ensures fault { IfErr result (IsNoVolume None level bytes.items) }
+/// Appends the points of the volume of the bytes of a file.
+fn put_text<K: Sink>(
+    alloc: Global,
+    bytes: &[u8],
+    level: Level,
+    output: &mut K,
+) -> Result<Result<(), Failed>, NoVolume>
+    ensures text { IfOk result (PutsPointsOf bytes.now level (K.seen output.old) (K.seen output.new)) }
+    ensures fault { IfErr result (IsNoVolume None level bytes.now) }
+    ensures nothing { IfErr result (λ _. K.seen output.new ≡ K.seen output.old) }
 {
-    Ok(edges_of_file(alloc, &bytes, level)?)
+    Ok(put_points_of_file(alloc, bytes, level, output)?)
 }
 
-/// The crossing edges of the volume of the whole input.
-fn edges_of_input<S: Source>(
+/// Appends the points of the volume of the whole input.
+fn put_points_of_input<S: Source, K: Sink>(
     alloc: Global,
-    input: &mut S,
     level: Level,
-) -> Result<FileEdges, Answer>
-    ensures known { IfOk result
-        (λ e. (v : Voxels) × AreEdgesOf v level e.sizes e.edges.names.items e.edges.places.items) }
-    ensures edges { IfOk result
-        (λ e. HoldsEdges level (S.seen input.old) (S.seen input.new) e.sizes e.edges.names.items e.edges.places.items) }
+    input: &mut S,
+    output: &mut K,
+) -> Result<Result<(), Failed>, Answer>
+    ensures text { IfOk result
+        (HoldsPoints level (S.seen input.old) (S.seen input.new) (K.seen output.old) (K.seen output.new)) }
     ensures reading { ReadsWithin volume_limit (S.seen input.old) (S.seen input.new) }
     ensures fault { IfErr result (λ answer. HoldsNone None level (S.seen input.old) (S.seen input.new) answer) }
+    ensures nothing { IfErr result (λ _. K.seen output.new ≡ K.seen output.old) }
 {
     let bytes = bytes_of_input(alloc, input)?;
-    Ok(edges_in(alloc, bytes, level)?)
+    Ok(put_text(alloc, &bytes, level, output)?)
 }
 
-/// Appends the text of the points of a volume.
-fn put_text<K: Sink>(sink: &mut K, points: &FileEdges) -> Result<(), Failed>
-    requires known { (level : ℤ) × (v : Voxels)
-        × AreEdgesOf v level points.now.sizes points.now.edges.names.items points.now.edges.places.items }
-    ensures { Puts (K.seen sink.old) (K.seen sink.new) result (points_head (length points.now.edges.names.items)
-        ++ placed_lines points.now.sizes points.now.edges.names.items points.now.edges.places.items) }
-{
-    put_points(sink, &points.sizes, &points.edges)
-}
-
-/// Writes the points at which the surface of a volume crosses lattice edges. The samples are not copied out of the bytes
-/// of the file, which are let go before the points are written.
+/// Writes the points at which the surface of a volume crosses lattice edges. The samples are not copied out of the bytes of the
+/// file. Nothing is written before all but the output can no longer fail.
 pub fn points<S: Source, K: Sink>(
     alloc: Global,
     level: Level,
@@ -67,12 +58,9 @@ pub fn points<S: Source, K: Sink>(
         (streams_between S.seen K.seen input.old input.new output.old output.new) result }
     ensures reading { ReadsWithin volume_limit (S.seen input.old) (S.seen input.new) }
 {
-    let edges = match edges_of_input(alloc, input, level) {
-        Ok(edges) => edges,
-        Err(answer) => return answer,
-    };
-    match put_text(output, &edges) {
-        Ok(()) => Answer::Done,
-        Err(Failed) => Answer::OutputFault,
+    match put_points_of_input(alloc, level, input, output) {
+        Ok(Ok(())) => Answer::Done,
+        Ok(Err(Failed)) => Answer::OutputFault,
+        Err(answer) => answer,
     }
 }

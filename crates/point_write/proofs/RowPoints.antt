@@ -1,17 +1,17 @@
 -- The vertices on the edges of a row.
-use Rattle.std.proofs.Common.{◌≡◌, ℕ, ◌+◌, ◌*◌, ◌/◌, ◌%◌, ◌<◌, refl, sym, ◌∙◌, ap, arith, if◌then◌else◌, eqb}
+use Rattle.std.proofs.Common.{◌≡◌, ℕ, suc, ◌+◌, ◌*◌, ◌/◌, ◌%◌, ◌<◌, ℤ, List, [], ◌∷◌, ◌++◌, map, length, get_or, refl, sym, ◌∙◌, ap, ap₂, arith, if◌then◌else◌, eqb, false}
+use Rattle.std.specs.List.{flat_map}
 use Rattle.iso_defs.specs.Grid.{Grid, coordinate, edge_axis, edge_lower, index}
-use Rattle.iso_defs.specs.Place.{Position}
+use Rattle.iso_defs.specs.Place.{Position, edge_position}
+use Rattle.iso_defs.specs.Texts.{line, position_text}
 use Rattle.iso_defs.proofs.Points.{x_index, y_index, z_index}
-use Rattle.crossing_edges.specs.Flags.{placed}
+use Rattle.crossing_edges.specs.Flags.{edge_place, names_in, placed, places_in}
 use Rattle.mesh_lines.specs.Lines.{vertex_line}
 use Rattle.mesh_lines.specs.RowLines.{RowPlace, edge_at}
 use Rattle.mesh_lines.specs.declared.style.Origin.TheVariants.{Volume}
 use Rattle.mesh_lines.specs.declared.style.Style.{Style}
 use Rattle.iso_base.specs.declared.format.MeshFormat.TheVariants.{Ply}
-use Rattle.point_write.specs.Edges.{placed_line}
-use Rattle.point_write.specs.Rows.{IsEdgeRow}
-use Rattle.point_write.specs.declared.row.EdgeRow.{EdgeRow}
+use Rattle.point_write.specs.Edges.{lines_in, row_line, row_lines}
 
 three : (a b c d e f : ℕ) → a ≡ d → b ≡ e → c ≡ f → ◌≡◌ {A = Position} (a, b, c) (d, e, f)
 three a b c d e f p q r = rw (p, q, r) refl
@@ -31,16 +31,26 @@ position_is g row e d hy hz he =
     three _ _ _ _ _ _ (same 0 (e / 3) (x_index g (e / 3) row.y row.z x hy hz)) (same 1 row.y (y_index g (e / 3) row.y row.z x hy hz)) (same 2 row.z (z_index g (e / 3) row.y row.z x hy hz))
 
 -- and its line
-pub edge_line_is : (g : Grid) (row : RowPlace) (e d : ℕ) → row.style ≡ record { format = Ply; origin = Volume } → row.y < g.ny → row.z < g.nz → e < 3 * g.nx
-    → vertex_line row.style (0, edge_at row e d) ≡ placed_line g (3 * index g 0 row.y row.z + e) d
-unfolding vertex_line placed_line
-edge_line_is g row e d style hy hz he =
-    ap (λ (s : Style). vertex_line s (0, edge_at row e d)) style
-    ∙ ap (λ (p : Position). vertex_line (record { format = Ply; origin = Volume }) (0, p)) (position_is g row e d hy hz he)
+line_is : (g : Grid) (s : ℕ → ℤ) (row : RowPlace) (e n : ℕ) → row.style ≡ record { format = Ply; origin = Volume } → row.y < g.ny → row.z < g.nz → e < 3 * g.nx → 3 * index g 0 row.y row.z + e ≡ n
+    → row_line row e (edge_place g s n) ≡ line (position_text false (edge_position g s n))
+unfolding vertex_line
+line_is g s row e n style hy hz he at =
+    ap (λ (to : Style). vertex_line to (0, edge_at row e (edge_place g s n))) style
+    ∙ (ap (λ (p : Position). vertex_line (record { format = Ply; origin = Volume }) (0, p)) (position_is g row e (edge_place g s n) hy hz he)
+    ∙ ap (λ m. line (position_text false (placed g m (edge_place g s n) 0, placed g m (edge_place g s n) 1, placed g m (edge_place g s n) 2))) at)
 
--- the same by its name
-pub line_of_edge : (g : Grid) (row : EdgeRow) (name d e : ℕ) → IsEdgeRow g row → row.first + e ≡ name → e < 3 * g.nx
-    → vertex_line row.texts.style (0, edge_at row.texts e d) ≡ placed_line g name d
-line_of_edge g row name d e is at he =
-    let n : 3 * index g 0 row.texts.y row.texts.z + e ≡ name = omega (arith, is.first, at) in
-    edge_line_is g row.texts e d is.style is.y is.z he ∙ ap (λ k. placed_line g k d) n
+-- the lines of all its crossing edges
+module _ (g : Grid) (s : ℕ → ℤ) (row : RowPlace) (start : ℕ) (style : row.style ≡ record { format = Ply; origin = Volume }) (hy : row.y < g.ny) (hz : row.z < g.nz) (at : index g 0 row.y row.z ≡ start) where
+  lines_of : (edges : List ℕ) → ((i : ℕ) → i < length edges → get_or edges i 0 < 3 * g.nx)
+      → row_lines row edges (map (edge_place g s) (map (λ e. 3 * start + e) edges)) ≡ flat_map (λ n. line (position_text false (edge_position g s n))) (map (λ e. 3 * start + e) edges)
+  lines_of [] low = refl
+  lines_of (e ∷ edges) low =
+      ap₂ (λ a b. a ++ b) (line_is g s row e (3 * start + e) style hy hz (low 0 (omega arith)) (omega (arith, at)))
+      (lines_of edges (λ i h. low (suc i) (omega (arith, h))))
+
+  pub lines_are : (edges places : List ℕ) → map (λ e. 3 * start + e) edges ≡ names_in g s (3 * start) (3 * g.nx) → places ≡ places_in g s (3 * start) (3 * g.nx)
+      → ((i : ℕ) → i < length edges → get_or edges i 0 < 3 * g.nx) → row_lines row edges places ≡ lines_in g s (3 * start) (3 * g.nx)
+  unfolding lines_in places_in
+  lines_are edges places named put low =
+      ap (row_lines row edges) (put ∙ ap (map (edge_place g s)) (sym named))
+      ∙ (lines_of edges low ∙ ap (flat_map (λ n. line (position_text false (edge_position g s n)))) named)

@@ -4,7 +4,7 @@ use Rattle.byte_streams.specs.Seen.{Tape, Stages}
 use Rattle.byte_streams.proofs.Known.{Appends-nil}
 use Rattle.byte_streams.proofs.Staging.{stages_both}
 
-line_kept : {T E : Type 0} (t : Tape) (x : T) (w line after : List ℕ) → after ≡ w ++ line → Stages {E = E} t t w after (Ok x) line
+pub line_kept : {T E : Type 0} (t : Tape) (x : T) (w line after : List ℕ) → after ≡ w ++ line → Stages {E = E} t t w after (Ok x) line
 line_kept t x w line after e = record { gained = ([], sym e, Appends-nil t.taken); beside = refl; cause = record { later = omega arith; failed = tt } }
 
 -- room was made, and then a line was put behind what waits

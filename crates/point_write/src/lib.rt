@@ -2,6 +2,5 @@
 #![tactic(auto)]
 
 mod points;
-mod row;
 
 pub use points::put_points;

@@ -1,44 +1,44 @@
 //! Tests of `file_points`.
 
-use file_points::{FileEdges, edges_of_file};
+use byte_streams::MemSink;
+use file_points::put_points_of_file;
 use iso_base::Level;
 use std::alloc::Global;
 use std::process::Abort;
 use std::test::Fail;
 
-/// A file of eight samples crosses the level on the three edges of its first point, at these places.
-fn check_edges(rt: &impl Abort, found: &FileEdges, places: &[u16]) {
-    assert!(rt; found.sizes.count() == 8);
-    assert!(rt; found.edges.names.as_slice() == [0, 1, 2].as_slice());
-    assert!(rt; found.edges.places.as_slice() == places);
+/// The points of a file of eight samples that crosses level 2.5 on the three edges of its first point.
+fn check_points(rt: &impl Abort, alloc: Global, text: &[u8], points: &str) -> Result<(), Fail> {
+    let level = Level::new(2_500).ok_or("2.5 is a level")?;
+    let mut sink = MemSink::new(alloc, 200, Vec::new(alloc))?;
+    put_points_of_file(alloc, text, level, &mut sink)??;
+    assert!(rt; sink.bytes() == points.as_bytes());
+    Ok(())
 }
 
-/// The edges of a file that cross level 2.5.
-fn edges(alloc: Global, text: &[u8]) -> Result<FileEdges, Fail> {
-    let level = Level::new(2_500).ok_or("2.5 is a level")?;
-    Ok(edges_of_file(alloc, text, level)?)
-}
+const THREE_QUARTERS: &str =
+    "ply\nformat ascii 1.0\nelement vertex 3\nproperty float x\nproperty float y\nproperty float z\nend_header\n0.750 0.000 0.000\n0.000 0.750 0.000\n0.000 0.000 0.750\n";
+
+const THREE_EIGHTHS: &str =
+    "ply\nformat ascii 1.0\nelement vertex 3\nproperty float x\nproperty float y\nproperty float z\nend_header\n0.375 0.000 0.000\n0.000 0.375 0.000\n0.000 0.000 0.375\n";
 
 #[test]
-fn edges_of_a_corner(rt: HostRuntime) -> Result<(), Fail> {
+fn points_of_a_corner(rt: HostRuntime) -> Result<(), Fail> {
     let text =
         b"NRRD0004\ntype: uint8\ndimension: 3\nsizes: 2 2 2\nencoding: raw\n\n\x0a\x00\x00\x00\x00\x00\x00\x00";
-    check_edges(&rt, &edges(rt.alloc(), text)?, &[750, 750, 750]);
-    Ok(())
+    check_points(&rt, rt.alloc(), text, THREE_QUARTERS)
 }
 
 #[test]
-fn edges_of_signed_samples(rt: HostRuntime) -> Result<(), Fail> {
+fn points_of_signed_samples(rt: HostRuntime) -> Result<(), Fail> {
     let text =
         b"NRRD0004\ntype: int8\ndimension: 3\nsizes: 2 2 2\nencoding: raw\n\n\x0a\xf6\xf6\xf6\xf6\xf6\xf6\xf6";
-    check_edges(&rt, &edges(rt.alloc(), text)?, &[375, 375, 375]);
-    Ok(())
+    check_points(&rt, rt.alloc(), text, THREE_EIGHTHS)
 }
 
 #[test]
-fn edges_of_numbers_in_print(rt: HostRuntime) -> Result<(), Fail> {
+fn points_of_numbers_in_print(rt: HostRuntime) -> Result<(), Fail> {
     let text =
         b"NRRD0004\ntype: int8\ndimension: 3\nsizes: 2 2 2\nencoding: text\n\n10 -10 -10 -10 -10 -10 -10 -10\n";
-    check_edges(&rt, &edges(rt.alloc(), text)?, &[375, 375, 375]);
-    Ok(())
+    check_points(&rt, rt.alloc(), text, THREE_EIGHTHS)
 }

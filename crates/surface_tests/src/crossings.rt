@@ -2,7 +2,7 @@
 
 use crate::grids::three_a_side;
 use crate::volumes::one_above;
-use crossing_edges::{EdgeVertices, crossing_points, flag_row, position_on};
+use crossing_edges::{EdgeVertices, edge_vertices, flag_row, point_flags, position_on};
 use iso_base::{Level, Memory};
 use samples::put_signs;
 use std::alloc::Global;
@@ -13,7 +13,9 @@ use voxel_list::VoxelList;
 fn points_of(alloc: Global, volume: &VoxelList, level: Level) -> Result<EdgeVertices, Memory> {
     // Reading the samples brings in that they are in the range of samples.
     let _ = volume.samples();
-    crossing_points(alloc, &volume.sizes(), volume, level)
+    let sizes = volume.sizes();
+    let flags = point_flags(alloc, &sizes, volume, level)?;
+    edge_vertices(alloc, &sizes, volume, level, &flags)
 }
 
 /// The edges at level 9 round the middle of three points a side.

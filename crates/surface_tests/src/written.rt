@@ -1,13 +1,9 @@
 //! Tests of `list_mesh` and `point_write`.
 
-ghost use Rattle.std.specs.Prelude.{◌≡◌};
-ghost use Rattle.iso_defs.specs.Grid.{Grid};
-
 use crate::extraction::corner_volume;
-use crate::grids::two_a_side;
 use byte_streams::MemSink;
-use crossing_edges::EdgeVertices;
-use iso_base::{Level, MeshFormat, Sizes, Written};
+use crossing_edges::{EdgeRows, point_flags};
+use iso_base::{Level, MeshFormat, Written};
 use list_mesh::ListMesh;
 use mesh_lines::{Origin, Style};
 use point_write::put_points;
@@ -65,15 +61,15 @@ fn a_wavefront_mesh(rt: HostRuntime) -> Result<(), Fail> {
     check_corner(&rt, rt.alloc(), style, (OBJ, 68))
 }
 
-/// Appends the points of three edges of a grid of two points a side.
-fn put_three(alloc: Global, sink: &mut MemSink, sizes: &Sizes) -> Result<(), Fail>
-    requires { sizes.now ≡ record { nx = 2; ny = 2; nz = 2 } }
-{
-    let edges = EdgeVertices {
-        names: vec![in alloc; 0, 1, 2]?,
-        places: vec![in alloc; 500, 500, 500]?,
-    };
-    put_points(sink, sizes, &edges)?;
+/// Appends the points at level 5 of a volume whose first sample is 10.
+fn put_three(alloc: Global, sink: &mut MemSink) -> Result<(), Fail> {
+    let volume = corner_volume(alloc)?;
+    let level = Level::new(5_000).ok_or("5 is a level")?;
+    // Reading the samples brings in that they are in the range of samples.
+    let _ = volume.samples();
+    let sizes = volume.sizes();
+    let flags = point_flags(alloc, &sizes, &volume, level)?;
+    put_points(sink, &EdgeRows::new(sizes, &volume, level, &flags))?;
     Ok(())
 }
 
@@ -81,8 +77,7 @@ const POINTS: &str =
     "ply\nformat ascii 1.0\nelement vertex 3\nproperty float x\nproperty float y\nproperty float z\nend_header\n0.500 0.000 0.000\n0.000 0.500 0.000\n0.000 0.000 0.500\n";
 
 fn check_points(rt: &impl Abort, alloc: Global, sink: &mut MemSink) -> Result<(), Fail> {
-    let sizes = two_a_side().ok_or("2, 2 and 2 are sizes")?;
-    put_three(alloc, sink, &sizes)?;
+    put_three(alloc, sink)?;
     assert!(rt; sink.bytes() == POINTS.as_bytes());
     Ok(())
 }

@@ -1,27 +1,30 @@
-use Rattle.point_command.proofs.FileEdges.{edges_text, gives_text}
+use Rattle.std.proofs.Common.{Result, subst}
+use Rattle.byte_streams.specs.declared.Failed.{Failed}
+use Rattle.file_points.specs.Points.{text_of}
+use Rattle.point_command.specs.Points.{HoldsPoints}
+use Rattle.point_command.proofs.FilePoints.{gives_text}
 use Rattle.point_command.proofs.crossings.points.Goals as goal
 
-pub put_text-requires : goal.put_text-requires
-put_text-requires g c = record { known = (c.args.level, c.in-Ok.ensures.known.0, c.in-Ok.ensures.known.1) }
-
-pub returns-clause-converts : goal.returns-clause-converts
-returns-clause-converts g c =
-    let e = c.in-Ok.edges in
-    let has = c.in-Ok.ensures.edges in (
+pub returns-in-Ok-Ok-clause-converts : goal.returns-in-Ok-Ok-clause-converts
+returns-in-Ok-Ok-clause-converts g c =
+    let new = c.put_points_of_input.new in
+    let has = subst (λ (w : Result (Unit {0}) Failed). HoldsPoints c.args.level (g.S.Source.seen c.args.input.now) (g.S.Source.seen new.input) (g.K.Sink.seen c.args.output.now) (g.K.Sink.seen new.output) w) c.in-Ok-Ok.field-0-is c.in-Ok-Ok.ensures.text in
+    let puts = has.puts.2 in (
       has.bytes,
-      edges_text e.sizes e.edges.names.items e.edges.places.items,
+      text_of has.puts.0.0 c.args.level,
       has.read,
-      gives_text has.bytes c.args.level e.sizes e.edges.names.items e.edges.places.items has.edges,
-      record { cause = c.in-Err-put_text.ensures.cause.failed; gained = c.in-Err-put_text.ensures.gained; beside = c.in-Err-put_text.ensures.beside },
+      gives_text has.bytes c.args.level has.puts.0 has.puts.1,
+      record { gained = puts.gained; beside = puts.beside },
     )
 
-pub returns-in-Ok-put_text-clause-converts : goal.returns-in-Ok-put_text-clause-converts
-returns-in-Ok-put_text-clause-converts g c =
-    let e = c.in-Ok.edges in
-    let has = c.in-Ok.ensures.edges in (
+pub returns-in-Ok-Err-clause-converts : goal.returns-in-Ok-Err-clause-converts
+returns-in-Ok-Err-clause-converts g c =
+    let new = c.put_points_of_input.new in
+    let has = subst (λ (w : Result (Unit {0}) Failed). HoldsPoints c.args.level (g.S.Source.seen c.args.input.now) (g.S.Source.seen new.input) (g.K.Sink.seen c.args.output.now) (g.K.Sink.seen new.output) w) c.in-Ok-Err.field-0-is c.in-Ok-Err.ensures.text in
+    let puts = has.puts.2 in (
       has.bytes,
-      edges_text e.sizes e.edges.names.items e.edges.places.items,
+      text_of has.puts.0.0 c.args.level,
       has.read,
-      gives_text has.bytes c.args.level e.sizes e.edges.names.items e.edges.places.items has.edges,
-      record { gained = c.in-Ok-put_text.ensures.gained; beside = c.in-Ok-put_text.ensures.beside },
+      gives_text has.bytes c.args.level has.puts.0 has.puts.1,
+      record { cause = puts.cause.failed; gained = puts.gained; beside = puts.beside },
     )

@@ -1,8 +1,11 @@
-use Rattle.point_command.proofs.FileEdges.{are_few, are_put}
+use Rattle.std.proofs.Common.{None}
+use Rattle.command_terms.specs.Volumes.{IsNoVolume, volume_refusal}
+use Rattle.command_terms.proofs.Passed.{passed_on}
+use Rattle.command_terms.proofs.ReadVolumes.{no_volume}
 use Rattle.point_command.proofs.crossings.put_text.Goals as goal
 
-pub put_points-requires-clause-few : goal.put_points-requires-clause-few
-put_points-requires-clause-few g c = are_few c.requires.known.1 c.requires.known.0 _ _ _ c.requires.known.2
-
-pub put_points-requires-clause-placed : goal.put_points-requires-clause-placed
-put_points-requires-clause-placed g c = are_put c.requires.known.1 c.requires.known.0 _ _ _ c.requires.known.2
+pub returns-in_err-put_points_of_file-clause-fault : goal.returns-in_err-put_points_of_file-clause-fault
+returns-in_err-put_points_of_file-clause-fault g c =
+    let fault = c.in_err-put_points_of_file.field-0.0 in
+    passed_on c.from_residual.result volume_refusal fault (IsNoVolume None c.args.level c.args.bytes.now) c.from_residual.ensures.1
+    (no_volume None c.args.level c.args.bytes.now fault c.in_err-put_points_of_file.ensures.fault)

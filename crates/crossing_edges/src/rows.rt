@@ -1,0 +1,174 @@
+//! The crossing edges of the rows of a volume at a level, and where they are crossed.
+ghost use Rattle.std.specs.Prelude.{◌≡◌, ◌+◌, ◌*◌, ◌<◌, ◌≤◌, ◌^◌, All, length, map, take, true, unsigned_abs};
+ghost use Rattle.iso_defs.specs.Grid.{Grid, point_count, stride};
+ghost use Rattle.iso_defs.specs.Scratch.{crossing_edges};
+ghost use Rattle.iso_defs.specs.Signs.{is_crossing};
+ghost use Rattle.iso_base.specs.Samples.{IsSample};
+ghost use Rattle.iso_base.specs.Shifted.{field};
+ghost use Rattle.iso_base.specs.Sizing.{IsGrid};
+ghost use Rattle.crossing_edges.specs.Flags.{edge_place, flags_from, names_in, places_in};
+ghost use Rattle.crossing_edges.specs.Leveled.{heights};
+ghost use Rattle.crossing_edges.specs.Rows.{AreOffsets};
+
+use crate::counts::count_all_edges;
+use edge_points::place;
+use iso_base::{Level, Sizes};
+use row_lists::{EDGES, list_edges};
+use samples::Samples;
+use std::marker::Model;
+
+/// Room for the crossing edges that begin in a row of points, and for where they are crossed. Their number is not kept here. An
+/// edge is known by its offset: three times how far its point is along x, and its axis.
+#[derive(Drop)]
+pub struct RowEdges {
+    pub edges: [u16; EDGES],
+    pub places: [u16; EDGES],
+}
+
+impl RowEdges {
+    /// Room for the edges of a row.
+    pub fn new() -> RowEdges {
+        RowEdges {
+            edges: [0; EDGES],
+            places: [0; EDGES],
+        }
+    }
+}
+
+/// A volume at a level whose crossing edges are listed row by row, by the flags of its points. Contracts see its grid, its samples
+/// and the level.
+#[derive(Drop)]
+pub struct EdgeRows<'a, S: Samples> {
+    sizes: Sizes,
+    samples: &'a S,
+    level: Level,
+    flags: &'a [u8],
+}
+
+impl<'a, S: Samples> Model for EdgeRows<'a, S> {
+    ghost use Rattle.crossing_edges.specs.Leveled.{AreFlagged, Leveled};
+
+    ghost Value = { Leveled };
+
+    ghost view = { λ v. record { grid = v.sizes; samples = S.list v.samples.now; level = v.level } };
+
+    ghost invariant = { λ v. AreFlagged (record { grid = v.sizes; samples = S.list v.samples.now; level = v.level })
+        v.flags.now };
+}
+
+impl<'a, S: Samples> EdgeRows<'a, S> {
+    /// The rows of a volume at a level, from its sizes, its samples and the flags of its points.
+    pub fn new(sizes: Sizes, samples: &'a S, level: Level, flags: &'a [u8]) -> EdgeRows<'a, S>
+        requires count { length (S.list samples.now) ≡ point_count sizes }
+        requires samples { All IsSample (S.list samples.now) }
+        requires flags { flags.now ≡ flags_from sizes (field (S.list samples.now) level) 0 (point_count sizes) }
+        ensures { result ≡ record { grid = sizes; samples = S.list samples.now; level = level } }
+    {
+        EdgeRows {
+            sizes,
+            samples,
+            level,
+            flags,
+        }
+    }
+
+    /// The sizes of the grid.
+    #[inline(always)]
+    pub fn sizes(&self) -> Sizes
+        ensures value { result ≡ self.now.grid }
+        ensures grid { IsGrid self.now.grid }
+    {
+        self.sizes
+    }
+
+    /// The points along x.
+    #[inline(always)]
+    fn nx(&self) -> u32
+        ensures value { result ≡ self.now.grid.nx }
+        ensures grid { IsGrid self.now.grid }
+    {
+        self.sizes.nx()
+    }
+
+    /// How many crossing edges there are.
+    pub fn count(&self) -> u32
+        ensures { result ≡ length (crossing_edges self.now.grid (heights self.now)) }
+    {
+        let _ = self.sizes();
+        count_all_edges(self.flags)
+    }
+
+    /// The height over the level at a point.
+    #[inline(always)]
+    fn height(&self, point: u32) -> i64
+        requires point { point < point_count self.now.grid }
+        ensures value { result ≡ heights self.now point }
+        ensures bound { unsigned_abs result < 2 ^ 44 }
+    {
+        self.level.shifted(self.samples.at(point))
+    }
+
+    /// How far apart the indices of neighbours along an axis are. No branch rests on the axis, whose way a processor would have
+    /// to guess.
+    #[inline(always)]
+    fn step(&self, axis: u16) -> u32
+        requires { axis < 3 }
+        ensures value { result ≡ stride self.now.grid axis }
+        ensures grid { IsGrid self.now.grid }
+    {
+        let (nx, ny) = (self.sizes.nx(), self.sizes.ny());
+        let steps = [1, nx, nx * ny];
+        steps[usize::from(axis)]
+    }
+
+    /// Where a crossing edge is crossed, by its offset from the first edge of a point.
+    #[inline(always)]
+    fn place_on(&self, start: u32, edge: u16) -> u16
+        requires name { 3 * start + edge < 3 * point_count self.now.grid }
+        requires crossing { is_crossing self.now.grid (heights self.now) (3 * start + edge) ≡ true }
+        ensures { result ≡ edge_place self.now.grid (heights self.now) (3 * start + edge) }
+    {
+        let _ = self.sizes();
+        let lower = start + u32::from(edge / 3);
+        let upper = lower + self.step(edge % 3);
+        place(self.height(lower), self.height(upper))
+    }
+
+    /// Fills in where the crossing edges of a row are crossed, at the front of a buffer.
+    fn put_places(&self, start: u32, edges: &[u16], places: &mut [u16; EDGES])
+        requires edges { AreOffsets self.now start self.now.grid.nx edges.now }
+        requires points { start + self.now.grid.nx ≤ point_count self.now.grid }
+        requires few { length edges.now ≤ 3078 }
+        ensures { take (length edges.now) places.new
+            ≡ places_in self.now.grid (heights self.now) (3 * start) (3 * self.now.grid.nx) }
+    {
+        for k in 0..edges.len() {
+            places[k] = self.place_on(start, edges[k]);
+        }
+    }
+
+    /// The flags of the points of a row.
+    fn row_flags(&self, row: u32) -> &[u8]
+        requires { row < self.now.grid.ny * self.now.grid.nz }
+        ensures { result.now ≡ flags_from self.now.grid (heights self.now) (self.now.grid.nx * row) self.now.grid.nx }
+    {
+        let nx = self.nx();
+        let start = nx * row;
+        &self.flags[start as usize..start as usize + nx as usize]
+    }
+
+    /// Lists the crossing edges of a row by their offsets, and where they are crossed, at the front of the room for them, and says
+    /// how many there are.
+    pub fn list_row(&self, row: u32, room: &mut RowEdges) -> usize
+        requires { row < self.now.grid.ny * self.now.grid.nz }
+        ensures edges { AreOffsets self.now (self.now.grid.nx * row) self.now.grid.nx (take result room.new.edges) }
+        ensures places { take result room.new.places
+            ≡ places_in self.now.grid (heights self.now) (3 * (self.now.grid.nx * row)) (3 * self.now.grid.nx) }
+        ensures count { result ≤ 3 * self.now.grid.nx }
+    {
+        let start = self.nx() * row;
+        let count = list_edges(self.row_flags(row), &mut room.edges);
+        self.put_places(start, &room.edges[..count], &mut room.places);
+        count
+    }
+}

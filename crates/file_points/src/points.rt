@@ -1,0 +1,78 @@
+//! The points of a volume in its file, as a text.
+ghost use Rattle.std.specs.Prelude.{◌≡◌, IfOk, IfErr};
+ghost use Rattle.byte_streams.specs.Seen.{Puts};
+ghost use Rattle.nrrd_read.specs.Files.{file_voxels};
+ghost use Rattle.nrrd_read.specs.Nrrd.{Fails, nrrd_of};
+ghost use Rattle.file_points.specs.Points.{PutsPointsOf, text_of};
+
+use byte_streams::{Failed, Sink};
+use crossing_edges::{EdgeRows, point_flags};
+use iso_base::{Level, Memory};
+use nrrd_read::{FileVolume, NrrdFault, RawVolume, read_file_volume, with_samples};
+use point_write::put_points;
+use samples::Samples;
+use std::alloc::Global;
+
+/// Appends the text of the points at a level of a volume, from its samples.
+fn put_points_from<S: Samples, K: Sink>(
+    alloc: Global,
+    volume: &RawVolume<'_>,
+    samples: &S,
+    level: Level,
+    sink: &mut K,
+) -> Result<Result<(), Failed>, Memory>
+    requires { S.list samples.now ≡ volume.now.samples }
+    ensures text { IfOk result (λ written. Puts (K.seen sink.old) (K.seen sink.new) written (text_of volume.now level)) }
+    ensures nothing { IfErr result (λ _. K.seen sink.new ≡ K.seen sink.old) }
+{
+    let sizes = volume.sizes();
+    let flags = point_flags(alloc, &sizes, samples, level)?;
+    Ok(put_points(sink, &EdgeRows::new(sizes, samples, level, &flags)))
+}
+
+/// Appends that of a volume whose samples lie in bytes.
+fn put_points_of_raw<K: Sink>(
+    alloc: Global,
+    volume: &RawVolume<'_>,
+    level: Level,
+    sink: &mut K,
+) -> Result<Result<(), Failed>, Memory>
+    ensures text { IfOk result (λ written. Puts (K.seen sink.old) (K.seen sink.new) written (text_of volume.now level)) }
+    ensures nothing { IfErr result (λ _. K.seen sink.new ≡ K.seen sink.old) }
+{
+    with_samples!(volume.samples(), samples => put_points_from(alloc, volume, &samples, level, sink))
+}
+
+/// Appends that of a volume, wherever its samples lie.
+fn put_points_of<K: Sink>(
+    alloc: Global,
+    volume: &FileVolume<'_>,
+    level: Level,
+    sink: &mut K,
+) -> Result<Result<(), Failed>, Memory>
+    ensures text { IfOk result (λ written. Puts (K.seen sink.old) (K.seen sink.new) written
+        (text_of (file_voxels volume.now) level)) }
+    ensures nothing { IfErr result (λ _. K.seen sink.new ≡ K.seen sink.old) }
+{
+    match volume {
+        FileVolume::Raw(raw) => put_points_of_raw(alloc, raw, level, sink),
+        FileVolume::Read(read) => put_points_of_raw(alloc, &read.raw(), level, sink),
+    }
+}
+
+/// Appends the text of the points at a level of the volume in a file. Raw samples are not copied out of the bytes; bytes after
+/// the samples are not read. The refusals are those of the reader of volumes, and last `Memory`: then nothing was appended.
+/// Within, `Failed` comes only where the sink's count rose; a front of the text was then taken.
+pub fn put_points_of_file<K: Sink>(
+    alloc: Global,
+    bytes: &[u8],
+    level: Level,
+    sink: &mut K,
+) -> Result<Result<(), Failed>, NrrdFault>
+    ensures text { IfOk result (PutsPointsOf bytes.now level (K.seen sink.old) (K.seen sink.new)) }
+    ensures fault { IfErr result (λ fault. Fails fault (nrrd_of bytes.now)) }
+    ensures nothing { IfErr result (λ _. K.seen sink.new ≡ K.seen sink.old) }
+{
+    let (volume, _) = read_file_volume(alloc, bytes)?;
+    Ok(put_points_of(alloc, &volume, level, sink)?)
+}
