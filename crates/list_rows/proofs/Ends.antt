@@ -14,7 +14,8 @@ use Rattle.iso_base.specs.Shifted.{shifted}
 use Rattle.iso_base.specs.Volume.{sample}
 use Rattle.verdict_laws.proofs.Lists.{In, In-filter}
 use Rattle.mesh_laws.proofs.Cells.{range_at_least}
-use Rattle.crossing_edges.specs.Flags.{edge_place, names_in, places_in}
+use Rattle.crossing_edges.specs.Flags.{edge_place}
+use Rattle.crossing_edges.proofs.OffsetEdges.{offset_at, place_more as one_place_more, places_are as each_place}
 use Rattle.flat_mesh.specs.Lattice.{IsLeveled, Leveled, heights}
 use Rattle.flat_mesh.specs.Rows.{row_start}
 use Rattle.mesh_rows.specs.Rows.{AreEdges, row_places}
@@ -134,11 +135,6 @@ module _ (v : Leveled) (leveled : IsLeveled v) (ends : List ℤ) (place point : 
   pub end_height : (w : Leveled) (value : ℤ) → w ≡ v → value ≡ shifted (to_z w64 (of_z w64 (sample ends place))) w.level → value ≡ heights v point
   end_height w value same shifts = shifts ∙ ap₂ shifted end_kept (ap (λ (v : Leveled). v.level) same)
 
-in_place : (xs : List ℕ) (i : ℕ) → i < length xs → In (get_or xs i 0) xs
-in_place [] i l = absurd (omega arith)
-in_place (x ∷ xs) zero l = inl refl
-in_place (x ∷ xs) (suc i) l = inr (in_place xs i (omega arith))
-
 -- the edges of a row begin there, and are crossing
 pub record IsRowEdge (v : Leveled) (y z edge : ℕ) : Type 0 where
   pub low : edge < 3 * v.grid.nx
@@ -146,37 +142,20 @@ pub record IsRowEdge (v : Leveled) (y z edge : ℕ) : Type 0 where
 
 module _ (v : Leveled) (y z : ℕ) (edges : List ℕ) (are : AreEdges v y z edges) where
   abbrev start : ℕ
-  start = 3 * row_start v.grid y z
+  start = row_start v.grid y z
 
   pub row_edge : (i : ℕ) → i < length edges → IsRowEdge v y z (get_or edges i 0)
-  unfolding names_in
   row_edge i low =
-      let name : ℕ = start + get_or edges i 0 in
-      let named : get_or (map (λ e. start + e) edges) i 0 ≡ name = get_or-map (λ e. start + e) edges i 0 0 low in
-      let there : In name (map (λ e. start + e) edges) = subst (λ n. In n (map (λ e. start + e) edges)) named (in_place (map (λ e. start + e) edges) i (omega (arith, length-map edges (λ e. start + e)))) in
-      let known : In name (range_with_len start (3 * v.grid.nx)) × (is_crossing v.grid (heights v) name ≡ true)
-      = In-filter (is_crossing v.grid (heights v)) name (range_with_len start (3 * v.grid.nx)) (subst (In name) are.names there) in
-      let within : name < start + 3 * v.grid.nx = (range_at_least start (3 * v.grid.nx) name known.0).1 in
-      record { low = omega (arith, within); crossing = known.1 }
+      let at = offset_at v.grid (heights v) start v.grid.nx edges are.names i low in
+      record { low = at.low; crossing = at.crossing }
 
   -- one place for each of them
-  pub places_are : (places : List ℕ) → length places ≡ length edges → ((i : ℕ) → i < length edges → get_or places i 0 ≡ edge_place v.grid (heights v) (start + get_or edges i 0))
+  pub places_are : (places : List ℕ) → length places ≡ length edges → ((i : ℕ) → i < length edges → get_or places i 0 ≡ edge_place v.grid (heights v) (3 * start + get_or edges i 0))
       → places ≡ row_places v y z
-  unfolding places_in
-  places_are places count each =
-      let put : List ℕ = map (λ e. edge_place v.grid (heights v) (start + e)) edges in
-      ext_get_or 0 places put (count ∙ sym (length-map edges _)) (λ i low.
-      (let there : i < length edges = omega (arith, count) in
-      each i there ∙ sym (get_or-map (λ e. edge_place v.grid (heights v) (start + e)) edges i 0 0 there)))
-      ∙ (sym (map-map (edge_place v.grid (heights v)) (λ e. start + e) edges) ∙ ap (map (edge_place v.grid (heights v))) are.names)
+  places_are places count each = each_place v.grid (heights v) start v.grid.nx edges are.names places count each
 
   -- one place more
-  pub place_more : (places : List ℕ) (i place : ℕ) → i < length places → place ≡ edge_place v.grid (heights v) (start + get_or edges i 0)
-      → ((k : ℕ) → k < i → get_or places k 0 ≡ edge_place v.grid (heights v) (start + get_or edges k 0))
-      → (k : ℕ) → k < i + 1 → get_or (set places i place) k 0 ≡ edge_place v.grid (heights v) (start + get_or edges k 0)
-  place_more places i place there here before k low = elim (cases_lt k i) [
-    | inl earlier ↦ get_or-set_other places i k place 0 (λ e. omega arith) ∙ before k earlier
-    | inr last ↦ (
-        let same : k ≡ i = omega arith in
-        subst (λ k. get_or (set places i place) k 0 ≡ edge_place v.grid (heights v) (start + get_or edges k 0)) (sym same) (get_or-set_same places i place 0 there ∙ here))
-  ]
+  pub place_more : (places : List ℕ) (i place : ℕ) → i < length places → place ≡ edge_place v.grid (heights v) (3 * start + get_or edges i 0)
+      → ((k : ℕ) → k < i → get_or places k 0 ≡ edge_place v.grid (heights v) (3 * start + get_or edges k 0))
+      → (k : ℕ) → k < i + 1 → get_or (set places i place) k 0 ≡ edge_place v.grid (heights v) (3 * start + get_or edges k 0)
+  place_more places i place there here before = one_place_more v.grid (heights v) start v.grid.nx edges are.names places i place there here before

@@ -14,3 +14,4 @@ pub mod MixedBytes
 pub mod Listed
 pub mod KeptRows
 pub mod Views
+pub mod KeptParts

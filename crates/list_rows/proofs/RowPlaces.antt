@@ -93,6 +93,9 @@ unfolding places_in
 places_count v y z edges are =
     sym (length-map edges (λ e. 3 * row_start v.grid y z + e)) ∙ (ap length are.names ∙ sym (length-map (row_names v y z) (edge_place v.grid (heights v))))
 
+pub edges_low : (v : Leveled) (y z : ℕ) (edges : List ℕ) → AreEdges v y z edges → length edges ≤ 3 * v.grid.nx
+edges_low v y z edges are = omega (arith, places_count v y z edges are, row_few v y z)
+
 -- the places of a row among those of all
 pub record IsRowPart (v : Leveled) (y z : ℕ) (list : List ℕ) (a e : ℕ) : Type 0 where
   pub within : e ≤ length list

@@ -4,3 +4,4 @@ pub mod Places
 pub mod Ends
 pub mod Kept
 pub mod Lists
+pub mod Parts

@@ -1,39 +1,42 @@
 //! What is kept of the rows of a volume, made row by row.
-ghost use Rattle.std.specs.Prelude.{◌≡◌, ℕ, ◌+◌, ◌*◌, ◌<◌, All, IfOk, length, slice_index};
+ghost use Rattle.std.specs.Prelude.{◌≡◌, ℕ, ◌+◌, ◌*◌, ◌<◌, ◌≤◌, All, IfOk, length, slice_index, take};
 ghost use Rattle.flat_mesh.specs.Rows.{row_start};
 ghost use Rattle.mesh_rows.specs.Counts.{AreCounts};
-ghost use Rattle.mesh_rows.specs.Rows.{AreFlags, IsStill};
-ghost use Rattle.list_rows.specs.Cases.{HasNoLoops};
-ghost use Rattle.list_rows.specs.Kept.{AreAllKept, AreKept, AreNumbers, HaveBuffers};
+ghost use Rattle.mesh_rows.specs.Rows.{AreEdges, AreFlags, IsStill};
+ghost use Rattle.list_rows.specs.Cases.{AreRowCases, HasNoLoops};
+ghost use Rattle.list_rows.specs.Kept.{AreAllKept, AreKept, HaveBuffers};
+ghost use Rattle.list_rows.specs.Parts.{AreNumbers, HaveRows};
 ghost use Rattle.list_rows.specs.Signs.{AreRowSigns, AreSlices, AreSliceSigns};
 
 use crate::cases::{CaseBuffers, case_buffers, put_row};
 use crate::field::ListField;
+use crate::lists::{CellLists, list_row};
+use crate::parts::{FewLists, RowParts, add_few, add_still, add_whole, no_rows};
 use crate::places::{CrossingPlaces, PlaceBuffers, add_none, add_row, no_places, place_buffers};
 use crate::signs::{RowSigns, SliceSigns, are_alike, put_flags, row_signs};
 use flat_mesh::Heights;
 use iso_base::Sizes;
 use mesh_rows::Counts;
 use samples::Samples;
-use sparse_rows::SparseRows;
 use std::alloc::{AllocError, Global};
 use std::mem;
 
-/// What is kept of the rows of a volume. `numbers` has a number for each point: its flags, and eight times the number of a case that
-/// has the loops of the cell that begins at it. `counts` says how many centres and triangles the cells of these rows have.
+/// What is kept of the rows of a volume. `counts` says how many centres and triangles the cells of these rows have.
 #[derive(Drop)]
 pub struct KeptRows {
-    pub numbers: SparseRows,
+    pub rows: RowParts,
     pub counts: Counts,
     pub places: CrossingPlaces,
 }
 
-/// Buffers for a row of points: their flags and their numbers, the cases of its cells, and the places of its edges.
+/// Buffers for a row of points: their flags and their numbers, the cases of its cells and those of the active ones, and the places of
+/// its edges.
 #[derive(Drop)]
 struct RowBuffers {
     flags: Vec<u8>,
     numbers: Vec<u16>,
     cells: CaseBuffers,
+    active: CellLists,
     edges: PlaceBuffers,
 }
 
@@ -51,32 +54,58 @@ fn put_numbers(flags: &[u8], cases: &[u16], numbers: &mut [u16])
     }
 }
 
-/// Makes the numbers of a row of points, and counts the cells that begin in it. `row` has the flags.
-fn make_numbers<S: Samples>(
+/// Keeps a row of points as the numbers of its points. `row` has their flags and the cases of the cells that begin at them.
+fn keep_whole<S: Samples>(
     field: &ListField<S>,
-    signs: RowSigns,
     y: u32,
     z: u32,
     row: &mut RowBuffers,
-    counts: Counts,
-) -> Counts
+    rows: &mut RowParts,
+) -> Result<(), AllocError>
     requires y { y < field.now.grid.ny }
     requires z { z < field.now.grid.nz }
-    requires signs { AreRowSigns field.now y z signs }
     requires buffers { HaveBuffers field.now.grid row.old }
     requires flags { AreFlags field.now y z row.old.flags.items }
-    requires counts { AreCounts field.now (row_start field.now.grid y z) counts }
-    ensures numbers { AreNumbers field.now y z row.new.numbers.items }
-    ensures counts { AreCounts field.now (row_start field.now.grid (y + 1) z) result }
+    requires cases { AreRowCases field.now y z row.old.cells.cases.items }
+    requires rows { HaveRows field.now (y + field.now.grid.ny * z) rows.old }
+    ensures rows { IfOk result (λ _. HaveRows field.now (y + field.now.grid.ny * z + 1) rows.new) }
     ensures buffers { HaveBuffers field.now.grid row.new }
 {
-    let counts = put_row(field, signs, y, z, &mut row.cells, counts);
     put_numbers(&row.flags, &row.cells.cases, &mut row.numbers);
-    counts
+    add_whole(field, y, z, &row.numbers, rows)
+}
+
+/// Keeps a row of points as what it has. `row` has the cases of the cells that begin at them, and so many crossing edges.
+fn keep_few<S: Samples>(
+    field: &ListField<S>,
+    y: u32,
+    z: u32,
+    edges: usize,
+    row: &mut RowBuffers,
+    rows: &mut RowParts,
+) -> Result<(), AllocError>
+    requires y { y < field.now.grid.ny }
+    requires z { z < field.now.grid.nz }
+    requires buffers { HaveBuffers field.now.grid row.old }
+    requires few { edges ≤ 3078 }
+    requires edges { AreEdges field.now y z (take edges row.old.edges.edges) }
+    requires cases { AreRowCases field.now y z row.old.cells.cases.items }
+    requires rows { HaveRows field.now (y + field.now.grid.ny * z) rows.old }
+    ensures rows { IfOk result (λ _. HaveRows field.now (y + field.now.grid.ny * z + 1) rows.new) }
+    ensures buffers { HaveBuffers field.now.grid row.new }
+{
+    let _ = field.sizes();
+    let cells = list_row(field, y, z, &row.cells.cases, &mut row.active);
+    let few = FewLists {
+        edges: &row.edges.edges[..edges],
+        places: &row.active.places[..cells],
+        cases: &row.active.cases[..cells],
+    };
+    add_few(field, y, z, few, rows)
 }
 
 /// Adds a row of points where no crossing edge begins, and no cell with loops.
-fn add_still<S: Samples>(
+fn add_quiet<S: Samples>(
     field: &ListField<S>,
     y: u32,
     z: u32,
@@ -91,7 +120,7 @@ fn add_still<S: Samples>(
 {
     let _ = field.sizes();
     add_none(field, y, z, &mut kept.places)?;
-    kept.numbers.push_zeros()?;
+    add_still(field, y, z, &mut kept.rows)?;
     Ok(())
 }
 
@@ -114,13 +143,14 @@ fn add_mixed<S: Samples>(
 {
     let _ = field.sizes();
     put_flags(field, signs, y, z, &mut row.flags);
-    let before = kept.places.list.len();
-    add_row(field, &row.flags, y, z, &mut row.edges, &mut kept.places)?;
-    let edges = kept.places.list.len().saturating_sub(before);
-    kept.counts = make_numbers(field, signs, y, z, row, kept.counts);
-    // Where more crossing edges than points are, most points have some.
-    kept.numbers.push(&row.numbers, edges > row.numbers.len())?;
-    Ok(())
+    let edges = add_row(field, &row.flags, y, z, &mut row.edges, &mut kept.places)?;
+    kept.counts = put_row(field, signs, y, z, &mut row.cells, kept.counts);
+    // Lists take less room than a number for each point where few of these have crossing edges, and are sooner copied.
+    if 2 * edges > row.flags.len() {
+        keep_whole(field, y, z, row, &mut kept.rows)
+    } else {
+        keep_few(field, y, z, edges, row, &mut kept.rows)
+    }
 }
 
 /// Adds a row of points.
@@ -142,7 +172,7 @@ fn add_one<S: Samples>(
 {
     let signs = row_signs(field, signs, y, z);
     if are_alike(field, signs, y, z) {
-        return add_still(field, y, z, kept);
+        return add_quiet(field, y, z, kept);
     }
     add_mixed(field, signs, y, z, row, kept)
 }
@@ -230,6 +260,7 @@ fn row_buffers(alloc: Global, sizes: &Sizes) -> Result<RowBuffers, AllocError>
         flags: vec![in alloc; 0u8; nx]?,
         numbers: vec![in alloc; 0u16; nx]?,
         cells: case_buffers(alloc, sizes)?,
+        active: CellLists::new(),
         edges: place_buffers(alloc, sizes)?,
     })
 }
@@ -238,10 +269,9 @@ fn row_buffers(alloc: Global, sizes: &Sizes) -> Result<RowBuffers, AllocError>
 fn none_kept<S: Samples>(alloc: Global, field: &ListField<S>) -> Result<KeptRows, AllocError>
     ensures { IfOk result (AreKept field.now 0) }
 {
-    let sizes = field.sizes();
-    let rows = (sizes.ny() * sizes.nz()) as usize;
+    let _ = field.sizes();
     Ok(KeptRows {
-        numbers: SparseRows::new(alloc, sizes.nx() as usize, rows)?,
+        rows: no_rows(alloc, field)?,
         counts: Counts {
             centres: 0,
             faces: 0,

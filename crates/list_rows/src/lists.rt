@@ -1,52 +1,15 @@
-//! The crossing edges and the active cells of a row, listed from the numbers of its points: flags, and eightfold cases.
-ghost use Rattle.std.specs.Prelude.{◌≡◌, ◌+◌, ◌-◌, ◌*◌, ◌/◌, ◌%◌, ◌<◌, ◌≤◌, ◌++◌, ◌∷◌, [], All, cond, length, map, slice_index, take};
+//! The crossing edges and the active cells of a row, listed as the row is kept.
+ghost use Rattle.std.specs.Prelude.{◌≡◌, ◌+◌, ◌-◌, ◌*◌, ◌/◌, ◌%◌, ◌<◌, ◌≤◌, length, map, slice_index, take};
 ghost use Rattle.row_lists.specs.Active.{active_among};
-ghost use Rattle.row_lists.specs.Edges.{edges_among, edges_at};
-ghost use Rattle.sparse_rows.specs.declared.rows.Placed.{Placed};
-ghost use Rattle.list_rows.specs.Lists.{cases_of, cells_of, edges_of, flags_of};
+ghost use Rattle.row_lists.specs.Edges.{edges_among};
+ghost use Rattle.mesh_rows.specs.Rows.{AreActive, AreEdges};
+ghost use Rattle.list_rows.specs.Lists.{cases_of, flags_of};
+ghost use Rattle.list_rows.specs.Cases.{AreRowCases};
+ghost use Rattle.list_rows.specs.Parts.{AreCells, HaveAllRows};
 
+use crate::parts::{RowParts, numbers_from, part_of};
+use flat_mesh::Heights;
 use row_lists::{CASES, EDGES, POINTS, list_active, list_edges};
-use sparse_rows::Placed;
-
-/// Writes the offset of an edge, and says where the next one's goes: behind it, or over it where the edge is not crossing.
-/// So there is no branch whose way a processor would have to guess.
-#[inline(always)]
-fn put_edge(edge: u16, crossing: bool, edges: &mut [u16; EDGES], at: usize) -> usize
-    requires { at < 3078 }
-    ensures put { take result edges.new ≡ take at edges.old ++ cond crossing (edge ∷ []) [] }
-    ensures end { result ≤ at + 1 }
-{
-    edges[at] = edge;
-    at + usize::from(crossing)
-}
-
-/// Writes the offsets of the crossing edges that begin at a point.
-#[inline(always)]
-fn put_point(flags: u16, x: u16, edges: &mut [u16; EDGES], at: usize) -> usize
-    requires x { x < 1026 }
-    requires room { at + 3 ≤ 3078 }
-    ensures put { take result edges.new ≡ take at edges.old ++ edges_at flags x }
-    ensures end { result ≤ at + 3 }
-{
-    let first = put_edge(3 * x, flags % 2 == 1, edges, at);
-    let second = put_edge(3 * x + 1, flags / 2 % 2 == 1, edges, first);
-    put_edge(3 * x + 2, flags / 4 == 1, edges, second)
-}
-
-/// Lists the crossing edges of a row at the front of a buffer, by its points with numbers, and says how many there are.
-#[inline(always)]
-pub fn list_few_edges(few: &[Placed], edges: &mut [u16; EDGES]) -> usize
-    requires count { length few.now ≤ 1026 }
-    requires places { All (λ (p : Placed). p.place < 1026) few.now }
-    ensures put { take result edges.new ≡ edges_of few.now }
-    ensures count { result ≤ 3 * length few.now }
-{
-    let mut at = 0;
-    for i in 0..few.len() {
-        at = put_point(few[i].number % 8, few[i].place, edges, at);
-    }
-    at
-}
 
 /// Lists the crossing edges of a row at the front of a buffer, by the numbers of its points, and says how many there are.
 pub fn list_whole_edges(numbers: &[u16], edges: &mut [u16; EDGES]) -> usize
@@ -62,27 +25,25 @@ pub fn list_whole_edges(numbers: &[u16], edges: &mut [u16; EDGES]) -> usize
     list_edges(flags, edges)
 }
 
-/// Lists the active cells of a row at the front of two buffers, by its points with numbers, and says how many there are: how far each
-/// is along x, and its case. As above each is written, and written over where no active cell begins.
+/// Lists the active cells of a row at the front of two buffers, by the cases of all its cells, and says how many there are: how far each
+/// is along x, and its case.
 #[inline(always)]
-pub fn list_few_cells(
-    few: &[Placed],
+pub fn list_cases(
+    all: &[u16; CASES],
+    count: usize,
     places: &mut [u16; POINTS],
     cases: &mut [u16; POINTS],
 ) -> usize
-    requires { length few.now ≤ 1026 }
-    ensures places { take result places.new ≡ map (λ (p : Placed). p.place) (cells_of few.now) }
-    ensures cases { take result cases.new ≡ map (λ (p : Placed). p.number / 8) (cells_of few.now) }
-    ensures count { result ≤ length few.now }
+    requires { count ≤ 1026 }
+    ensures places { take result places.new ≡ active_among all.now 0 count }
+    ensures cases { take result cases.new ≡ map (slice_index all.now) (take result places.new) }
+    ensures count { result ≤ count }
 {
-    let mut at = 0;
-    for i in 0..few.len() {
-        let placed = few[i];
-        places[at] = placed.place;
-        cases[at] = placed.number / 8;
-        at += usize::from(placed.number >= 8);
+    let active = list_active(all, count, places);
+    for k in 0..active {
+        cases[k] = all[usize::from(places[k])];
     }
-    at
+    active
 }
 
 /// Lists the active cells of a row likewise, by the numbers of its points.
@@ -101,9 +62,109 @@ pub fn list_whole_cells(
     for x in 0..numbers.len() {
         all[x] = numbers[x] / 8;
     }
-    let count = list_active(&all, numbers.len() - 1, places);
-    for k in 0..count {
-        cases[k] = all[usize::from(places[k])];
+    list_cases(&all, numbers.len() - 1, places, cases)
+}
+
+/// Buffers for a row of cells: the numbers of their cases, and the active ones among them, by how far each is along x, with its case.
+#[derive(Drop)]
+pub struct CellLists {
+    pub all: [u16; CASES],
+    pub places: [u16; POINTS],
+    pub cases: [u16; POINTS],
+}
+
+impl CellLists {
+    /// Lists of nothing.
+    pub fn new() -> CellLists {
+        CellLists {
+            all: [0; CASES],
+            places: [0; POINTS],
+            cases: [0; POINTS],
+        }
     }
+}
+
+/// Lists the active cells of a row at the front of its buffers, by the cases of all, and says how many there are.
+pub fn list_row<H: Heights>(
+    field: &H,
+    y: u32,
+    z: u32,
+    cases: &[u16],
+    lists: &mut CellLists,
+) -> usize
+    requires cases { AreRowCases (H.leveled field.now) y z cases.now }
+    ensures few { result < (H.leveled field.now).grid.nx }
+    ensures cells { AreCells (H.leveled field.now) y z (take result lists.new.places) (take result lists.new.cases) }
+{
+    let _ = (field.sizes(), y, z);
+    copy_front(cases, &mut lists.all);
+    list_cases(
+        &lists.all,
+        cases.len() - 1,
+        &mut lists.places,
+        &mut lists.cases,
+    )
+}
+
+/// Copies a list to the front of a buffer.
+#[inline(always)]
+fn copy_front(list: &[u16], into: &mut [u16])
+    requires { length list.now ≤ length into.old }
+    ensures { take (length list.now) into.new ≡ list.now }
+{
+    into[..list.len()].copy_from_slice(list);
+}
+
+/// Lists the crossing edges of a row of points at the front of a buffer, and says how many there are.
+pub fn list_row_edges<H: Heights>(
+    field: &H,
+    rows: &RowParts,
+    y: u32,
+    z: u32,
+    edges: &mut [u16; EDGES],
+) -> usize
+    requires y { y < (H.leveled field.now).grid.ny }
+    requires z { z < (H.leveled field.now).grid.nz }
+    requires rows { HaveAllRows (H.leveled field.now) rows.now }
+    ensures few { result ≤ 3 * (H.leveled field.now).grid.nx }
+    ensures edges { AreEdges (H.leveled field.now) y z (take result edges.new) }
+{
+    let nx = field.sizes().nx() as usize;
+    let part = part_of(field, rows, y, z);
+    let start = part.start as usize;
+    if part.is_whole {
+        return list_whole_edges(numbers_from(rows, start, nx), edges);
+    }
+    let count = usize::from(part.edges);
+    copy_front(numbers_from(rows, start, count), edges);
+    count
+}
+
+/// Lists the cells of a row that may have loops at the front of two buffers, and says how many there are: how far each is along x,
+/// and its case.
+pub fn list_row_cells<H: Heights>(
+    field: &H,
+    rows: &RowParts,
+    y: u32,
+    z: u32,
+    places: &mut [u16; POINTS],
+    cases: &mut [u16; POINTS],
+) -> usize
+    requires y { y + 1 < (H.leveled field.now).grid.ny }
+    requires z { z + 1 < (H.leveled field.now).grid.nz }
+    requires rows { HaveAllRows (H.leveled field.now) rows.now }
+    ensures few { result < (H.leveled field.now).grid.nx }
+    ensures cells { AreActive (H.leveled field.now) y z (take result places.new) (take result cases.new) }
+{
+    let nx = field.sizes().nx() as usize;
+    let part = part_of(field, rows, y, z);
+    let start = part.start as usize;
+    if part.is_whole {
+        return list_whole_cells(numbers_from(rows, start, nx), places, cases);
+    }
+    let start = start + usize::from(part.edges);
+    let count = usize::from(part.cells);
+    copy_front(numbers_from(rows, start, count), places);
+    copy_front(numbers_from(rows, start + count, count), cases);
     count
 }

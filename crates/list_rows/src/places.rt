@@ -57,8 +57,8 @@ fn put_front<S: Samples>(
     field.put_places(y, z, edges, ends, &mut places[..edges.len()]);
 }
 
-/// Writes where the crossing edges of a row of points of these flags are crossed, at the front of a buffer, and says how many there
-/// are.
+/// Lists the crossing edges of a row of points of these flags at the front of a buffer, and where they are crossed at the front of
+/// another, and says how many there are.
 fn put_places<S: Samples>(
     field: &ListField<S>,
     flags: &[u8],
@@ -72,6 +72,7 @@ fn put_places<S: Samples>(
     requires flags { AreFlags field.now y z flags.now }
     requires room { length row.old.ends.items ≡ 3 * field.now.grid.nx }
     ensures count { result ≤ 3078 }
+    ensures edges { AreEdges field.now y z (take result row.new.edges) }
     ensures places { take result row.new.places ≡ row_places field.now y z }
     ensures room { length row.new.ends.items ≡ 3 * field.now.grid.nx }
 {
@@ -100,7 +101,7 @@ fn keep_row(row_places: &[u16], places: &mut CrossingPlaces) -> Result<(), Alloc
     Ok(())
 }
 
-/// Adds the places of a row of points of these flags.
+/// Adds the places of a row of points of these flags, lists its crossing edges at the front of a buffer, and says how many there are.
 pub fn add_row<S: Samples>(
     field: &ListField<S>,
     flags: &[u8],
@@ -108,7 +109,7 @@ pub fn add_row<S: Samples>(
     z: u32,
     row: &mut PlaceBuffers,
     places: &mut CrossingPlaces,
-) -> Result<(), AllocError>
+) -> Result<usize, AllocError>
     requires y { y < field.now.grid.ny }
     requires z { z < field.now.grid.nz }
     requires count { length flags.now ≡ field.now.grid.nx }
@@ -116,12 +117,14 @@ pub fn add_row<S: Samples>(
     requires room { length row.old.ends.items ≡ 3 * field.now.grid.nx }
     requires places { HavePlaces field.now (y + field.now.grid.ny * z) places.old }
     ensures places { IfOk result (λ _. HavePlaces field.now (y + field.now.grid.ny * z + 1) places.new) }
+    ensures count { IfOk result (λ n. n ≤ 3078) }
+    ensures edges { IfOk result (λ n. AreEdges field.now y z (take n row.new.edges)) }
     ensures room { length row.new.ends.items ≡ 3 * field.now.grid.nx }
 {
     let _ = field.sizes();
     let count = put_places(field, flags, y, z, row);
     keep_row(&row.places[..count], places)?;
-    Ok(())
+    Ok(count)
 }
 
 /// Adds the places of a row of points where no crossing edge begins.

@@ -5,14 +5,13 @@ ghost use Rattle.iso_base.specs.Samples.{IsSample};
 
 use crate::field::ListField;
 use crate::kept::{KeptRows, all_rows};
-use crate::lists::{list_few_cells, list_few_edges, list_whole_cells, list_whole_edges};
+use crate::lists::{list_row_cells, list_row_edges};
 use crate::places::{count_row, place_row};
 use flat_mesh::{Cell, Heights};
 use iso_base::{Level, Memory, Sizes};
 use mesh_rows::{Counts, MeshRows};
 use row_lists::{EDGES, POINTS};
 use samples::Samples;
-use sparse_rows::RowView;
 use std::alloc::Global;
 use std::marker::Model;
 
@@ -83,11 +82,7 @@ impl<'a, S: Samples> MeshRows for ListRows<'a, S> {
     }
 
     fn list_edges(&mut self, y: u32, z: u32, edges: &mut [u16; EDGES]) -> usize {
-        let row = y + self.field.sizes().ny() * z;
-        match self.kept.numbers.row(row as usize) {
-            RowView::Whole(numbers) => list_whole_edges(numbers, edges),
-            RowView::Few(few) => list_few_edges(few, edges),
-        }
+        list_row_edges(&self.field, &self.kept.rows, y, z, edges)
     }
 
     fn fill_places(&mut self, y: u32, z: u32, edges: &[u16], places: &mut [u16]) {
@@ -102,11 +97,7 @@ impl<'a, S: Samples> MeshRows for ListRows<'a, S> {
         places: &mut [u16; POINTS],
         cases: &mut [u16; POINTS],
     ) -> usize {
-        let row = y + self.field.sizes().ny() * z;
-        match self.kept.numbers.row(row as usize) {
-            RowView::Whole(numbers) => list_whole_cells(numbers, places, cases),
-            RowView::Few(few) => list_few_cells(few, places, cases),
-        }
+        list_row_cells(&self.field, &self.kept.rows, y, z, places, cases)
     }
 
     fn count_cells(&mut self) -> Counts {

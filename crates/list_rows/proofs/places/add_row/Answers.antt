@@ -6,9 +6,7 @@ pub keep_row-requires : goal.keep_row-requires
 keep_row-requires g c =
     omega (arith, before_row c.args.field.now c.args.places.now c.args.y c.args.z c.requires.y c.requires.z c.requires.places, c.sizes.ensures.leveled.grid.count)
 
-pub returns : goal.returns
-returns g c = record {
-  places = row_kept c.args.field.now c.args.y c.args.z c.args.places.now c.keep_row.new.places _ c.requires.places c.put_places-count.ensures.places
-      c.in_ok-keep_row.ensures.list c.in_ok-keep_row.ensures.starts;
-  room = c.put_places-count.ensures.room;
-}
+pub returns-clause-places : goal.returns-clause-places
+returns-clause-places g c =
+    row_kept c.args.field.now c.args.y c.args.z c.args.places.now c.keep_row.new.places _ c.requires.places c.put_places-count.ensures.places
+    c.in_ok-keep_row.ensures.list c.in_ok-keep_row.ensures.starts

@@ -1,6 +1,7 @@
 use Rattle.std.proofs.Common.{◌∙◌, sym, ap}
 use Rattle.row_lists.specs.Edges.{edges_among}
 use Rattle.mesh_rows.proofs.FlagEdges.{edges_are, flags_small}
+use Rattle.list_rows.proofs.KeptParts.{no_edges}
 use Rattle.list_rows.proofs.RowPlaces.{none_here}
 use Rattle.list_rows.proofs.places.put_places.Goals as goal
 
@@ -13,4 +14,12 @@ list_edges-count-requires-clause-flags g c = flags_small c.args.field.now c.args
 
 pub put_front-requires-clause-edges : goal.put_front-requires-clause-edges
 put_front-requires-clause-edges g c =
+    edges_are c.args.field.now c.args.y c.args.z c.args.flags.now _ c.requires.flags (c.list_edges-count.ensures.put ∙ ap (edges_among c.args.flags.now 0) c.requires.count)
+
+pub returns-then-are_all-clause-edges : goal.returns-then-are_all-clause-edges
+returns-then-are_all-clause-edges g c =
+    no_edges c.args.field.now c.args.y c.args.z (none_here c.args.field.now c.args.y c.args.z c.args.flags.now c.requires.count c.requires.flags (c.are_all.ensures c.if-are_all.true))
+
+pub returns-clause-edges : goal.returns-clause-edges
+returns-clause-edges g c =
     edges_are c.args.field.now c.args.y c.args.z c.args.flags.now _ c.requires.flags (c.list_edges-count.ensures.put ∙ ap (edges_among c.args.flags.now 0) c.requires.count)

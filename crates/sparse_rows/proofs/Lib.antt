@@ -1,4 +1,0 @@
-pub mod Scattering
-pub mod Placing
-pub mod Parts
-pub mod Eights
