@@ -1,8 +1,11 @@
 -- The corners of the triangles of a case.
-use Rattle.std.proofs.Common.{◌≡◌, ℕ, suc, ◌+◌, ◌-◌, ◌<◌, ◌≤◌, Bool, true, false, List, [], ◌∷◌, ◌++◌, All, cond, map, length, get_or, ltb, nat_lt, if◌then◌else◌, refl, sym, subst, ◌∙◌, ap, ap₂, zero-add, arith}
-use Rattle.std.specs.List.{sum_by}
+use Rattle.std.proofs.Common.{◌≡◌, ℕ, suc, ◌+◌, ◌-◌, ◌<◌, ◌≤◌, List, [], ◌∷◌, ◌++◌, All, cond, map, take, drop, length, append-nil, append_assoc, get_or, if◌then◌else◌, refl, sym, subst, ◌∙◌, ap, ap₂, zero-add, arith}
+use Rattle.std.specs.List.{flat_map, range_with_len, sum_by}
 use Rattle.std.proofs.lemmas.Bool.{le-ltb, lt-ltb, ne_eqb}
-use Rattle.std.proofs.lemmas.List.{map-append}
+use Rattle.std.proofs.lemmas.List.{length-append, map-append}
+use Rattle.std.proofs.lemmas.List.Concat.{flat_map-append}
+use Rattle.std.proofs.Math.Seq.{drop-append_seam, take-append_seam}
+use Rattle.iso_defs.proofs.Ranges.{range_append}
 use Rattle.std.proofs.lemmas.List.Elements.{All-append, All-cons, All-nil}
 use Rattle.std.proofs.lemmas.List.FromFn.{get_or-range_with_len}
 use Rattle.std.proofs.lemmas.List.Sums.{sum_by-cons}
@@ -13,7 +16,34 @@ use Rattle.cell_loops.specs.Loops.{IsLoop, row_loops}
 use Rattle.cell_loops.proofs.Counted.{all_loops}
 use Rattle.flat_mesh.specs.Faces.{cell_faces, centres_of, corners_of, loop_faces}
 use Rattle.flat_mesh.proofs.CellFaces.{loop_map}
-use Rattle.case_faces.specs.Faces.{corner_number, row_faces}
+use Rattle.case_faces.specs.Faces.{all_corners, case_corners, corner_number, corners_to, row_faces}
+
+-- the numbers below one more
+pub flat_more : {X : Type 0} (f : ℕ → List X) (n : ℕ) → flat_map f (below (n + 1)) ≡ flat_map f (below n) ++ f n
+flat_more f n =
+    ap (flat_map f) (range_append 0 n 1)
+    ∙ (flat_map-append f (below n) (range_with_len (0 + n) 1)
+    ∙ ap (λ l. flat_map f (below n) ++ l) (append-nil (f (0 + n)) ∙ ap f (zero-add n)))
+
+-- what the numbers below a bound give, about one of them
+module _ {X : Type 0} (f : ℕ → List X) (n k : ℕ) (low : k < n) where
+  abbrev behind : List X
+  behind = flat_map f (range_with_len (k + 1) (n - (k + 1)))
+
+  flat_split : flat_map f (below n) ≡ flat_map f (below k) ++ (f k ++ behind)
+  flat_split =
+      let parts : k + 1 + (n - (k + 1)) ≡ n = omega (arith, low) in
+      ap (λ n. flat_map f (below n)) (sym parts) ∙ (ap (flat_map f) (range_append 0 (k + 1) (n - (k + 1)))
+      ∙ (flat_map-append f (below (k + 1)) (range_with_len (0 + (k + 1)) (n - (k + 1)))
+      ∙ (ap₂ (λ a b. a ++ b) (flat_more f k) (ap (λ a. flat_map f (range_with_len a (n - (k + 1)))) (zero-add (k + 1))) ∙ append_assoc (flat_map f (below k)) (f k) behind)))
+
+  pub flat_at : take (length (f k)) (drop (length (flat_map f (below k))) (flat_map f (below n))) ≡ f k
+  flat_at =
+      ap (λ l. take (length (f k)) (drop (length (flat_map f (below k))) l)) flat_split
+      ∙ (ap (take (length (f k))) (drop-append_seam (flat_map f (below k)) (f k ++ behind)) ∙ take-append_seam (f k) behind)
+
+  pub flat_upto : length (flat_map f (below k)) + length (f k) ≤ length (flat_map f (below n))
+  flat_upto = omega (arith, ap length flat_split, length-append (flat_map f (below k)) (f k ++ behind), length-append (f k) behind)
 
 -- triangles whose corners are renamed
 faces_back : (f : ℕ → ℕ) (ts : List Triangle) → map (map f) (map corners_of ts) ≡ map corners_of (map (on_corners f) ts)
@@ -100,3 +130,24 @@ module _ (P : ℕ → Type 0) where
   pub corners_each : (n : ℕ) → n < 656 → All (All P) (row_loops n) → ((c : ℕ) → 12 ≤ c → c < 12 + sum_by centres_of (row_loops n) → P c) → All (All P) (row_faces n)
   unfolding row_faces
   corners_each n small each mid = cell_each (row_loops n) 12 (all_loops n small) each mid
+
+-- the corners of a case among those of all cases
+pub corners_at : (n : ℕ) → n < 656 → take (length (case_corners n)) (drop (length (corners_to n)) all_corners) ≡ case_corners n
+unfolding corners_to
+corners_at n small = flat_at case_corners 656 n small
+
+pub corners_upto : (n : ℕ) → n < 656 → length (corners_to n) + length (case_corners n) ≤ length all_corners
+unfolding corners_to
+corners_upto n small = flat_upto case_corners 656 n small
+
+-- triangles have three corners
+all_three : (ts : List Triangle) → All (λ t. length t ≡ 3) (map corners_of ts)
+all_three [] = All-nil _
+all_three (t ∷ ts) = All-cons (λ t. length t ≡ 3) (corners_of t) (map corners_of ts) refl (all_three ts)
+
+pub cell_three : (numbers : List ℕ) (ls : List (List ℕ)) (next : ℕ) → All (λ t. length t ≡ 3) (cell_faces numbers ls next)
+unfolding loop_faces
+cell_three numbers [] next = All-nil _
+cell_three numbers (l ∷ ls) next =
+    All-append (λ t. length t ≡ 3) (loop_faces (map (λ e. get_or numbers e 0) l) next) (cell_faces numbers ls (next + centres_of l))
+    (all_three (loop_triangles (map (λ e. get_or numbers e 0) l) next)) (cell_three numbers ls (next + centres_of l))

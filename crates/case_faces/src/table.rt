@@ -1,8 +1,7 @@
 //! The triangles of all cases in one table.
 
-ghost use Rattle.std.specs.Prelude.{◌≡◌, ◌-◌, ◌*◌, ◌<◌, ◌≤◌, All, length, slice_index, slice_range};
-ghost use Rattle.std.specs.Simd.{first_chunks};
-ghost use Rattle.case_faces.specs.Faces.{row_faces};
+ghost use Rattle.std.specs.Prelude.{◌≡◌, ◌<◌, ◌≤◌, All, length, slice_index};
+ghost use Rattle.case_faces.specs.Faces.{all_corners, case_corners, corners_to};
 
 use case_table::CaseRow;
 
@@ -543,25 +542,30 @@ fn start_of(case: u16) -> u16
     STARTS[case as usize]
 }
 
-/// The triangles from one place on to another.
+/// The corners of the triangles of all cases, case by case and loop by loop. A corner is one of the twelve edges of the cell, or 12 and
+/// more: a centre of a loop, counted from the cell's first.
 #[inline(always)]
-fn faces_between(start: u16, end: u16) -> &'static [[u8; 3]]
-    requires order { start ≤ end }
-    requires within { end ≤ 4424 }
-    ensures { result.now ≡ first_chunks 3 (end - start) (slice_range CORNERS (3 * start) (3 * end)) }
+pub fn face_corners() -> &'static [u8; 13_272]
+    ensures value { result.now ≡ all_corners }
+    ensures low { All (λ c. c < 14) result.now }
 {
-    let corners = &CORNERS[3 * start as usize..3 * end as usize];
-    corners.as_chunks::<3>().0
+    &CORNERS
 }
 
-/// The triangles of a case, loop by loop. A corner is one of the twelve edges of the cell, or 12 and more: a centre of a loop, counted
-/// from the cell's first.
+/// How many corners the triangles of the cases before one have: where its own begin.
 #[inline(always)]
-pub fn faces_of(row: CaseRow) -> &'static [[u8; 3]]
-    ensures value { result.now ≡ row_faces row }
-    ensures few { length result.now ≤ 12 }
-    ensures corners { All (All (λ c. c < 14)) result.now }
+pub fn corners_before(row: CaseRow) -> u16
+    ensures value { result ≡ length (corners_to row) }
+{
+    3 * start_of(row.number())
+}
+
+/// How many corners the triangles of a case have.
+#[inline(always)]
+pub fn corner_count(row: CaseRow) -> u16
+    ensures value { result ≡ length (case_corners row) }
+    ensures few { result ≤ 36 }
 {
     let number = row.number();
-    faces_between(start_of(number), start_of(number + 1))
+    3 * (start_of(number + 1) - start_of(number))
 }

@@ -39,6 +39,9 @@ module _ (v : Leveled) (cells : RowCells) (are : AreCells v cells) where
   pub place_low : (k : ℕ) → k < cells.count → k + 1 < v.grid.nx
   place_low k low = omega (arith, low, count_is, active_few every 0 (v.grid.nx - 1))
 
+  pub few_cells : cells.count ≤ v.grid.nx
+  few_cells = omega (arith, count_is, active_few every 0 (v.grid.nx - 1))
+
   -- where the run of cells without loops begins that ends with the cell listed at a place
   abbrev pub gap : ℕ → ℕ
   gap k = begins 0 cells.places k

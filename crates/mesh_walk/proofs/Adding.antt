@@ -56,10 +56,3 @@ adds_front {T = T} t0 t1 b0 b1 b1' e e' a b whole parts p = record {
 
 pub adds_as : {T : Type 0} (t0 t1 : Tape) (b0 b1 : Gathered) (r : Result T Failed) (a b : List ℕ) → a ≡ b → Adds t0 t1 b0 b1 r a → Adds t0 t1 b0 b1 r b
 adds_as t0 t1 b0 b1 r a b e p = subst (Adds t0 t1 b0 b1 r) e p
-
--- another value in the answer
-pub adds_with : {T U : Type 0} (t0 t1 : Tape) (b0 b1 : Gathered) (x : T) (y : U) (a : List ℕ) → Adds t0 t1 b0 b1 (Ok x) a → Adds t0 t1 b0 b1 (Ok y) a
-adds_with t0 t1 b0 b1 x y a p = record {
-  staged = record { gained = p.staged.gained; beside = p.staged.beside; cause = record { later = p.staged.cause.later; failed = tt } };
-  total = p.total;
-}

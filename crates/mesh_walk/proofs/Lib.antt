@@ -3,7 +3,8 @@ pub mod Adding
 pub mod SpanLaws
 pub mod RankedRows
 pub mod AnyName
-pub mod EdgeLines
+pub mod CornerLanes
+mod EdgeLines
 pub mod RowNames
 pub mod CellRuns
 pub mod FaceLines
@@ -11,8 +12,12 @@ pub mod TextSlots
 pub mod EmptyCase
 pub mod SlotRows
 pub mod RowSlots
-pub mod CellLanes
+pub mod FanSums
+pub mod RowFans
+pub mod FanLines
 pub mod PlaceSlots
 pub mod CentreLines
 pub mod MeshText
 pub mod WholeMesh
+pub mod RowCentres
+pub mod RowFaces

@@ -1,5 +1,5 @@
 -- The places of crossing edges in their slots.
-use Rattle.std.proofs.Common.{◌≡◌, ℕ, ◌+◌, ◌*◌, ◌/◌, ◌<◌, ◌≤◌, true, List, [], ◌∷◌, set, length, get_or, inl, inr, ◌⊎◌, sym, ◌∙◌, ap, subst, arith}
+use Rattle.std.proofs.Common.{◌≡◌, ℕ, ◌+◌, ◌*◌, ◌/◌, ◌%◌, ◌<◌, ◌≤◌, true, List, [], ◌∷◌, set, length, get_or, inl, inr, ◌⊎◌, sym, ◌∙◌, ap, subst, arith}
 use Rattle.std.proofs.lemmas.List.{get_or-map, get_or-set_other, length-map}
 use Rattle.std.proofs.lemmas.Bool.{cases_eq, cases_lt}
 use Rattle.std.proofs.lemmas.Grind.{get_or-set_at}
@@ -8,6 +8,10 @@ use Rattle.iso_defs.specs.Grid.{name_bound}
 use Rattle.iso_defs.specs.Cell.{cell_edge, cell_signs, corner_point, crosses, edge_corner}
 use Rattle.iso_defs.specs.Signs.{is_crossing}
 use Rattle.verdict_laws.proofs.Lists.{In-filter}
+use Rattle.mesh_laws.proofs.Apart.{by_twelve}
+use Rattle.cell_loops.specs.Loops.{IsLoop}
+use Rattle.case_faces.specs.Fans.{edge_at}
+use Rattle.flat_mesh.specs.Faces.{AllCross}
 use Rattle.mesh_laws.proofs.Numbers.{crossing_of_cell}
 use Rattle.crossing_edges.specs.Flags.{edge_place, places_in}
 use Rattle.crossing_edges.proofs.NextPoints.{ends, place_at}
@@ -18,7 +22,7 @@ use Rattle.flat_mesh.specs.Rows.{row_start}
 use Rattle.flat_mesh.proofs.CellPlaces.{cell_placed}
 use Rattle.flat_mesh.proofs.Known.{place_low}
 use Rattle.mesh_rows.specs.Rows.{AreEdges, row_names, row_places}
-use Rattle.mesh_walk.specs.Places.{AreCellPlaces, AreRowPlaces, due_to, in_slot}
+use Rattle.mesh_walk.specs.Places.{ArePlaced, AreRowPlaces, due_to, in_slot, slot_place}
 use Rattle.mesh_walk.specs.Slots.{AreLaid, edge_slot, row_slot}
 use Rattle.mesh_walk.proofs.RowSlots.{laid_by}
 use Rattle.mesh_walk.proofs.SlotRows.{edge_laid}
@@ -79,13 +83,23 @@ module _ (v : Leveled) (cell : Cell) (h : IsCellAt v.grid cell) where
       let axis : e / 4 < 3 = omega arith in
       subst (λ n. n ≤ 1000) (sym (place_at v.grid (heights v) corner (e / 4) axis)) (place_low _ _ (ends v.grid (heights v) corner (e / 4) axis (crossing e low c)).apart)
 
-  pub cell_places_are : (places slots : List ℕ) (at : ℕ) → AreRowPlaces v cell.low.y cell.low.z places slots → at ≡ 3 * cell.low.x → AreCellPlaces v cell.index places slots at
-  cell_places_are places slots at are is = record {
-    column = omega (arith, is, h.x, are.width);
-    bound = are.bound;
-    each = λ e low c.
-        let there = edge_laid (in_slot places) (due_to v) v cell h are.around e low (crossing e low c) in
-        let slot : get_or slots e 0 + at ≡ edge_slot cell.low.y cell.low.z e + 3 * cell.low.x = omega (arith, is, are.slot e low) in
-        ap (λ i. get_or places i 0) slot ∙ ap (λ l. get_or l 0 0) there;
-    low = low_place;
+  -- where the place on an edge stands
+  slot_here : (rows : List ℕ) (at e : ℕ) → rows ≡ row_slot cell.low.y cell.low.z ∷ row_slot (cell.low.y + 1) cell.low.z ∷ row_slot cell.low.y (cell.low.z + 1) ∷ row_slot (cell.low.y + 1) (cell.low.z + 1) ∷ []
+      → at ≡ 3 * cell.low.x → e < 12 → get_or rows (edge_at e / 8) 0 + at + edge_at e % 8 ≡ edge_slot cell.low.y cell.low.z e + 3 * cell.low.x
+  slot_here rows at e are is low =
+      ap (λ l. get_or l (edge_at e / 8) 0 + at + edge_at e % 8) are
+      ∙ by_twelve (λ e. get_or (row_slot cell.low.y cell.low.z ∷ row_slot (cell.low.y + 1) cell.low.z ∷ row_slot cell.low.y (cell.low.z + 1) ∷ row_slot (cell.low.y + 1) (cell.low.z + 1) ∷ []) (edge_at e / 8) 0
+      + at + edge_at e % 8 ≡ edge_slot cell.low.y cell.low.z e + 3 * cell.low.x)
+      (omega (arith, is)) (omega (arith, is)) (omega (arith, is)) (omega (arith, is)) (omega (arith, is)) (omega (arith, is)) (omega (arith, is)) (omega (arith, is)) (omega (arith, is)) (omega (arith, is)) (omega (arith, is)) (omega (arith, is)) e low
+
+  pub placed : (places rows edges : List ℕ) (at : ℕ) → AreRowPlaces v cell.low.y cell.low.z places rows → at ≡ 3 * cell.low.x → IsLoop edges → AllCross v cell.index edges
+      → ArePlaced (cell_place v cell.index) edges (slot_place places rows at)
+  placed places rows edges at are is shape crosses = record {
+    shape = shape;
+    each = λ k d low.
+        let e : ℕ = get_or edges k d in
+        let twelve : e < 12 = shape.low k d low in
+        let there = edge_laid (in_slot places) (due_to v) v cell h are.around e twelve (crossing e twelve (crosses.each k d low)) in
+        ap (λ i. get_or places i 0) (slot_here rows at e are.rows_are is twelve) ∙ ap (λ l. get_or l 0 0) there;
+    few = λ k d low. low_place (get_or edges k d) (shape.low k d low) (crosses.each k d low);
   }

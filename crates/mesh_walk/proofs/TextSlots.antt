@@ -30,12 +30,11 @@ use Rattle.flat_mesh.proofs.FirstNumbers.{rank_low}
 use Rattle.flat_mesh.proofs.Loops.{loop_crosses, loop_is}
 use Rattle.mesh_rows.specs.Rows.{AreEdges}
 use Rattle.mesh_text.specs.declared.number.Number.{Number}
-use Rattle.mesh_text.specs.Numbers.{IsShort, number_text, text_at}
+use Rattle.mesh_text.specs.Numbers.{number_text, text_at}
 use Rattle.mesh_lines.specs.declared.style.Style.{Style}
 use Rattle.mesh_lines.specs.Triangles.{corner_text, first_of}
-use Rattle.mesh_walk.specs.declared.faces.CellTexts.{CellTexts}
-use Rattle.mesh_walk.specs.Slots.{AreApart, AreAround, AreLaid, IsReady, row_slot}
-use Rattle.mesh_walk.specs.Texts.{AreTextsAround, HasText, cell_slot, cell_text}
+use Rattle.mesh_walk.specs.Slots.{AreApart, AreAround, AreLaid, IsReady, corner_slot, edge_slot, row_slot}
+use Rattle.mesh_walk.specs.Texts.{HasText, number_due}
 use Rattle.mesh_walk.proofs.RowSlots.{edge_is}
 use Rattle.mesh_walk.proofs.SlotRows.{edge_laid, slot_low}
 
@@ -103,11 +102,6 @@ short_text format n low =
     let all = length-append digits (32 ∷ []) in
     record { some = omega (arith, all); few = omega (arith, all, k) }
 
-pub short_number : (format : MeshFormat) (n : ℕ) (number : Number) → n < 2 ^ 32 → number_text number ≡ corner_text format n → IsShort number
-short_number format n number low is =
-    let brief = subst IsBrief (sym is) (short_text format n low) in
-    record { some = brief.some; few = brief.few }
-
 -- the numbers of the edges of a cell
 module _ (v : Leveled) (q : ℕ) where
   abbrev number : ℕ → ℕ
@@ -120,59 +114,58 @@ module _ (v : Leveled) (q : ℕ) where
   numbers_are e low = get_or-map-range_with_len number 0 12 e e 0 low (zero-add e)
 
 -- the texts of the corners of a cell
-module _ (v : Leveled) (is : IsGrid v.grid) (style : Style) (cell : Cell) (h : IsCellAt v.grid cell) (t : CellTexts) (at : t.at ≡ 3 * cell.low.x)
-    (are : AreTextsAround style v cell.low.y cell.low.z t.texts.now t.slots.now) where
-  slot_is : (c : ℕ) → cell_slot t c ≡ get_or t.slots.now c 0 + 3 * cell.low.x
-  slot_is c = ap (λ n. get_or t.slots.now c 0 + n) at
+module _ (v : Leveled) (is : IsGrid v.grid) (style : Style) (cell : Cell) (h : IsCellAt v.grid cell) (texts : List Number)
+    (around : AreAround (text_at texts) (number_due style v) v cell.low.y cell.low.z) where
+  abbrev pub slot : ℕ → ℕ
+  slot c = corner_slot cell.low.y cell.low.z c + 3 * cell.low.x
 
-  has_number : (c n : ℕ) → c < 16 → cell_slot t c < 15390 → n < 2 ^ 32 → cell_text t c ≡ corner_text style.format n → HasText t c
-  has_number c n corner slot low text_is =
-      let brief = subst IsBrief (sym text_is) (short_text style.format n low) in
-      record { corner = corner; slot = slot; some = brief.some; few = brief.few }
+  -- a corner has the text of a number
+  pub record IsNumbered (c n : ℕ) : Type 0 where
+    pub text : text_at texts (slot c) ≡ corner_text style.format n
+    pub has : HasText texts (slot c)
+
+  numbered_by : (c n : ℕ) → slot c < 15390 → n < 2 ^ 32 → text_at texts (slot c) ≡ corner_text style.format n → IsNumbered c n
+  numbered_by c n low small text_is =
+      let brief = subst IsBrief (sym text_is) (short_text style.format n small) in
+      record { text = text_is; has = record { low = low; some = brief.some; few = brief.few } }
 
   module _ (e : ℕ) (low : e < 12) (c : crosses (cell_signs v.grid (heights v) cell.index) e ≡ true) where
     crossing : is_crossing v.grid (heights v) (cell_edge v.grid cell.index e) ≡ true
     crossing = (In-filter (is_crossing v.grid (heights v)) (cell_edge v.grid cell.index e) (below (name_bound v.grid)) (crossing_of_cell v.grid (heights v) cell.index e (cell_placed v.grid cell h).known low c)).1
 
-    text_is : cell_text t e ≡ corner_text style.format (number v cell.index e)
-    text_is = ap (text_at t.texts.now) (slot_is e ∙ ap (λ n. n + 3 * cell.low.x) (are.each e low)) ∙ edge_laid _ _ v cell h are.around e low crossing
+    slot_is : corner_slot cell.low.y cell.low.z e ≡ edge_slot cell.low.y cell.low.z e
+    slot_is = ap (λ b. if b then edge_slot cell.low.y cell.low.z e else 12300 + e) (lt-ltb e 12 low)
 
     number_low : number v cell.index e < 2 ^ 32
     number_low =
         let count = is.count in
         omega (arith, rank_low v.grid (heights v) (cell_edge v.grid cell.index e), edge_in v.grid cell.index e (cell_placed v.grid cell h).known low)
 
-    has_text : HasText t e
-    has_text =
-        has_number e (number v cell.index e) (omega arith) (omega (arith, slot_is e, are.each e low, slot_low cell.low.y cell.low.z e low, h.x, is.x.most)) number_low text_is
+    edge_numbered : IsNumbered e (number v cell.index e)
+    edge_numbered =
+        numbered_by e (number v cell.index e) (omega (arith, slot_is, slot_low cell.low.y cell.low.z e low, h.x, is.x.most)) number_low
+        (ap (text_at texts) (ap (λ n. n + 3 * cell.low.x) slot_is) ∙ edge_laid _ _ v cell h around e low crossing)
 
   -- the centres, from the number of the first one
   module _ (first count : ℕ) (few : count ≤ 4) (small : first + 4 ≤ 2 ^ 32)
-      (centres : (i : ℕ) → i < count → text_at t.texts.now (12312 + 3 * cell.low.x + i) ≡ corner_text style.format (first + i)) where
+      (centres : (i : ℕ) → i < count → text_at texts (12312 + 3 * cell.low.x + i) ≡ corner_text style.format (first + i)) where
     abbrev pub named : ℕ → ℕ
     named = corner_number (numbers v cell.index) first
 
-    module _ (c : ℕ) (from : 12 ≤ c) (to : c < 12 + count) where
-      slot_at : get_or t.slots.now c 0 ≡ 12312 + (c - 12)
-      slot_at =
-          let same : 12 + (c - 12) ≡ c = omega arith in
-          ap (λ c. get_or t.slots.now c 0) (sym same) ∙ are.centres (c - 12) (omega (arith, from, to, few))
+    centre_named : (c : ℕ) → 12 ≤ c → c < 12 + count → IsNumbered c (named c)
+    centre_named c from to =
+        let slot_is : corner_slot cell.low.y cell.low.z c ≡ 12300 + c = ap (λ b. if b then edge_slot cell.low.y cell.low.z c else 12300 + c) (le-ltb c 12 from) in
+        let there : slot c ≡ 12312 + 3 * cell.low.x + (c - 12) = omega (arith, slot_is, from) in
+        let name : first + (c - 12) ≡ named c = sym (ap (λ b. if b then get_or (numbers v cell.index) c 0 else first + (c - 12)) (le-ltb c 12 from)) in
+        subst (IsNumbered c) name
+        (numbered_by c (first + (c - 12)) (omega (arith, slot_is, to, few, h.x, is.x.most)) (omega (arith, small, to, few, from))
+        (ap (text_at texts) there ∙ centres (c - 12) (omega (arith, from, to))))
 
-      centre_text : cell_text t c ≡ corner_text style.format (first + (c - 12))
-      centre_text =
-          let there : get_or t.slots.now c 0 + 3 * cell.low.x ≡ 12312 + 3 * cell.low.x + (c - 12) = omega (arith, slot_at) in
-          ap (text_at t.texts.now) (slot_is c ∙ there) ∙ centres (c - 12) (omega (arith, from, to))
-
-      centre_named : cell_text t c ≡ corner_text style.format (named c)
-      centre_named = centre_text ∙ ap (corner_text style.format) (sym (ap (λ b. if b then get_or (numbers v cell.index) c 0 else first + (c - 12)) (le-ltb c 12 from)))
-
-      centre_has : HasText t c
-      centre_has =
-          has_number c (first + (c - 12)) (omega (arith, to, few)) (omega (arith, slot_is c, slot_at, to, few, h.x, is.x.most)) (omega (arith, small, to, few)) centre_text
-
-    edge_named : (e : ℕ) → e < 12 → cell_text t e ≡ corner_text style.format (number v cell.index e) → cell_text t e ≡ corner_text style.format (named e)
-    edge_named e low there =
-        there ∙ ap (corner_text style.format) (sym (ap (λ b. if b then get_or (numbers v cell.index) e 0 else first + (e - 12)) (lt-ltb e 12 low) ∙ numbers_are v cell.index e low))
+    edge_named : (e : ℕ) → e < 12 → crosses (cell_signs v.grid (heights v) cell.index) e ≡ true → IsNumbered e (named e)
+    edge_named e low c =
+        let name : number v cell.index e ≡ named e
+        = sym (ap (λ b. if b then get_or (numbers v cell.index) e 0 else first + (e - 12)) (lt-ltb e 12 low) ∙ numbers_are v cell.index e low) in
+        subst (IsNumbered e) name (edge_numbered e low c)
 
     module _ (n : ℕ) (case : n < 656) (same : row_loops n ≡ loops_at v cell.index) (all : count ≡ sum_by centres_of (row_loops n)) where
       loop_at : (i : ℕ) (d : List ℕ) → i < length (row_loops n) → get_or (row_loops n) i d ≡ get_or (loops_at v cell.index) i []
@@ -181,22 +174,15 @@ module _ (v : Leveled) (is : IsGrid v.grid) (style : Style) (cell : Cell) (h : I
       low_at : (i : ℕ) → i < length (row_loops n) → i < length (loops_at v cell.index)
       low_at i low = subst (λ n. i < n) (ap length same) low
 
-      each_edge : (P : ℕ → Type 0) → ((e : ℕ) → e < 12 → crosses (cell_signs v.grid (heights v) cell.index) e ≡ true → P e) → All (All P) (row_loops n)
-      each_edge P has i d low =
+      each_edge : All (All (λ e. IsNumbered e (named e))) (row_loops n)
+      each_edge i d low =
           let loop = loop_is v cell.index i (low_at i low) in
           let cross = loop_crosses v cell.index i (low_at i low) in
-          subst (All P) (sym (loop_at i d low)) (λ k d below. has _ (loop.low k d below) (cross.each k d below))
+          subst (All (λ e. IsNumbered e (named e))) (sym (loop_at i d low)) (λ k d below. edge_named _ (loop.low k d below) (cross.each k d below))
 
-      -- each corner of the triangles of the cell has a text
-      pub corners_have : All (All (HasText t)) (row_faces n)
-      corners_have = corners_each (HasText t) n case (each_edge (HasText t) has_text) (λ c from to. centre_has c from (omega (arith, to, all)))
-
-      -- that of its number
-      pub corners_are : All (All (λ c. cell_text t c ≡ corner_text style.format (named c))) (row_faces n)
-      corners_are =
-          corners_each (λ c. cell_text t c ≡ corner_text style.format (named c)) n case
-          (each_edge (λ c. cell_text t c ≡ corner_text style.format (named c)) (λ e low c. edge_named e low (text_is e low c)))
-          (λ c from to. centre_named c from (omega (arith, to, all)))
+      -- each corner of the triangles of the cell has the text of its number
+      pub corners_named : All (All (λ c. IsNumbered c (named c))) (row_faces n)
+      corners_named = corners_each (λ c. IsNumbered c (named c)) n case each_edge (λ c from to. centre_named c from (omega (arith, to, all)))
 
 row_slot_low : (y z : ℕ) → row_slot y z ≤ 9234
 row_slot_low y z = omega arith

@@ -1,9 +1,7 @@
 -- A row of cells as the code holds it.
 use Rattle.std.specs.Prelude.{◌≡◌, ℕ, ◌+◌, ◌<◌, ◌≤◌, length, take}
-use Rattle.iso_defs.specs.Grid.{Grid}
 use Rattle.flat_mesh.specs.Lattice.{Leveled}
 use Rattle.flat_mesh.specs.Rows.{row_start}
-use Rattle.mesh_lines.specs.RowLines.{RowPlace}
 use Rattle.mesh_rows.specs.Rows.{AreActive}
 use Rattle.mesh_walk.specs.declared.cells.RowCells.{RowCells}
 
@@ -14,12 +12,6 @@ pub record AreCells (v : Leveled) (cells : RowCells) : Type 0 where
   pub start : cells.start ≡ row_start v.grid cells.y cells.z
   pub room : cells.count ≤ length cells.places
   pub cells_are : AreActive v cells.y cells.z (take cells.count cells.places) (take cells.count cells.cases)
-
--- the texts are those of the row of points that begins a row of cells
-pub record AreTexts (g : Grid) (y z : ℕ) (texts : RowPlace) : Type 0 where
-  pub width : texts.count ≡ g.nx
-  pub at_y : texts.y ≡ y
-  pub at_z : texts.z ≡ z
 
 -- the index of its first point
 abbrev pub cells_start : Leveled → RowCells → ℕ

@@ -5,3 +5,5 @@ pub mod Edges
 pub mod Slots
 pub mod Texts
 pub mod Places
+pub mod Listed
+pub mod Fans

@@ -6,10 +6,8 @@ use Rattle.iso_defs.specs.Grid.{Grid, is_cell}
 use Rattle.iso_defs.specs.Rows.{row_count}
 use Rattle.crossing_edges.specs.Flags.{rank}
 use Rattle.edge_points.specs.Rows.{RowNumbers}
-use Rattle.iso_base.specs.declared.format.MeshFormat.{MeshFormat}
 use Rattle.flat_mesh.specs.Faces.{loops_at}
 use Rattle.flat_mesh.specs.Lattice.{Leveled, heights}
-use Rattle.mesh_lines.specs.Triangles.{first_of}
 use Rattle.mesh_rows.specs.Counts.{centres_among}
 use Rattle.mesh_walk.specs.Spans.{edge_count}
 
@@ -47,9 +45,3 @@ cells_cost v cost = cost_before v.grid cost (row_count v.grid)
 pub record HasNumber (v : Leveled) (q next : ℕ) : Type 0 where
   pub number : next ≡ edge_count v + centres_among v 0 q
   pub few : next ≤ edge_count v + 4 * q
-
--- the corner that comes next, as the lines of triangles count them, is that centre
-pub record IsNext (format : MeshFormat) (v : Leveled) (q corner : ℕ) : Type 0 where
-  pub next : ℕ
-  pub number : HasNumber v q next
-  pub is : corner ≡ first_of format + next

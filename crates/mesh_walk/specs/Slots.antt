@@ -1,5 +1,5 @@
 -- What belongs to the crossing edges of the four rows of points round a row of cells, each edge's in a slot of its own.
-use Rattle.std.specs.Prelude.{◌≡◌, ℕ, ◌+◌, ◌*◌, ◌/◌, ◌%◌, ◌<◌, List, true, length, slice_index}
+use Rattle.std.specs.Prelude.{◌≡◌, ℕ, ◌+◌, ◌*◌, ◌/◌, ◌%◌, ◌<◌, List, true, length, nat_lt, if◌then◌else◌, slice_index}
 use Rattle.iso_defs.specs.Cell.{edge_corner}
 use Rattle.iso_defs.specs.Signs.{is_crossing}
 use Rattle.edge_points.specs.Points.{corner_offset}
@@ -14,6 +14,10 @@ row_slot y z = 3078 * (y % 2 + 2 * (z % 2))
 abbrev pub edge_slot : ℕ → ℕ → ℕ → ℕ
 edge_slot y z e = row_slot (y + corner_offset (edge_corner e) 1) (z + corner_offset (edge_corner e) 2)
     + (3 * corner_offset (edge_corner e) 0 + e / 4)
+
+-- the slot of a corner of its triangles: from 12 on a corner is a centre
+abbrev pub corner_slot : ℕ → ℕ → ℕ → ℕ
+corner_slot y z c = if nat_lt c 12 then edge_slot y z c else 12300 + c
 
 -- the slots of a row of points have what is due to its crossing edges, by their names
 pub record AreLaid (at due : ℕ → List ℕ) (v : Leveled) (y z : ℕ) : Type 0 where

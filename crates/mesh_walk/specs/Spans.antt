@@ -10,9 +10,7 @@ use Rattle.iso_defs.specs.Signs.{is_crossing}
 use Rattle.iso_base.specs.Triangles.{triangle_of}
 use Rattle.iso_base.specs.declared.format.MeshFormat.{MeshFormat}
 use Rattle.crossing_edges.specs.Flags.{rank}
-use Rattle.flat_mesh.specs.declared.centres.LoopCentre.{LoopCentre}
 use Rattle.flat_mesh.specs.Found.{numbered}
-use Rattle.flat_mesh.specs.Mesh.{at_centre}
 use Rattle.flat_mesh.specs.Lattice.{Leveled, heights}
 use Rattle.mesh_lines.specs.Lines.{face_line, middle_of, vertex_line}
 use Rattle.mesh_lines.specs.declared.style.Style.{Style}
@@ -77,10 +75,6 @@ all_faces_text format v = faces_text format v 0 (v.grid.nx * row_count v.grid)
 -- the lines of triangles as the code has them
 unfoldable pub face_lines : MeshFormat → List (List ℕ) → List ℕ
 face_lines format faces = flat_map (λ t. face_line format (triangle_of t)) faces
-
--- the lines of centres as the code has them
-unfoldable pub loop_lines : Style → List LoopCentre → List ℕ
-loop_lines style centres = flat_map (λ c. vertex_line style (at_centre c)) centres
 
 -- the lines of all vertices, what stands behind them, and the lines of all triangles, so many as there are
 abbrev pub lines_text : Style → Leveled → ℕ → List ℕ

@@ -1,13 +1,10 @@
 //! A row of cells, by those that may have loops.
 ghost use Rattle.std.specs.Prelude.{◌≡◌, ◌+◌, ◌*◌, ◌<◌, ◌≤◌, false, IsTrue, length};
-ghost use Rattle.flat_mesh.specs.Centres.{IsCellAt};
 ghost use Rattle.flat_mesh.specs.Rows.{row_start};
 ghost use Rattle.mesh_walk.specs.Cells.{AreCells};
 ghost use Rattle.mesh_walk.specs.Numbers.{AreQuiet, AreRowRanks, cost_of_row};
 
 use crate::walk::Walk;
-use flat_mesh::{Cell, Heights};
-use iso_base::Point;
 use mesh_rows::MeshRows;
 use row_lists::POINTS;
 
@@ -33,27 +30,6 @@ impl RowCells {
             count: 0,
             places: [0; POINTS],
             cases: [0; POINTS],
-        }
-    }
-
-    /// The cell at a place of the row.
-    #[inline(always)]
-    pub fn cell<H: Heights>(&self, field: &H, x: u32) -> Cell
-        requires cells { AreCells (H.leveled field.now) self.now }
-        requires x { x + 1 < (H.leveled field.now).grid.nx }
-        ensures cell { IsCellAt (H.leveled field.now).grid result }
-        ensures y { result.low.y ≡ self.now.y }
-        ensures z { result.low.z ≡ self.now.z }
-        ensures index { result.index ≡ row_start (H.leveled field.now).grid self.now.y self.now.z + x }
-    {
-        let _ = field.sizes();
-        Cell {
-            index: self.start + x,
-            low: Point {
-                x,
-                y: self.y,
-                z: self.z,
-            },
         }
     }
 

@@ -1,195 +1,118 @@
-//! The lines of the centres of loops, cell by cell.
-ghost use Rattle.std.specs.Prelude.{◌≡◌, ℕ, ◌+◌, ◌-◌, ◌*◌, ◌<◌, ◌≤◌, IfOk, slice_index};
+//! The lines of the centres of loops: those of a row of cells are listed first, and then written one after the other.
+ghost use Rattle.std.specs.Prelude.{◌≡◌, ◌+◌, ◌*◌, ◌<◌, ◌≤◌, ◌++◌, All, IfOk, map, take};
 ghost use Rattle.iso_defs.specs.Rows.{row_count};
-ghost use Rattle.cell_loops.specs.Loops.{IsLoop, row_loops};
-ghost use Rattle.flat_mesh.specs.Centres.{IsCellAt, loop_centre, loop_centres};
-ghost use Rattle.flat_mesh.specs.Faces.{AllCross, loops_at};
-ghost use Rattle.mesh_lines.specs.Blocks.{Adds, IsBehind};
-ghost use Rattle.mesh_walk.specs.Cells.{AreCells, AreTexts, cells_start};
+ghost use Rattle.cell_loops.specs.Loops.{row_centres};
+ghost use Rattle.case_faces.specs.Fans.{fan_of};
+ghost use Rattle.flat_mesh.specs.Rows.{row_start};
+ghost use Rattle.mesh_lines.specs.Blocks.{Adds};
+ghost use Rattle.mesh_walk.specs.Cells.{AreCells};
+ghost use Rattle.mesh_walk.specs.Fans.{AreFans, seen};
 ghost use Rattle.mesh_walk.specs.Numbers.{AreRowRanks, cells_cost, cost_of_row};
-ghost use Rattle.mesh_walk.specs.Places.{AreCellPlaces, AreRowPlaces, due_to, in_slot};
+ghost use Rattle.mesh_walk.specs.Places.{AreRowPlaces, due_to, in_slot};
 ghost use Rattle.mesh_walk.specs.Slots.{IsReady};
-ghost use Rattle.mesh_walk.specs.Spans.{all_centres_text, centre_line, centres_text, loop_lines, row_centres_text};
+ghost use Rattle.mesh_walk.specs.Spans.{all_centres_text, centres_text, row_centres_text};
 
 use crate::cells::RowCells;
 use crate::places::{CellPlaces, EdgePlaces};
 use crate::ranks::row_at;
-use crate::slots::{Around, edge_slots};
+use crate::slots::{Around, first_slots};
 use crate::walk::Walk;
 use byte_streams::{Failed, Sink};
+use case_faces::{fan_numbers, fans_of};
 use case_table::CaseRow;
-use cell_loops::{centre_count, loop_count, loop_edges};
-use flat_mesh::{Cell, Heights};
+use cell_loops::centre_count;
+use flat_mesh::Heights;
 use mesh_lines::{Block, CentreTexts};
 use mesh_rows::MeshRows;
 
-/// Puts the line of the centre of a loop behind the others. It is the same under any name.
-fn put_centre<H: Heights>(
-    field: &H,
-    texts: &CentreTexts,
-    cell: Cell,
-    places: CellPlaces<'_>,
-    edges: &[u8],
-    block: &mut Block,
-)
-    requires cell { IsCellAt (H.leveled field.now).grid cell }
-    requires texts { AreTexts (H.leveled field.now).grid cell.low.y cell.low.z texts.now }
-    requires places { AreCellPlaces (H.leveled field.now) cell.index places.places.now places.slots.now places.at }
-    requires edges { IsLoop edges.now }
-    requires crossing { AllCross (H.leveled field.now) cell.index edges.now }
-    requires room { block.old.page + 64 ≤ 4096 }
-    ensures put { let v = H.leveled field.now in
-        (n : ℕ) → IsBehind block.old block.new (centre_line texts.now.style v cell.index edges.now n) }
-    ensures few { block.new.page ≤ block.old.page + 64 }
-    ensures bytes { block.new.total ≤ block.old.total + 64 }
+/// So many loops with a centre can be listed: two for each cell of the longest row.
+const FANS: usize = 2052;
+
+/// A loop with a centre of a row of cells: how far its cell is along x, and its number in the table of loops.
+#[derive(Clone, Copy)]
+pub struct RowFan {
+    x: u16,
+    fan: u8,
+}
+
+/// Writes the loops with a centre of a cell, and says where those of the next one go: two are written, and stay as many as there are. So
+/// there is no branch whose way a processor would have to guess.
+#[inline(always)]
+fn put_fans(case: CaseRow, x: u16, fans: &mut [RowFan; FANS], at: usize) -> usize
+    requires room { at + 2 ≤ 2052 }
+    ensures put { map seen (take result fans.new) ≡ map seen (take at fans.old) ++ map (λ l. (x, fan_of l.1)) (row_centres case) }
+    ensures low { All (λ f. f.fan < 115) (take at fans.old) → All (λ f. f.fan < 115) (take result fans.new) }
+    ensures end { result ≤ at + 2 }
+{
+    let [first, second] = fans_of(case);
+    fans[at] = RowFan { x, fan: first };
+    fans[at + 1] = RowFan { x, fan: second };
+    at + centre_count(case) as usize
+}
+
+/// Lists the loops with a centre of a row of cells, and says how many there are.
+fn list_fans<H: Heights>(field: &H, cells: &RowCells, fans: &mut [RowFan; FANS]) -> usize
+    requires cells { AreCells (H.leveled field.now) cells.now }
+    ensures few { result ≤ 2052 }
+    ensures fans { AreFans (H.leveled field.now) cells.now.y cells.now.z (take result fans.new) }
 {
     let _ = field.sizes();
-    let at = places.centre(field, cell, edges);
-    block.push_centre(texts, cell.low.x, &at);
-}
-
-/// Puts the line of the centre of a loop behind the others, if it has one, whatever turn the loop has in its cell.
-fn put_if_centre<H: Heights>(
-    field: &H,
-    texts: &CentreTexts,
-    cell: Cell,
-    places: CellPlaces<'_>,
-    edges: &[u8],
-    block: &mut Block,
-)
-    requires cell { IsCellAt (H.leveled field.now).grid cell }
-    requires texts { AreTexts (H.leveled field.now).grid cell.low.y cell.low.z texts.now }
-    requires places { AreCellPlaces (H.leveled field.now) cell.index places.places.now places.slots.now places.at }
-    requires edges { IsLoop edges.now }
-    requires crossing { AllCross (H.leveled field.now) cell.index edges.now }
-    requires room { block.old.page + 64 ≤ 4096 }
-    ensures put { let v = H.leveled field.now in
-        (turn : ℕ) →
-        IsBehind block.old block.new (loop_lines texts.now.style (loop_centre v cell.index turn edges.now)) }
-    ensures few { block.new.page ≤ block.old.page + 64 }
-    ensures bytes { block.new.total ≤ block.old.total + 64 }
-{
-    if edges.len() > 3 {
-        put_centre(field, texts, cell, places, edges, block);
+    let mut count = 0;
+    for k in 0..cells.count {
+        count = put_fans(CaseRow::of(cells.cases[k]), cells.places[k], fans, count);
     }
+    count
 }
 
-/// Puts the lines of the centres of a cell behind the others.
-fn put_centres<H: Heights>(
-    field: &H,
-    texts: &CentreTexts,
-    cell: Cell,
-    places: CellPlaces<'_>,
-    case: CaseRow,
-    block: &mut Block,
-)
-    requires cell { IsCellAt (H.leveled field.now).grid cell }
-    requires texts { AreTexts (H.leveled field.now).grid cell.low.y cell.low.z texts.now }
-    requires places { AreCellPlaces (H.leveled field.now) cell.index places.places.now places.slots.now places.at }
-    requires loops { row_loops case ≡ loops_at (H.leveled field.now) cell.index }
-    requires room { block.old.page + 256 ≤ 4096 }
-    ensures put { let v = H.leveled field.now in
-        IsBehind block.old block.new (loop_lines texts.now.style (loop_centres v cell.index 0 (row_loops case))) }
-    ensures bytes { block.new.total ≤ block.old.total + 256 }
-{
-    for turn in 0..loop_count(case) {
-        put_if_centre(field, texts, cell, places, loop_edges(case, turn), block);
-    }
-}
-
-/// A row of cells, the texts of its lines, the places on the edges of its cells, and the slots of those of the first
-/// one.
+/// A row of cells: the texts of its lines, the places on the edges round it, and the slots with which these begin.
 #[derive(Clone, Copy)]
 struct CentreRow<'a> {
-    cells: &'a RowCells,
     texts: &'a CentreTexts,
     places: &'a EdgePlaces,
-    slots: &'a [u16; 12],
+    rows: [usize; 4],
 }
 
-impl<'a> CentreRow<'a> {
-    /// The places on the edges of a cell of the row.
-    #[inline(always)]
-    fn cell_places<H: Heights>(self, field: &H, cell: Cell) -> CellPlaces<'a>
-        requires cell { IsCellAt (H.leveled field.now).grid cell }
-        requires places { AreRowPlaces (H.leveled field.now) cell.low.y cell.low.z self.places.now.places
-            self.slots.now }
-        ensures { AreCellPlaces (H.leveled field.now) cell.index result.places.now result.slots.now result.at }
-    {
-        let _ = field;
-        CellPlaces {
-            places: &self.places.places,
-            slots: self.slots,
-            at: 3 * cell.low.x as u16,
-        }
-    }
-}
-
-/// Puts the lines of the centres of the cell listed at a place behind the others, and first makes room for them.
-fn write_cell<H: Heights, K: Sink>(
+/// Puts the lines of the centres of the listed loops of a row of cells behind the others.
+fn write_fans<H: Heights, K: Sink>(
     field: &H,
     row: CentreRow<'_>,
-    k: usize,
+    fans: &[RowFan],
     block: &mut Block,
     sink: &mut K,
 ) -> Result<(), Failed>
-    requires cells { AreCells (H.leveled field.now) row.cells.now }
-    requires texts { AreTexts (H.leveled field.now).grid row.cells.now.y row.cells.now.z row.texts.now }
-    requires places { let cells = row.cells.now in
-        AreRowPlaces (H.leveled field.now) cells.y cells.z row.places.now.places row.slots.now }
-    requires k { k < row.cells.now.count }
+    requires y { row.texts.now.y + 1 < (H.leveled field.now).grid.ny }
+    requires z { row.texts.now.z + 1 < (H.leveled field.now).grid.nz }
+    requires width { row.texts.now.count ≡ (H.leveled field.now).grid.nx }
+    requires places { AreRowPlaces (H.leveled field.now) row.texts.now.y row.texts.now.z row.places.now.places row.rows }
+    requires fans { AreFans (H.leveled field.now) row.texts.now.y row.texts.now.z fans.now }
     ensures adds { let v = H.leveled field.now in
-        let cells = row.entry.cells.now in
+        let texts = row.entry.texts.now in
         Adds (K.seen sink.old) (K.seen sink.new) block.old block.new result
-        (centres_text row.entry.texts.now.style v (cells_start v cells + slice_index cells.places k) 1) }
-    ensures bytes { IfOk result (λ _. block.new.total ≤ block.old.total + 256) }
-{
-    let case = CaseRow::of(row.cells.cases[k]);
-    if centre_count(case) == 0 {
-        return Ok(());
-    }
-    block.reserve(sink)?;
-    let cell = row.cells.cell(field, row.cells.places[k] as u32);
-    put_centres(
-        field,
-        row.texts,
-        cell,
-        row.cell_places(field, cell),
-        case,
-        block,
-    );
-    Ok(())
-}
-
-/// Puts the lines of the centres of a row of cells behind the others.
-fn write_cells<H: Heights, K: Sink>(
-    field: &H,
-    row: CentreRow<'_>,
-    block: &mut Block,
-    sink: &mut K,
-) -> Result<(), Failed>
-    requires cells { AreCells (H.leveled field.now) row.cells.now }
-    requires texts { AreTexts (H.leveled field.now).grid row.cells.now.y row.cells.now.z row.texts.now }
-    requires places { let cells = row.cells.now in
-        AreRowPlaces (H.leveled field.now) cells.y cells.z row.places.now.places row.slots.now }
-    ensures adds { let v = H.leveled field.now in
-        Adds (K.seen sink.old) (K.seen sink.new) block.old block.new result
-        (centres_text row.entry.texts.now.style v (cells_start v row.entry.cells.now) v.grid.nx) }
+        (centres_text texts.style v (row_start v.grid texts.y texts.z) v.grid.nx) }
     ensures bytes { IfOk result (λ _. block.new.total ≤ block.old.total + 256 * (H.leveled field.now).grid.nx) }
 {
     let _ = field.sizes();
-    for k in 0..row.cells.count {
-        write_cell(field, row, k, block, sink)?;
+    for k in 0..fans.len() {
+        block.reserve(sink)?;
+        let fan = fans[k];
+        let places = CellPlaces {
+            places: &row.places.places,
+            rows: row.rows,
+            at: 3 * fan.x as usize,
+        };
+        let at = places.centre(fan_numbers(fan.fan));
+        block.push_centre(row.texts, u32::from(fan.x), &at);
     }
     Ok(())
 }
 
-/// What is known of a row of cells, of which two rows of points may stay for the next one.
+/// What is known of a row of cells, of which two rows of points may stay for the next one. `fans` is a buffer for its loops.
 #[derive(Drop)]
 struct Centres {
     cells: RowCells,
     texts: CentreTexts,
     places: Around<EdgePlaces>,
+    fans: [RowFan; FANS],
 }
 
 /// Puts the lines of the centres of the row of cells that a row of points begins behind the others.
@@ -227,13 +150,13 @@ fn write_row<R: MeshRows, K: Sink>(
     }
     centres.places.turn_to(rows, walk, block, y, z);
     centres.texts.turn_to(y, z, block);
+    let count = list_fans(rows, &centres.cells, &mut centres.fans);
     let row = CentreRow {
-        cells: &centres.cells,
         texts: &centres.texts,
         places: &centres.places.slots,
-        slots: &edge_slots(y, z),
+        rows: first_slots(y, z),
     };
-    write_cells(rows, row, block, sink)
+    write_fans(rows, row, &centres.fans[..count], block, sink)
 }
 
 /// Puts the lines of all centres behind the others.
@@ -259,6 +182,7 @@ pub fn write_centres<R: MeshRows, K: Sink>(
         cells: RowCells::new(),
         texts: CentreTexts::new(walk.style, sizes.nx(), block),
         places: Around::of(EdgePlaces::new()),
+        fans: [RowFan { x: 0, fan: 0 }; FANS],
     };
     for row in 0..sizes.ny() * sizes.nz() {
         write_row(rows, walk, row, &mut centres, block, sink)?;

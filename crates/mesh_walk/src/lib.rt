@@ -4,6 +4,7 @@
 
 mod cells;
 mod centres;
+mod corners;
 mod edges;
 mod faces;
 mod places;

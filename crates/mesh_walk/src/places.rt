@@ -1,112 +1,91 @@
 //! Where crossing edges are crossed, and where the centres of loops are by that, relative to their cells.
-ghost use Rattle.std.specs.Prelude.{◌≡◌, ℕ, ◌+◌, ◌*◌, ◌<◌, ◌≤◌, true, All, slice_index, take};
-ghost use Rattle.iso_defs.specs.Cell.{cell_signs, crosses};
-ghost use Rattle.cell_loops.specs.Loops.{IsLoop};
-ghost use Rattle.flat_mesh.specs.Centres.{IsCellAt, cell_place, local_mean};
-ghost use Rattle.flat_mesh.specs.Faces.{AllCross};
-ghost use Rattle.flat_mesh.specs.Lattice.{heights};
+ghost use Rattle.std.specs.Prelude.{◌≡◌, ℕ, List, ◌+◌, ◌*◌, ◌%◌, ◌<◌, ◌≤◌, length, slice_index, take};
+ghost use Rattle.case_faces.specs.Fans.{fan_of};
 ghost use Rattle.mesh_rows.specs.Rows.{AreEdges, row_places};
-ghost use Rattle.mesh_walk.specs.Places.{AreCellPlaces, due_to, in_slot, lanes_of};
+ghost use Rattle.mesh_walk.specs.Places.{ArePlaced, IsCentre, axis_sum, due_to, in_slot, slot_place};
 ghost use Rattle.mesh_walk.specs.Slots.{AreLaid, row_slot};
 
 use crate::edges::set_places;
-use crate::slots::{SLOTS, Slots, row_slot};
+use crate::slots::{Slots, row_slot};
 use crate::walk::Walk;
 use edge_points::rounded_mean;
-use flat_mesh::{Cell, Heights};
+use flat_mesh::Heights;
 use mesh_lines::Block;
 use mesh_rows::MeshRows;
 use row_lists::EDGES;
+use std::simd::prelude::*;
 
-/// Where the edges of a cell begin, in thousandths from its lowest point. One number has all three coordinates, that
-/// along x in its lowest 16 bits, then that along y and that along z. So the three sums of a loop are one sum.
-const BEGIN: [u64; 12] = [
-    0,
-    65_536_000,
-    4_294_967_296_000,
-    4_295_032_832_000,
-    0,
-    1000,
-    4_294_967_296_000,
-    4_294_967_297_000,
-    0,
-    1000,
-    65_536_000,
-    65_537_000,
-];
+/// So many numbers hold the places: two more than there are slots, so that eight can be read from each cell on.
+const PLACES: usize = 12_314;
 
-/// And what a thousandth along each edge adds to that.
-const UNITS: [u64; 12] = [
-    1,
-    1,
-    1,
-    1,
-    65_536,
-    65_536,
-    65_536,
-    65_536,
-    4_294_967_296,
-    4_294_967_296,
-    4_294_967_296,
-    4_294_967_296,
-];
-
-/// Where the crossing of an edge of a cell is, in thousandths from the cell's lowest point, by its place on the edge.
-#[inline(always)]
-fn lanes(edge: u8, place: u16) -> u64
-    requires edge { edge < 12 }
-    requires place { place ≤ 1000 }
-    ensures { result ≡ lanes_of (λ _. place) edge }
-{
-    BEGIN[edge as usize] + UNITS[edge as usize] * u64::from(place)
-}
-
-/// The places on the edges of a cell: they stand in slots, so far behind those of the first cell of its row.
+/// The places on the edges round a cell. Those of the four rows of points stand in slots, so far behind those of the first cell of its
+/// row, with which the rows begin.
 #[derive(Clone, Copy)]
 pub struct CellPlaces<'a> {
-    pub places: &'a [u16; SLOTS],
-    pub slots: &'a [u16; 12],
-    pub at: u16,
+    pub places: &'a [u16; PLACES],
+    pub rows: [usize; 4],
+    pub at: usize,
 }
 
 impl<'a> CellPlaces<'a> {
-    /// Where the crossing of an edge is.
+    /// The places on the edges that begin in a row of points, by their weights.
     #[inline(always)]
-    fn lanes<H: Heights>(self, field: &H, cell: Cell, edge: u8) -> u64
-        requires places { AreCellPlaces (H.leveled field.now) cell.index self.places.now self.slots.now self.at }
-        requires edge { edge < 12 }
-        requires crossing { let v = H.leveled field.now in
-            crosses (cell_signs v.grid (heights v) cell.index) edge ≡ true }
-        ensures { result ≡ lanes_of (cell_place (H.leveled field.now) cell.index) edge }
+    fn weighted(self, fan: &[u16; 40], row: usize) -> u16x8
+        requires row { row < 4 }
+        requires room { slice_index self.rows row + self.at + 8 ≤ 12314 }
+        ensures eight { length result ≡ 8 }
+        ensures lanes { (s : ℕ) → s < 8 → slice_index result s
+            ≡ (slot_place self.entry.places.now self.entry.rows self.entry.at (8 * row + s) * slice_index fan.now (8 * row + s))
+            % 65536 }
     {
-        let _ = field;
-        lanes(
-            edge,
-            self.places[(self.slots[edge as usize] + self.at) as usize],
-        )
+        let from = self.rows[row] + self.at;
+        let places = self.places;
+        let eight = u16x8::from_slice(&places[from..from + 8]);
+        eight * u16x8::from_slice(&fan[8 * row..8 * row + 8])
     }
 
-    /// The centre of a loop.
+    /// Those of the four rows together.
     #[inline(always)]
-    pub fn centre<H: Heights>(self, field: &H, cell: Cell, edges: &[u8]) -> [u32; 3]
-        requires cell { IsCellAt (H.leveled field.now).grid cell }
-        requires places { AreCellPlaces (H.leveled field.now) cell.index self.places.now self.slots.now self.at }
-        requires edges { IsLoop edges.now }
-        requires crossing { AllCross (H.leveled field.now) cell.index edges.now }
-        ensures x { slice_index result 0 ≡ local_mean (cell_place (H.leveled field.now) cell.index) 0 edges.now }
-        ensures y { slice_index result 1 ≡ local_mean (cell_place (H.leveled field.now) cell.index) 1 edges.now }
-        ensures z { slice_index result 2 ≡ local_mean (cell_place (H.leveled field.now) cell.index) 2 edges.now }
-        ensures bound { All (λ c. c ≤ 1000) result }
+    fn summed(self, fan: &[u16; 40]) -> u16x8
+        requires room { (row : ℕ) → row < 4 → slice_index self.rows row + self.at + 8 ≤ 12314 }
+        ensures eight { length result ≡ 8 }
+        ensures lanes { let places = slot_place self.entry.places.now self.entry.rows self.entry.at in
+            let part = λ (i : ℕ). places i * slice_index fan.now i in
+            (s : ℕ) → s < 8 → slice_index result s ≡ (part s + part (8 + s) + part (16 + s) + part (24 + s)) % 65536 }
     {
-        let mut sum = 0;
-        for edge in edges {
-            sum += self.lanes(field, cell, *edge);
-        }
-        let count = edges.len() as u32;
+        let near = self.weighted(fan, 0) + self.weighted(fan, 1);
+        let far = self.weighted(fan, 2) + self.weighted(fan, 3);
+        near + far
+    }
+
+    /// The sums of the coordinates of the vertices of a loop, in the first three numbers. Eight numbers are summed up at once, as many
+    /// as edges can begin at two points: so there is no branch whose way a processor would have to guess.
+    #[inline(always)]
+    fn sums(self, fan: &[u16; 40]) -> [u16; 8]
+        requires room { (row : ℕ) → row < 4 → slice_index self.rows row + self.at + 8 ≤ 12314 }
+        ensures { (axis : ℕ) → axis < 3 → slice_index result axis
+            ≡ axis_sum (slot_place self.entry.places.now self.entry.rows self.entry.at) fan.now axis % 65536 }
+    {
+        let sums = self.summed(fan);
+        let begins = u16x8::from_slice(&fan[32..40]);
+        (sums + sums.rotate_elements_left::<3>() + begins).to_array()
+    }
+
+    /// The centre of a loop, by its numbers.
+    #[inline(always)]
+    pub fn centre(self, fan: &[u16; 40]) -> [u32; 3]
+        requires room { (row : ℕ) → row < 4 → slice_index self.rows row + self.at + 8 ≤ 12314 }
+        requires some { 0 < slice_index fan.now 39 }
+        requires few { slice_index fan.now 39 ≤ 12 }
+        ensures { (place : ℕ → ℕ) → (edges : List ℕ) → fan.now ≡ fan_of edges
+            → ArePlaced place edges (slot_place self.entry.places.now self.entry.rows self.entry.at) → IsCentre place edges result }
+    {
+        let sums = self.sums(fan);
+        let count = u32::from(fan[39]);
         [
-            rounded_mean((sum % 65_536) as u32, count),
-            rounded_mean((sum / 65_536 % 65_536) as u32, count),
-            rounded_mean((sum / 65_536 / 65_536) as u32, count),
+            rounded_mean(u32::from(sums[0]), count),
+            rounded_mean(u32::from(sums[1]), count),
+            rounded_mean(u32::from(sums[2]), count),
         ]
     }
 }
@@ -118,7 +97,7 @@ fn lay_places<H: Heights>(
     z: u32,
     edges: &[u16],
     row: &[u16],
-    places: &mut [u16; SLOTS],
+    places: &mut [u16; PLACES],
 )
     requires y { y < (H.leveled field.now).grid.ny }
     requires z { z < (H.leveled field.now).grid.nz }
@@ -140,7 +119,7 @@ fn lay_places<H: Heights>(
 /// ends. The other fields are buffers for a row: its crossing edges by their offsets, and their places.
 #[derive(Drop)]
 pub struct EdgePlaces {
-    pub places: [u16; SLOTS],
+    pub places: [u16; PLACES],
     pub edges: [u16; EDGES],
     pub row: [u16; EDGES],
 }
@@ -149,7 +128,7 @@ impl EdgePlaces {
     /// Slots in which nothing is laid.
     pub fn new() -> EdgePlaces {
         EdgePlaces {
-            places: [0; SLOTS],
+            places: [0; PLACES],
             edges: [0; EDGES],
             row: [0; EDGES],
         }

@@ -1,5 +1,5 @@
 //! What belongs to the crossing edges of the four rows of points round a row of cells, each edge's in a slot of its own.
-ghost use Rattle.std.specs.Prelude.{◌≡◌, ℕ, List, ◌+◌, ◌*◌, ◌<◌, ◌≤◌, slice_index};
+ghost use Rattle.std.specs.Prelude.{◌≡◌, ℕ, List, [], ◌∷◌, ◌+◌, ◌*◌, ◌<◌, ◌≤◌, slice_index};
 ghost use Rattle.iso_base.specs.Sizing.{IsGrid};
 ghost use Rattle.flat_mesh.specs.Lattice.{Leveled};
 ghost use Rattle.mesh_lines.specs.declared.style.Style.{Style};
@@ -27,6 +27,20 @@ pub fn row_slot(y: u32, z: u32) -> usize
     ensures bound { result ≤ 9234 }
 {
     3078 * (y % 2 + 2 * (z % 2)) as usize
+}
+
+/// The first slots of the four rows of points round a row of cells.
+pub fn first_slots(y: u32, z: u32) -> [usize; 4]
+    requires y { y < 1026 }
+    requires z { z < 1026 }
+    ensures { result ≡ row_slot y z ∷ row_slot (y + 1) z ∷ row_slot y (z + 1) ∷ row_slot (y + 1) (z + 1) ∷ [] }
+{
+    [
+        row_slot(y, z),
+        row_slot(y + 1, z),
+        row_slot(y, z + 1),
+        row_slot(y + 1, z + 1),
+    ]
 }
 
 /// The slots of the edges of the first cell of a row.

@@ -1,19 +1,23 @@
 //! The texts of the numbers of crossing edges and of centres, each in its slot.
-ghost use Rattle.std.specs.Prelude.{◌≡◌, ℕ, ◌+◌, ◌<◌, ◌≤◌, ◌^◌, ◌∷◌, ◌++◌, [], All, decimal, length, slice_index};
-ghost use Rattle.byte_names.specs.Bytes.{space};
+ghost use Rattle.std.specs.Prelude.{◌≡◌, ℕ, ◌+◌, ◌<◌, ◌≤◌, ◌^◌, All, length, slice_index};
 ghost use Rattle.mesh_text.specs.Numbers.{text_at};
 ghost use Rattle.mesh_lines.specs.Triangles.{corner_text};
+ghost use Rattle.mesh_walk.specs.Cells.{AreCells, cells_start};
+ghost use Rattle.mesh_walk.specs.Numbers.{HasNumber};
 ghost use Rattle.mesh_walk.specs.Slots.{AreApart};
-ghost use Rattle.mesh_walk.specs.Texts.{number_due};
+ghost use Rattle.mesh_walk.specs.Texts.{HasCentres, number_due};
 
-use crate::slots::{Slots, TEXTS, row_slot};
+use crate::cells::RowCells;
+use crate::corners::list_centres;
+use crate::slots::{CENTRES, Slots, TEXTS, row_slot};
 use crate::walk::Walk;
+use flat_mesh::Heights;
 use mesh_lines::{Block, Style};
 use mesh_rows::MeshRows;
-use mesh_text::{Counter, Number};
+use mesh_text::Number;
 use row_lists::EDGES;
 
-/// Sets the texts of the numbers of edges, from that of the first one on, in their slots, which begin at a place.
+/// Sets the texts of the numbers of edges or of centres, from that of the first one on, in their slots, which begin at a place.
 fn set_texts(
     block: &Block,
     style: Style,
@@ -25,7 +29,7 @@ fn set_texts(
     requires low { All (λ e. e < 3078) edges.now }
     requires apart { AreApart edges.now }
     requires few { number + length edges.now < 2 ^ 32 }
-    requires first { first ≤ 9234 }
+    requires first { first ≤ 12312 }
     ensures set { (k : ℕ) → k < length edges.now
         → text_at texts.new (first + slice_index edges.now k) ≡ corner_text style.format (number + k) }
     ensures before { (i : ℕ) → i < first → text_at texts.new i ≡ text_at texts.old i }
@@ -38,33 +42,11 @@ fn set_texts(
     }
 }
 
-/// Sets the texts of the numbers of so many centres of a cell, in the slots from a place on, behind those of all edges.
-#[inline(always)]
-pub fn set_centres(
-    block: &Block,
-    corners: &mut Counter,
-    count: u8,
-    first: usize,
-    texts: &mut [Number; TEXTS],
-)
-    requires few { count ≤ 4 }
-    requires low { corners.old + 4 ≤ 2 ^ 32 }
-    requires first { 12312 ≤ first }
-    requires room { first + 4 ≤ 15390 }
-    ensures set { (k : ℕ) → k < count → text_at texts.new (first + k) ≡ decimal (corners.old + k) ++ space ∷ [] }
-    ensures edges { (i : ℕ) → i < 12312 → text_at texts.new i ≡ text_at texts.old i }
-    ensures next { corners.new ≡ corners.old + count }
-{
-    for k in 0..usize::from(count) {
-        block.set_next(corners, &mut texts[first + k]);
-    }
-}
-
 /// The texts of the numbers of the crossing edges of the rows of points round a row of cells, with a buffer.
 #[derive(Drop)]
 pub struct NumberTexts {
     pub texts: [Number; TEXTS],
-    edges: [u16; EDGES],
+    offsets: [u16; EDGES],
 }
 
 impl NumberTexts {
@@ -72,8 +54,39 @@ impl NumberTexts {
     pub fn new() -> NumberTexts {
         NumberTexts {
             texts: [Number::none(); TEXTS],
-            edges: [0; EDGES],
+            offsets: [0; EDGES],
         }
+    }
+
+    /// Sets the texts of the numbers of the centres of a row's cells, from that of the first one on, and says how many there are.
+    pub fn set_centres<H: Heights>(
+        &mut self,
+        field: &H,
+        cells: &RowCells,
+        style: Style,
+        number: u32,
+        block: &Block,
+    ) -> u32
+        requires cells { AreCells (H.leveled field.now) cells.now }
+        requires number { let v = H.leveled field.now in HasNumber v (cells_start v cells.now) number }
+        ensures centres { let v = H.leveled field.now in
+            (k : ℕ) → k < cells.now.count → HasCentres style.format v cells.now self.new.texts k }
+        ensures edges { (i : ℕ) → i < 12312 → text_at self.new.texts i ≡ text_at self.old.texts i }
+        ensures next { let v = H.leveled field.now in
+            HasNumber v (cells_start v cells.now + v.grid.nx) (number + result) }
+        ensures few { number + result < 2 ^ 32 }
+    {
+        let _ = field.sizes();
+        let count = list_centres(cells, &mut self.offsets);
+        set_texts(
+            block,
+            style,
+            &self.offsets[..count],
+            number,
+            usize::from(CENTRES),
+            &mut self.texts,
+        );
+        count as u32
     }
 }
 
@@ -88,8 +101,8 @@ impl Slots for NumberTexts {
             return;
         }
         let before = walk.edges_to_row(rows, y, z);
-        let count = rows.list_edges(y, z, &mut self.edges);
-        let edges = &self.edges[..count];
+        let count = rows.list_edges(y, z, &mut self.offsets);
+        let edges = &self.offsets[..count];
         set_texts(
             block,
             walk.style,

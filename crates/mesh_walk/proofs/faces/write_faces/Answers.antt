@@ -24,6 +24,7 @@ loop-row-init g c =
       adds = adds_as _ _ _ _ _ _ _ (ap (λ n. faces_text c.args.walk.style.format v 0 n) z) (run_none (triangle_lines c.args.walk.style.format v) (is_cell v.grid) 0 _ _ tt);
       bytes = omega arith;
       ready = c.of.ensures.ready c.args.walk.style v c.sizes-sizes.ensures.leveled.grid;
+      slots = c.fill.ensures;
       next = subst (λ q. HasNumber v q c.args.walk.total) z (first_number v c.args.walk.total c.requires.ranks.all);
       volume = refl;
       kept = refl;
@@ -93,6 +94,7 @@ loop-row-preserved g c =
       bytes = omega (arith, nx, c.loop-row.invariant.bytes, c.in_ok-write_row.ensures.bytes);
       ready = subst (λ (v : Leveled). IsReady (text_at c.write_row.new.faces.texts.slots.texts) (number_due c.args.walk.style v) v c.write_row.new.faces.texts.next)
           c.loop-row.invariant.volume c.in_ok-write_row.ensures.ready;
+      slots = c.in_ok-write_row.ensures.slots;
       next = subst (λ (v : Leveled). HasNumber v (v.grid.nx * (c.loop-row.row + 1)) c.write_row.new.faces.next) c.loop-row.invariant.volume c.in_ok-write_row.ensures.next;
       volume = c.in_ok-write_row.ensures.volume ∙ c.loop-row.invariant.volume;
       kept = c.in_ok-write_row.ensures.kept ∙ c.loop-row.invariant.kept;

@@ -1,6 +1,7 @@
 use Rattle.std.proofs.Common.{◌≡◌, ◌+◌, ◌*◌, ◌≤◌, Ok}
 use Rattle.mesh_text.specs.Numbers.{text_at}
 use Rattle.mesh_lines.specs.Blocks.{Adds}
+use Rattle.mesh_walk.specs.Listed.{HaveCorners}
 use Rattle.mesh_walk.specs.Numbers.{HasNumber, cost_before}
 use Rattle.mesh_walk.specs.Slots.{IsReady}
 use Rattle.mesh_walk.specs.Spans.{faces_text}
@@ -14,6 +15,7 @@ invariant-loop-row g l =
       adds : Adds {T = Unit {0}} (g.K.Sink.seen l.fn.sink) (g.K.Sink.seen l.sink) l.fn.block l.block (Ok tt) (faces_text l.walk.style.format v 0 (v.grid.nx * l.row));
       bytes : l.block.total ≤ l.fn.block.total + 3072 * (v.grid.nx * l.row);
       ready : IsReady (text_at l.faces.texts.slots.texts) (number_due l.walk.style v) v l.faces.texts.next;
+      slots : HaveCorners l.faces.slots.tables;
       next : HasNumber v (v.grid.nx * l.row) l.faces.next;
       volume : g.R.Heights.leveled l.rows ≡ v;
       kept : g.R.MeshRows.kept l.rows ≡ g.R.MeshRows.kept l.fn.rows;

@@ -23,16 +23,11 @@ returns-then-not-find-clause-next g c =
     let quiet = subst (λ a. AreQuiet v a v.grid.nx) (ap (λ n. v.grid.nx * n) at.row_is) (c.find.ensures.quiet c.if-not-find.true) in
     quiet_number v (v.grid.nx * c.args.row) v.grid.nx (v.grid.nx * (c.args.row + 1)) c.args.faces.now.next quiet (omega arith) c.requires.next
 
-pub returns-in_err-faces-clause-ready : goal.returns-in_err-faces-clause-ready
-returns-in_err-faces-clause-ready g c =
-    let v = g.R.Heights.leveled c.args.rows.now in
-    let due = number_due c.args.walk.style v in
-    let ready : IsReady (text_at c.turn_to.new.self.slots.texts) due v c.turn_to.new.self.next = search rules in
-    ready_still v c.sizes-sizes.ensures.leveled.grid (text_at c.turn_to.new.self.slots.texts) (text_at c.write.new.texts) due c.write.ensures.edges c.turn_to.new.self.next ready
-
 pub returns-clause-ready : goal.returns-clause-ready
 returns-clause-ready g c =
     let v = g.R.Heights.leveled c.args.rows.now in
     let due = number_due c.args.walk.style v in
     let ready : IsReady (text_at c.turn_to.new.self.slots.texts) due v c.turn_to.new.self.next = search rules in
-    ready_still v c.sizes-sizes.ensures.leveled.grid (text_at c.turn_to.new.self.slots.texts) (text_at c.write.new.texts) due c.write.ensures.edges c.turn_to.new.self.next ready
+    let texts = text_at c.write.new.self.texts.slots.texts in
+    subst (IsReady texts due v) (sym c.write.ensures.row)
+    (ready_still v c.sizes-sizes.ensures.leveled.grid (text_at c.turn_to.new.self.slots.texts) texts due c.write.ensures.edges c.turn_to.new.self.next ready)
