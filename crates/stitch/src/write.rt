@@ -21,7 +21,7 @@ use mesh_walk::write_mesh;
 use span_tree::SpanTree;
 use std::sync::ledger::Ledger;
 use stitch_rows::{CellRows, Field};
-use store_rows::StoreRows;
+use store_rows::{ListRoom, NUMBERS, PLACES, StoreRows};
 
 /// Where the coordinates of the mesh of a volume are counted from.
 fn origin_of(store: &BrickStore) -> Origin
@@ -57,7 +57,18 @@ fn write_in<R: CellRows, K: Sink, L: Ledger>(
 {
     // Reading the sizes brings in what is true of every volume at a level.
     let _ = field.sizes();
-    let mut store = StoreRows::new(field, rows, steps);
+    // Buffers, made here so that they are never moved.
+    let mut tags = [0; PLACES];
+    let mut starts = [0; PLACES];
+    let mut counts = [0; PLACES];
+    let mut numbers = [0; NUMBERS];
+    let room = ListRoom {
+        tags: &mut tags,
+        starts: &mut starts,
+        counts: &mut counts,
+        numbers: &mut numbers,
+    };
+    let mut store = StoreRows::new(field, rows, room, steps);
     write_mesh(&mut store, style, ranks, sink)
 }
 

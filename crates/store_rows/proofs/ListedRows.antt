@@ -1,47 +1,17 @@
--- The crossing edges and the active cells of a row, counted and listed.
-use Rattle.std.proofs.Common.{◌≡◌, ℕ, zero, suc, ◌+◌, ◌-◌, ◌*◌, ◌<◌, ◌≤◌, not, Bool, List, [], ◌++◌, All, take, map, length, get_or, ℤ, eqb, sym, subst, ◌∙◌, ap, ap₂, arith, zero-add}
-use Rattle.std.specs.Borrow.{GName}
-use Rattle.std.specs.List.{count_by, range_with_len, sum_by}
-use Rattle.std.proofs.lemmas.List.{ext_get_or, get_or-map, get_or-take, get_or_append_left, length-map, length-take-le, take_all}
+-- The crossing edges and the active cells of a row, listed.
+use Rattle.std.proofs.Common.{◌≡◌, ℕ, zero, suc, ◌+◌, ◌-◌, ◌*◌, ◌<◌, ◌≤◌, not, Bool, List, [], ◌++◌, All, take, map, length, get_or, ℤ, eqb, sym, subst, ◌∙◌, ap, ap₂, arith}
+use Rattle.std.proofs.Math.Seq.{take-append_seam}
+use Rattle.std.specs.List.{range_with_len}
+use Rattle.std.proofs.lemmas.List.{ext_get_or, get_or-map, get_or_append_left, length-map}
 use Rattle.std.proofs.lemmas.List.Elements.{All-filter, All-from_get_or}
 use Rattle.std.proofs.lemmas.List.FromFn.{get_or-range_with_len, length-range_with_len}
-use Rattle.std.proofs.lemmas.List.Sums.{length-filter}
 use Rattle.iso_defs.specs.Grid.{Grid, index}
-use Rattle.iso_defs.specs.Signs.{is_crossing}
-use Rattle.iso_defs.proofs.Ranges.{range_append}
-use Rattle.verdict_laws.proofs.Counts.{count-append}
-use Rattle.crossing_edges.specs.Flags.{edges_in, flags_at, flags_from, names_in, rank}
-use Rattle.crossing_edges.proofs.Counting.{length-flags_from, names_empty, names_next, names_none, rank_along}
+use Rattle.crossing_edges.specs.Flags.{flags_at, names_in}
+use Rattle.crossing_edges.proofs.Counting.{names_empty, names_next, names_none}
 use Rattle.flat_mesh.specs.Lattice.{Leveled, heights}
 use Rattle.flat_mesh.specs.Rows.{row_start}
-use Rattle.mesh_rows.specs.Rows.{AreActive, AreCases, AreEdges, AreFlags, IsCaseOf, IsStill, row_names}
-use Rattle.mesh_rows.proofs.FlagEdges.{flags_list}
+use Rattle.mesh_rows.specs.Rows.{AreActive, AreCases, AreEdges, IsCaseOf, IsStill}
 use Rattle.row_lists.specs.Active.{active_among}
-use Rattle.stitch_rows.specs.Named.{Named}
-use Rattle.store_rows.specs.Kept.{StoreKept}
-
--- the names of the edges that begin at some points are counted
-names_ranked : (g : Grid) (s : ℕ → ℤ) (a n : ℕ) → rank g s (3 * (a + n)) ≡ rank g s (3 * a) + length (names_in g s (3 * a) (3 * n))
-unfolding rank names_in
-names_ranked g s a n =
-    let e : 3 * (a + n) ≡ 3 * a + 3 * n = omega arith in
-    let first : ℕ = count_by (is_crossing g s) (range_with_len 0 (3 * a)) in
-    ap (λ n. count_by (is_crossing g s) (range_with_len 0 n)) e
-    ∙ (ap (count_by (is_crossing g s)) (range_append 0 (3 * a) (3 * n))
-    ∙ (count-append (is_crossing g s) (range_with_len 0 (3 * a)) (range_with_len (0 + 3 * a) (3 * n))
-    ∙ (ap (λ b. first + count_by (is_crossing g s) (range_with_len b (3 * n))) (zero-add (3 * a))
-    ∙ ap (λ m. first + m) (sym (length-filter (is_crossing g s) (range_with_len (3 * a) (3 * n)))))))
-
--- by the flags of a row
-pub edges_counted : (v : Leveled) (y z count : ℕ) (flags : List ℕ) → length flags ≡ v.grid.nx → AreFlags v y z flags → count ≡ sum_by edges_in flags → count ≡ length (row_names v y z)
-edges_counted v y z count flags len are sum =
-    let g = v.grid in
-    let a : ℕ = row_start g y z in
-    let all : take g.nx (flags_from g (heights v) a g.nx) ≡ flags
-    = take_all g.nx (flags_from g (heights v) a g.nx) (let l = length-flags_from g (heights v) a g.nx in omega (arith, l)) ∙ sym (flags_list v y z flags len are) in
-    let along : rank g (heights v) (3 * (a + g.nx)) ≡ rank g (heights v) (3 * a) + count
-    = rank_along g (heights v) a g.nx g.nx (omega arith) ∙ ap (λ k. rank g (heights v) (3 * a) + k) (ap (sum_by edges_in) all ∙ sym sum) in
-    omega (arith, along, names_ranked g (heights v) a g.nx)
 
 -- where no edge begins
 names_still : (g : Grid) (s : ℕ → ℤ) (a n : ℕ) → ((x : ℕ) → x < n → flags_at g s (a + x) ≡ 0) → names_in g s (3 * a) (3 * n) ≡ []
@@ -50,9 +20,6 @@ names_still g s a (suc n) none =
     let e : suc n ≡ n + 1 = omega arith in
     ap (λ n. names_in g s (3 * a) (3 * n)) e
     ∙ (names_next g s a n ∙ ap₂ (λ k l. k ++ l) (names_still g s a n (λ x low. none x (omega arith))) (names_none g s (a + n) (none n (omega arith))))
-
-pub still_counted : (v : Leveled) (y z : ℕ) → IsStill v y z → 0 ≡ length (row_names v y z)
-still_counted v y z still = sym (ap length (names_still v.grid (heights v) (row_start v.grid y z) v.grid.nx still.none))
 
 pub still_edges : (v : Leveled) (y z : ℕ) (edges : List ℕ) → IsStill v y z → edges ≡ [] → AreEdges v y z edges
 still_edges v y z edges still none = record {
@@ -83,19 +50,9 @@ places_low cases places n most are few =
     omega (arith, at, within, few)) in
     subst (All (λ x. x < most)) (sym are) (All-filter test (λ x. x < most) (range_with_len 0 n) numbers)
 
--- the flags of a row out of a longer part of a list
-module _ (v : Leveled) (y z n rest : ℕ) (flags : List ℕ) (width : n ≡ v.grid.nx) (room : n ≤ rest) (are : AreFlags v y z flags) where
-  pub part_flags : AreFlags v y z (take n (take rest flags))
-  part_flags x low = get_or-take n (take rest flags) x 0 (omega arith) ∙ (get_or-take rest flags x 0 (omega arith) ∙ are x low)
-
-  pub part_long : rest ≤ length flags → length (take n (take rest flags)) ≡ v.grid.nx
-  part_long long =
-      let inner : length (take rest flags) ≡ rest = length-take-le rest flags long in
-      length-take-le n (take rest flags) (omega (arith, inner)) ∙ width
-
--- what is said of a value that another one is
-pub said : {S : Type 0} {a b : S} → a ≡ b → (P : S → Type 0) → P b → P a
-said e P known = subst P (sym e) known
+-- what is written at the front of a buffer
+pub take_front : (front rest : List ℕ) (n : ℕ) → n ≡ length front → take n (front ++ rest) ≡ front
+take_front front rest n same = ap (λ n. take n (front ++ rest)) same ∙ take-append_seam front rest
 
 -- the active cells of a row, by the cases in a buffer
 pub cells_active : (v : Leveled) (y z n : ℕ) (all places cases : List ℕ) → n ≡ v.grid.nx → AreCases v y z all → places ≡ active_among all 0 (n - 1)
@@ -106,7 +63,3 @@ cells_active v y z n all places cases width are listed gathered = record {
   places_are = listed ∙ ap (λ n. active_among all 0 (n - 1)) width;
   cases_are = gathered ∙ ap (map (λ x. get_or all x 0)) (sym listed);
 }
-
--- what no call changes, of who names the same cases
-abbrev pub kept_with : Leveled → GName → GName → Named → StoreKept
-kept_with v rows steps names = record { volume = v; names = names; rows = rows; steps = steps }

@@ -1,134 +1,130 @@
--- The flags of a row that are kept at its place.
-use Rattle.std.proofs.Common.{◌≡◌, ℕ, suc, ◌+◌, ◌*◌, ◌/◌, ◌%◌, ◌<◌, ◌≤◌, ◌-◌, List, ◌++◌, drop, take, drop_at, get_or, length, replicate, set, sym, ◌∙◌, ap, subst, arith, inl, inr}
+-- Lists that are kept while others are put.
+use Rattle.std.proofs.Common.{◌≡◌, ℕ, ◌+◌, ◌/◌, ◌%◌, ◌<◌, ◌≤◌, ◌^◌, List, drop, take, get_or, length, set, sym, ◌∙◌, ap, ap₂, subst, arith, inl, inr, ◌⊎◌}
 use Rattle.std.proofs.lemmas.Bool.{cases_lt}
-use Rattle.std.proofs.lemmas.List.{get_or-append_right, get_or-drop, get_or-replicate, get_or-set_other, get_or-set_same, get_or_append_left, length-take-le}
-use Rattle.std.proofs.Math.Nat.{mod-lt, mul-le-mul_left, mul-le-mul_right}
-use Rattle.iso_defs.specs.Grid.{Grid}
-use Rattle.iso_defs.specs.Rows.{row_count}
-use Rattle.iso_base.specs.Sizing.{IsGrid}
-use Rattle.flat_mesh.specs.Lattice.{Leveled}
-use Rattle.mesh_rows.specs.Rows.{AreFlags}
-use Rattle.stitch_rows.proofs.NextBricks.{at_row}
-use Rattle.store_rows.specs.declared.recent.RecentFlags.{RecentFlags}
-use Rattle.store_rows.specs.Recent.{AreNumbered, AreRecent}
-use Rattle.store_rows.proofs.AskedRows.{row_y, row_z}
+use Rattle.std.proofs.lemmas.List.{ext_get_or, get_or-drop, get_or-set_other, get_or-set_same, get_or-take, length-drop, length-take-le, length-set}
+use Rattle.store_rows.specs.declared.recent.RecentLists.{RecentLists}
+use Rattle.store_rows.specs.Recent.{AreWithin, IsKept, IsNoted, IsPut, IsWithin}
 
--- the numbers of rows
-pub row_low : (g : Grid) (y z : ℕ) → y < g.ny → z < g.nz → y + g.ny * z < row_count g
-row_low g y z hy hz =
-    let k : g.ny * suc z ≤ g.ny * g.nz = mul-le-mul_left g.ny hz in
-    let m : g.ny * suc z ≡ g.ny * z + g.ny = omega arith in
-    omega arith
+-- numbers that were put not so long before lie apart from those that are put now
+pub apart : (start count next n i : ℕ) → start + count ≤ next → next + n ≤ start + 262144 → start % 262144 + count ≤ 262144 → next % 262144 + n ≤ 262144
+    → i < count → (start % 262144 + i < next % 262144) ⊎ (next % 262144 + n ≤ start % 262144 + i)
+apart start count next n i before recent inside room low = elim (cases_lt (start % 262144 + i) (next % 262144)) [
+  | inl less ↦ inl less
+  | inr more ↦ inr (omega (arith, before, recent, inside, room, low, more))
+]
 
-pub few_rows : (g : Grid) → IsGrid g → row_count g ≤ 1026 * 1026
-few_rows g is =
-    let y : g.ny * g.nz ≤ 1026 * g.nz = mul-le-mul_right g.nz is.y.most in
-    let z = is.z.most in
-    omega arith
+-- a part of a list that another one has too
+pub same_part : (xs ys : List ℕ) (a n : ℕ) → a + n ≤ length xs → length ys ≡ length xs → ((i : ℕ) → i < n → get_or ys (a + i) 0 ≡ get_or xs (a + i) 0)
+    → take n (drop a ys) ≡ take n (drop a xs)
+same_part xs ys a n room same each =
+    let long : length (take n (drop a xs)) ≡ n = let d = length-drop a xs in length-take-le n (drop a xs) (omega (arith, d, room)) in
+    let other : length (take n (drop a ys)) ≡ n = let d = length-drop a ys in length-take-le n (drop a ys) (omega (arith, d, room, same)) in
+    ext_get_or 0 (take n (drop a ys)) (take n (drop a xs)) (other ∙ sym long) (λ i low.
+    let within : i < n = omega (arith, low, other) in
+    get_or-take n (drop a ys) i 0 within ∙ (get_or-drop a ys i 0 ∙ (each i within ∙ (sym (get_or-drop a xs i 0) ∙ sym (get_or-take n (drop a xs) i 0 within)))))
 
--- the flags of a row by its coordinates and by its number
-pub by_number : (v : Leveled) (y z row : ℕ) (flags : List ℕ) → y < v.grid.ny → row ≡ y + v.grid.ny * z → AreFlags v y z flags → AreNumbered v row flags
-by_number v y z row flags low at are =
-    at_row (λ y z. AreFlags v y z flags) y z (row % v.grid.ny) (row / v.grid.ny)
-    (sym (ap (λ r. r % v.grid.ny) at ∙ row_y v.grid.ny y z low)) (sym (ap (λ r. r / v.grid.ny) at ∙ row_z v.grid.ny y z low)) are
+-- one list more is put behind the others
+module _ (old new : RecentLists) (key : ℕ) (list : List ℕ) (within : AreWithin old)
+    (long_tags : length old.tags.now ≡ 49152) (long_starts : length old.starts.now ≡ 49152) (long_counts : length old.counts.now ≡ 49152)
+    (long : length old.numbers.now ≡ 262144) (same_long : length new.numbers.now ≡ 262144)
+    (tags : new.tags.now ≡ set old.tags.now (key % 49152) (key / 49152)) (starts : new.starts.now ≡ set old.starts.now (key % 49152) old.next)
+    (counts : new.counts.now ≡ set old.counts.now (key % 49152) (length list)) (next : new.next ≡ old.next + length list)
+    (room : old.next % 262144 + length list ≤ 262144)
+    (inside : (i : ℕ) → i < length list → get_or new.numbers.now (old.next % 262144 + i) 0 ≡ get_or list i 0)
+    (before : (p : ℕ) → p < old.next % 262144 → get_or new.numbers.now p 0 ≡ get_or old.numbers.now p 0)
+    (behind : (p : ℕ) → old.next % 262144 + length list ≤ p → get_or new.numbers.now p 0 ≡ get_or old.numbers.now p 0) where
+  abbrev place : ℕ → ℕ
+  place k = k % 49152
 
-pub by_coordinates : (v : Leveled) (y z row : ℕ) (flags : List ℕ) → y < v.grid.ny → row ≡ y + v.grid.ny * z → AreNumbered v row flags → AreFlags v y z flags
-by_coordinates v y z row flags low at are =
-    at_row (λ y z. AreFlags v y z flags) (row % v.grid.ny) (row / v.grid.ny) y z
-    (ap (λ r. r % v.grid.ny) at ∙ row_y v.grid.ny y z low) (ap (λ r. r / v.grid.ny) at ∙ row_z v.grid.ny y z low) are
+  own_tag : get_or new.tags.now (place key) 0 ≡ key / 49152
+  own_tag = ap (λ l. get_or l (place key) 0) tags ∙ get_or-set_same old.tags.now (place key) (key / 49152) 0 (omega (arith, long_tags))
 
--- at first none are kept
-pub none_kept : (v : Leveled) (recent : RecentFlags) (width : ℕ) → IsGrid v.grid → width ≡ v.grid.nx → 0 < recent.count → recent.count ≤ 2048 → recent.count * width ≤ 131072
-    → recent.rows ≡ replicate 2048 4294967295 → AreRecent v recent
-none_kept v recent width is same some few room none = record {
-  some = some;
-  few = few;
-  room = subst (λ n. recent.count * n ≤ 131072) same room;
-  each = λ k low known. absurd (
-      let noted : get_or recent.rows k 0 ≡ 4294967295 = ap (λ l. get_or l k 0) none ∙ get_or-replicate 2048 k 4294967295 0 (omega arith) in
-      omega (arith, few_rows v.grid is));
-}
+  own_start : get_or new.starts.now (place key) 0 ≡ old.next
+  own_start = ap (λ l. get_or l (place key) 0) starts ∙ get_or-set_same old.starts.now (place key) old.next 0 (omega (arith, long_starts))
 
--- the flags at a place end before those of a later place
-pub place_ends : (k count width : ℕ) → k < count → k * width + width ≤ count * width
-place_ends k count width low =
-    let l : suc k * width ≤ count * width = mul-le-mul_right width low in
-    let m : suc k * width ≡ k * width + width = omega arith in
-    omega arith
+  own_count : get_or new.counts.now (place key) 0 ≡ length list
+  own_count = ap (λ l. get_or l (place key) 0) counts ∙ get_or-set_same old.counts.now (place key) (length list) 0 (omega (arith, long_counts))
 
--- and within all
-pub place_in : (v : Leveled) (recent : RecentFlags) (row width : ℕ) → AreRecent v recent → width ≡ v.grid.nx → row % recent.count * width + width ≤ 131072
-place_in v recent row width are same =
-    let ends : row % recent.count * v.grid.nx + v.grid.nx ≤ recent.count * v.grid.nx = place_ends (row % recent.count) recent.count v.grid.nx (mod-lt row are.some) in
-    let room = are.room in
-    subst (λ n. row % recent.count * n + n ≤ 131072) (sym same) (omega arith)
+  pub put_noted : IsNoted new key
+  put_noted = record { tag = own_tag; recent = omega (arith, own_start, next, room) }
 
--- a part of a list is written over
-module _ (xs ys : List ℕ) (a k n : ℕ) (room : a + n ≤ length xs) (count : length ys ≡ n) (end : k ≡ n) where
-  part_at : drop a (take a xs ++ (ys ++ drop k (drop a xs))) ≡ ys ++ drop k (drop a xs)
-  part_at = drop_at (take a xs) (ys ++ drop k (drop a xs)) a (length-take-le a xs (omega (arith, room)))
+  written : take (length list) (drop (old.next % 262144) new.numbers.now) ≡ list
+  written =
+      let count : length (take (length list) (drop (old.next % 262144) new.numbers.now)) ≡ length list
+      = let d = length-drop (old.next % 262144) new.numbers.now in length-take-le (length list) (drop (old.next % 262144) new.numbers.now) (omega (arith, d, room, same_long)) in
+      ext_get_or 0 (take (length list) (drop (old.next % 262144) new.numbers.now)) list count (λ i low.
+      let few : i < length list = omega (arith, low, count) in
+      get_or-take (length list) (drop (old.next % 262144) new.numbers.now) i 0 few ∙ (get_or-drop (old.next % 262144) new.numbers.now i 0 ∙ inside i few))
 
-  pub part_inside : (x : ℕ) → x < n → get_or (drop a (take a xs ++ (ys ++ drop k (drop a xs)))) x 0 ≡ get_or ys x 0
-  part_inside x low = ap (λ l. get_or l x 0) part_at ∙ get_or_append_left ys (drop k (drop a xs)) 0 x (omega (arith, low, count))
+  same_place : (k : ℕ) (l : List ℕ) → place k ≡ place key → IsKept new k l → IsPut key list k l
+  same_place k l same kept =
+      let tag : k / 49152 ≡ key / 49152 = sym kept.noted.tag ∙ (ap (λ p. get_or new.tags.now p 0) same ∙ own_tag) in
+      let count : get_or new.counts.now (place k) 0 ≡ length list = ap (λ p. get_or new.counts.now p 0) same ∙ own_count in
+      let start : get_or new.starts.now (place k) 0 ≡ old.next = ap (λ p. get_or new.starts.now p 0) same ∙ own_start in
+      record {
+        same_key = omega (arith, tag, same);
+        same_list = kept.list_is ∙ (ap₂ (λ n s. take n (drop (s % 262144) new.numbers.now)) count start ∙ written);
+      }
 
-  pub part_behind : (p : ℕ) → a + n ≤ p → get_or (take a xs ++ (ys ++ drop k (drop a xs))) p 0 ≡ get_or xs p 0
-  part_behind p from =
-      let front : length (take a xs) ≡ a = length-take-le a xs (omega (arith, room)) in
-      let at : a + (k + (p - a - n)) ≡ p = omega (arith, from, end) in
-      get_or-append_right (take a xs) (ys ++ drop k (drop a xs)) a p 0 front (omega (arith, from))
-      ∙ (get_or-append_right ys (drop k (drop a xs)) n (p - a) 0 count (omega (arith, from))
-      ∙ (get_or-drop k (drop a xs) (p - a - n) 0 ∙ (get_or-drop a xs (k + (p - a - n)) 0 ∙ ap (λ i. get_or xs i 0) at)))
+  other_place : (k : ℕ) (l : List ℕ) → (place k ≡ place key → ⊥) → IsKept new k l → IsKept old k l
+  other_place k l other kept =
+      let tag : get_or new.tags.now (place k) 0 ≡ get_or old.tags.now (place k) 0 = ap (λ l. get_or l (place k) 0) tags ∙ get_or-set_other old.tags.now (place key) (place k) _ 0 other in
+      let start : get_or new.starts.now (place k) 0 ≡ get_or old.starts.now (place k) 0 = ap (λ l. get_or l (place k) 0) starts ∙ get_or-set_other old.starts.now (place key) (place k) _ 0 other in
+      let count : get_or new.counts.now (place k) 0 ≡ get_or old.counts.now (place k) 0 = ap (λ l. get_or l (place k) 0) counts ∙ get_or-set_other old.counts.now (place key) (place k) _ 0 other in
+      let s : ℕ = get_or old.starts.now (place k) 0 in
+      let n : ℕ = get_or old.counts.now (place k) 0 in
+      let lies : IsWithin s n old.next = within.each (place k) (omega arith) in
+      let recent : old.next + length list ≤ s + 262144 = omega (arith, kept.noted.recent, next, start) in
+      record {
+        noted = record { tag = sym tag ∙ kept.noted.tag; recent = omega (arith, recent) };
+        list_is = kept.list_is ∙ (ap₂ (λ n s. take n (drop (s % 262144) new.numbers.now)) count start
+            ∙ same_part old.numbers.now new.numbers.now (s % 262144) n (omega (arith, long, lies.inside)) (omega (arith, long, same_long)) (λ i low.
+            elim (apart s n old.next (length list) i lies.before recent lies.inside room low) [
+              | inl less ↦ before (s % 262144 + i) less
+              | inr more ↦ behind (s % 262144 + i) more
+            ]));
+      }
 
--- the flags of a row that stand at its place
-pub found : (v : Leveled) (recent : RecentFlags) (place row start : ℕ) → AreRecent v recent → place < recent.count → row < row_count v.grid
-    → get_or recent.rows place 0 ≡ row → start ≡ place * v.grid.nx → AreNumbered v row (drop start recent.flags)
-found v recent place row start are low known noted at =
-    subst (λ n. AreNumbered v row (drop n recent.flags)) (sym at)
-    (subst (λ r. AreNumbered v r (drop (place * v.grid.nx) recent.flags)) noted (are.each place low (subst (λ r. r < row_count v.grid) (sym noted) known)))
-
--- the flags of one row more, in the place of another one
-module _ (v : Leveled) (old new : RecentFlags) (place row start : ℕ) (are : AreRecent v old) (low : place < old.count) (room : place < length old.rows)
-    (at : start ≡ place * v.grid.nx) (same_count : new.count ≡ old.count) (noted : new.rows ≡ set old.rows place row)
-    (flags : AreNumbered v row (drop start new.flags)) (before : (p : ℕ) → p < start → get_or new.flags p 0 ≡ get_or old.flags p 0)
-    (behind : (p : ℕ) → start + v.grid.nx ≤ p → get_or new.flags p 0 ≡ get_or old.flags p 0) where
-  abbrev width : ℕ
-  width = v.grid.nx
-
-  abbrev IsKept : ℕ → ℕ → Type 0
-  IsKept k r = AreNumbered v r (drop (k * width) new.flags)
-
-  here : IsKept place (get_or new.rows place 0)
-  here =
-      let own : get_or new.rows place 0 ≡ row = ap (λ l. get_or l place 0) noted ∙ get_or-set_same old.rows place row 0 room in
-      subst (IsKept place) (sym own) (subst (λ n. AreNumbered v row (drop n new.flags)) at flags)
-
-  apart : (k : ℕ) → (k ≡ place → ⊥) → k < old.count → get_or new.rows k 0 < row_count v.grid
-      → ((x : ℕ) → x < width → get_or new.flags (k * width + x) 0 ≡ get_or old.flags (k * width + x) 0) → IsKept k (get_or new.rows k 0)
-  apart k other low_k known stays =
-      let own : get_or new.rows k 0 ≡ get_or old.rows k 0 = ap (λ l. get_or l k 0) noted ∙ get_or-set_other old.rows place k row 0 other in
-      let was : AreNumbered v (get_or old.rows k 0) (drop (k * width) old.flags) = are.each k low_k (subst (λ r. r < row_count v.grid) own known) in
-      subst (IsKept k) (sym own)
-      (λ x within. get_or-drop (k * width) new.flags x 0 ∙ (stays x within ∙ (sym (get_or-drop (k * width) old.flags x 0) ∙ was x within)))
-
-  each : (k : ℕ) → k < old.count → get_or new.rows k 0 < row_count v.grid → IsKept k (get_or new.rows k 0)
-  each k low_k known = elim (cases_lt k place) [
-    | inl earlier ↦ (
-        let ends = place_ends k place width earlier in
-        apart k (λ e. omega arith) low_k known (λ x within. before (k * width + x) (omega arith)))
-    | inr late ↦ elim (cases_lt place k) [
-      | inl later ↦ (
-          let ends = place_ends place k width later in
-          apart k (λ e. omega arith) low_k known (λ x within. behind (k * width + x) (omega arith)))
-      | inr same ↦ (
-          let e : place ≡ k = omega arith in
-          subst (λ k. IsKept k (get_or new.rows k 0)) e here)
+  pub put_each : (k : ℕ) (l : List ℕ) → IsKept new k l → IsPut key list k l ⊎ IsKept old k l
+  put_each k l kept = elim (cases_lt (place k) (place key)) [
+    | inl less ↦ inr (other_place k l (λ e. omega (arith, less, e)) kept)
+    | inr from ↦ elim (cases_lt (place key) (place k)) [
+      | inl more ↦ inr (other_place k l (λ e. omega (arith, more, e)) kept)
+      | inr to ↦ inl (same_place k l (omega (arith, from, to)) kept)
     ]
   ]
 
-  pub kept_more : AreRecent v new
-  kept_more = record {
-    some = let h = are.some in omega arith;
-    few = let h = are.few in omega arith;
-    room = subst (λ n. n * width ≤ 131072) (sym same_count) are.room;
-    each = λ k low_k known. each k (omega arith) known;
+  within_at : (k : ℕ) → k < 49152 → IsWithin (get_or new.starts.now k 0) (get_or new.counts.now k 0) new.next
+  within_at k low = elim (cases_lt k (place key)) [
+    | inl less ↦ stays k low (λ e. omega (arith, less, e))
+    | inr from ↦ elim (cases_lt (place key) k) [
+      | inl more ↦ stays k low (λ e. omega (arith, more, e))
+      | inr to ↦ subst (λ k. IsWithin (get_or new.starts.now k 0) (get_or new.counts.now k 0) new.next) (omega (arith, from, to)) own
+    ]
+  ]
+    where
+      own : IsWithin (get_or new.starts.now (place key) 0) (get_or new.counts.now (place key) 0) new.next
+      own = record {
+        before = omega (arith, own_start, own_count, next);
+        inside = subst (λ s. s % 262144 + get_or new.counts.now (place key) 0 ≤ 262144) (sym own_start) (omega (arith, room, own_count));
+      }
+
+      stays : (k : ℕ) → k < 49152 → (k ≡ place key → ⊥) → IsWithin (get_or new.starts.now k 0) (get_or new.counts.now k 0) new.next
+      stays k low other =
+          let start : get_or new.starts.now k 0 ≡ get_or old.starts.now k 0 = ap (λ l. get_or l k 0) starts ∙ get_or-set_other old.starts.now (place key) k _ 0 other in
+          let count : get_or new.counts.now k 0 ≡ get_or old.counts.now k 0 = ap (λ l. get_or l k 0) counts ∙ get_or-set_other old.counts.now (place key) k _ 0 other in
+          let was : IsWithin (get_or old.starts.now k 0) (get_or old.counts.now k 0) old.next = within.each k low in
+          record {
+            before = omega (arith, start, count, was.before, next);
+            inside = subst (λ s. s % 262144 + get_or new.counts.now k 0 ≤ 262144) (sym start) (omega (arith, was.inside, count));
+          }
+
+  pub put_within : old.next ≤ 2 ^ 31 + 4096 → length list ≤ 4096 → AreWithin new
+  put_within low few = record {
+    tags = ap length tags ∙ (length-set old.tags.now (place key) _ ∙ long_tags);
+    starts = ap length starts ∙ (length-set old.starts.now (place key) _ ∙ long_starts);
+    counts = ap length counts ∙ (length-set old.counts.now (place key) _ ∙ long_counts);
+    numbers = same_long;
+    each = within_at;
+    low = omega (arith, low, few, next);
   }

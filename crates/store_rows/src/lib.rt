@@ -2,7 +2,9 @@
 #![tactic(auto)]
 
 mod counts;
+mod known;
 mod recent;
 mod store;
 
+pub use recent::{ListRoom, NUMBERS, PLACES};
 pub use store::StoreRows;

@@ -2,69 +2,23 @@
 ghost use Rattle.std.specs.Prelude.{◌≡◌, ◌+◌, ◌*◌, ◌<◌, ◌≤◌, All, length, map, slice_index, take};
 ghost use Rattle.flat_mesh.specs.Lattice.{heights};
 ghost use Rattle.iso_defs.specs.Bricks.{brick_count};
-ghost use Rattle.mesh_rows.specs.Rows.{AreCases, AreEdges, row_names};
+ghost use Rattle.mesh_rows.specs.Rows.{AreCases};
 ghost use Rattle.row_lists.specs.Active.{active_among};
 ghost use Rattle.stitch_rows.specs.Bricks.{AreMarked};
 ghost use Rattle.stitch_rows.specs.Named.{NamesCases, asked_along, asked_among};
 ghost use Rattle.store_rows.specs.Asked.{asked_in_row};
 ghost use Rattle.store_rows.specs.Kept.{StoreKept};
-ghost use Rattle.store_rows.specs.Recent.{AreRecent};
+ghost use Rattle.store_rows.specs.Recent.{AreKnown};
 
 use crate::counts::count_all;
-use crate::recent::RecentFlags;
-use crossing_edges::count_all_edges;
+use crate::known::{KnownRows, is_even};
+use crate::recent::ListRoom;
 use flat_mesh::{Cell, Heights};
 use iso_base::{Sizes, Steps};
 use mesh_rows::{Counts, MeshRows};
 use row_lists::{CASES, EDGES, POINTS, list_active, list_edges};
 use std::sync::ledger::Ledger;
-use stitch_rows::{ActiveRow, CellRows, Field, case_row, place_row};
-
-/// Whether a slice of points lies in a slice of bricks of even number.
-#[inline(always)]
-fn is_even(z: u32) -> bool {
-    z / 8 % 2 == 0
-}
-
-/// How many crossing edges begin in a row of points whose bricks are marked.
-fn count_marked(field: &Field, active: &ActiveRow, recent: &mut RecentFlags) -> u32
-    requires active { AreMarked field.now active.now }
-    requires y { active.now.y < field.now.grid.ny }
-    requires z { active.now.z < field.now.grid.nz }
-    requires recent { AreRecent field.now recent.old }
-    ensures count { result ≡ length (row_names field.now active.now.y active.now.z) }
-    ensures recent { AreRecent field.now recent.new }
-{
-    if active.is_still(field) {
-        return 0;
-    }
-    let start = recent.find(field, active);
-    let nx = field.sizes().nx() as usize;
-    count_all_edges(&recent.flags[start..][..nx])
-}
-
-/// Lists the crossing edges that begin in a row of points whose bricks are marked, and says how many there are.
-fn list_marked(
-    field: &Field,
-    active: &ActiveRow,
-    recent: &mut RecentFlags,
-    edges: &mut [u16; EDGES],
-) -> usize
-    requires active { AreMarked field.now active.now }
-    requires y { active.now.y < field.now.grid.ny }
-    requires z { active.now.z < field.now.grid.nz }
-    requires recent { AreRecent field.now recent.old }
-    ensures few { result ≤ 3 * field.now.grid.nx }
-    ensures edges { AreEdges field.now active.now.y active.now.z (take result edges.new) }
-    ensures recent { AreRecent field.now recent.new }
-{
-    if active.is_still(field) {
-        return 0;
-    }
-    let start = recent.find(field, active);
-    let nx = field.sizes().nx() as usize;
-    list_edges(&recent.flags[start..][..nx], edges)
-}
+use stitch_rows::{ActiveRow, CellRows, Field, case_row};
 
 /// Writes the cases of the cells of a row whose bricks are marked at the front of a buffer.
 fn case_marked<R: CellRows, L: Ledger>(
@@ -117,21 +71,16 @@ fn list_cases(
     active
 }
 
-/// The rows of a volume in bricks at a level: with who names the cases of its cells, the counter of what that takes, the flags of rows
-/// that were asked for last, a buffer for the cases of a row, and the bricks that hold those rows, in slices of bricks of even and of odd
-/// number: a traversal goes to and fro between two slices of points.
+/// The rows of a volume in bricks at a level: with who names the cases of its cells, the counter of what that takes, what is known of
+/// its rows, and a buffer for the cases of one.
 #[derive(Drop)]
 pub struct StoreRows<'a, R: CellRows, L: Ledger> {
     field: &'a Field<'a>,
-    even: ActiveRow,
-    odd: ActiveRow,
-    recent: RecentFlags,
+    known: KnownRows<'a>,
     cases: [u16; CASES],
     rows: &'a mut R,
     steps: &'a mut Steps<L>,
-    ghost even_marked: { AreMarked field.now even },
-    ghost odd_marked: { AreMarked field.now odd },
-    ghost recent_kept: { AreRecent field.now recent },
+    ghost known_are: { AreKnown field.now known },
     ghost named: { NamesCases (R.named rows.now) field.now.grid (heights field.now) },
 }
 
@@ -140,6 +89,7 @@ impl<'a, R: CellRows, L: Ledger> StoreRows<'a, R, L> {
     pub fn new(
         field: &'a Field<'a>,
         rows: &'a mut R,
+        room: ListRoom<'a>,
         steps: &'a mut Steps<L>,
     ) -> StoreRows<'a, R, L>
         requires { NamesCases (R.named rows.old) field.now.grid (heights field.now) }
@@ -153,12 +103,44 @@ impl<'a, R: CellRows, L: Ledger> StoreRows<'a, R, L> {
         let _ = field.sizes();
         StoreRows {
             field,
-            even: ActiveRow::new(),
-            odd: ActiveRow::new(),
-            recent: RecentFlags::new(field),
+            known: KnownRows::new(field, room),
             cases: [0; CASES],
             rows,
             steps,
+        }
+    }
+
+    /// Writes the cases of the cells of a row into the buffer.
+    fn case_cells(&mut self, y: u32, z: u32)
+        requires y { y + 1 < self.old.field.now.grid.ny }
+        requires z { z + 1 < self.old.field.now.grid.nz }
+        ensures cases { AreCases self.old.field.now y z self.new.cases }
+        ensures field { self.new.field.now ≡ self.old.field.now }
+        ensures same { R.named self.new.rows.now ≡ R.named self.old.rows.now }
+        ensures same_rows { self.new.rows.ghost_name ≡ self.old.rows.ghost_name }
+        ensures same_steps { self.new.steps.ghost_name ≡ self.old.steps.ghost_name }
+        ensures least { self.old.steps.now ≤ self.new.steps.now }
+        ensures most { self.new.steps.now ≤ self.old.steps.now + 8 * asked_along self.old.field.now.grid
+            (heights self.old.field.now) (R.named self.old.rows.now) y z }
+    {
+        if is_even(z) {
+            self.known.even.mark(self.field, y, z);
+            case_marked(
+                self.field,
+                &self.known.even,
+                self.rows,
+                &mut self.cases,
+                self.steps,
+            );
+        } else {
+            self.known.odd.mark(self.field, y, z);
+            case_marked(
+                self.field,
+                &self.known.odd,
+                self.rows,
+                &mut self.cases,
+                self.steps,
+            );
         }
     }
 }
@@ -194,31 +176,20 @@ impl<'a, R: CellRows, L: Ledger> MeshRows for StoreRows<'a, R, L> {
 
     /// It looks at active bricks alone.
     fn count_edges(&mut self, y: u32, z: u32) -> u32 {
-        if is_even(z) {
-            self.even.mark(self.field, y, z);
-            count_marked(self.field, &self.even, &mut self.recent)
-        } else {
-            self.odd.mark(self.field, y, z);
-            count_marked(self.field, &self.odd, &mut self.recent)
-        }
+        self.known.count_edges(self.field, y, z)
     }
 
-    /// It looks at active bricks alone.
+    /// It looks at active bricks alone, and at none where the row was asked for not long before.
     fn list_edges(&mut self, y: u32, z: u32, edges: &mut [u16; EDGES]) -> usize {
-        if is_even(z) {
-            self.even.mark(self.field, y, z);
-            list_marked(self.field, &self.even, &mut self.recent, edges)
-        } else {
-            self.odd.mark(self.field, y, z);
-            list_marked(self.field, &self.odd, &mut self.recent, edges)
-        }
+        self.known.list_edges(self.field, y, z, edges)
     }
 
     fn fill_places(&mut self, y: u32, z: u32, edges: &[u16], places: &mut [u16]) {
-        place_row(self.field, y, z, edges, places);
+        self.known.fill_places(self.field, y, z, edges, places);
     }
 
-    /// It asks for each row of an active brick once, and for no row of another one.
+    /// It asks for each row of an active brick once, and for no row of another one, and for none where the row was asked for not long
+    /// before.
     fn list_cells(
         &mut self,
         y: u32,
@@ -226,27 +197,15 @@ impl<'a, R: CellRows, L: Ledger> MeshRows for StoreRows<'a, R, L> {
         places: &mut [u16; POINTS],
         cases: &mut [u16; POINTS],
     ) -> usize {
-        let nx = self.field.sizes().nx() as usize;
-        if is_even(z) {
-            self.even.mark(self.field, y, z);
-            case_marked(
-                self.field,
-                &self.even,
-                self.rows,
-                &mut self.cases,
-                self.steps,
-            );
-        } else {
-            self.odd.mark(self.field, y, z);
-            case_marked(
-                self.field,
-                &self.odd,
-                self.rows,
-                &mut self.cases,
-                self.steps,
-            );
+        if let Some(count) = self.known.find_cells(self.field, y, z, places, cases) {
+            return count;
         }
-        list_cases(&self.cases, nx - 1, places, cases)
+        self.case_cells(y, z);
+        let nx = self.field.sizes().nx() as usize;
+        let count = list_cases(&self.cases, nx - 1, places, cases);
+        self.known
+            .keep_cells(self.field, y, z, &places[..count], &cases[..count]);
+        count
     }
 
     /// It asks each active brick once, and no other one.
