@@ -1,7 +1,7 @@
 //! The ambiguous faces of a cell, and which of them are joined.
 
-ghost use Rattle.std.specs.Prelude.{◌≡◌, ℕ, ◌+◌, ◌*◌, ◌/◌, ◌%◌, ◌^◌, ◌<◌, ◌≤◌, ◌==◌, ◌&&◌, IsTrue, if◌then◌else◌, slice_index, unsigned_abs};
-ghost use Rattle.std.specs.List.{All};
+ghost use Rattle.std.specs.Prelude.{◌≡◌, nat_lt, ℕ, ◌+◌, ◌*◌, ◌/◌, ◌%◌, ◌^◌, ◌<◌, ◌≤◌, ◌==◌, ◌&&◌, IsTrue, if◌then◌else◌, slice_index, unsigned_abs};
+ghost use Rattle.std.specs.List.{All, list_all};
 ghost use Rattle.iso_defs.specs.Face.{is_ambiguous};
 ghost use Rattle.iso_defs.specs.Cell.{joined_of, signs_of};
 ghost use Rattle.iso_defs.specs.Bricks.{bits_of, number_of_bits};
@@ -56,17 +56,76 @@ fn joined_digit(ambiguous: bool, cycle: [i64; 4]) -> u8
     }
 }
 
+/// Whether these values are all short: their products then fit 64 bits. One comparison asks it of all eight.
+#[inline(always)]
+fn are_short(values: &[i64; 8]) -> bool
+    requires { All (λ v. unsigned_abs v < 2 ^ 44) values.now }
+    ensures { result ≡ list_all (λ v. nat_lt (unsigned_abs v) (2 ^ 31)) values.now }
+{
+    let mut size = 0;
+    for i in 0..8 {
+        size |= values[i].unsigned_abs();
+    }
+    size < 1 << 31
+}
+
+/// The same digit where the values are short, by products of 64 bits. No processor can foretell which faces of a dense
+/// volume are ambiguous or joined, so this has no branch: `&` and `|` read both of their sides.
+#[inline(always)]
+fn short_digit(ambiguous: bool, cycle: [i64; 4]) -> u8
+    requires known { ambiguous ≡ is_ambiguous (signs_of cycle) }
+    requires short { All (λ v. unsigned_abs v < 2 ^ 31) cycle }
+    ensures value { result ≡ (if is_ambiguous (signs_of cycle) && cycle_joined cycle then 1 else 0) }
+    ensures bound { result ≤ 1 }
+{
+    let even = cycle[0] * cycle[2];
+    let odd = cycle[1] * cycle[3];
+    let is_joined = ((cycle[0] >= 0) & (odd <= even)) | ((cycle[0] < 0) & (even <= odd));
+    u8::from(ambiguous & is_joined)
+}
+
 /// One digit of the joined set: that of a face, by its corner cycle.
 macro_rules! digit {
-    ($faces:ident, $values:ident, $face:literal, $a:literal, $b:literal, $c:literal, $d:literal) => {
-        joined_digit(
+    ($digit:ident, $faces:ident, $values:ident, $face:literal, $a:literal, $b:literal, $c:literal, $d:literal) => {
+        $digit(
             has_face($faces, $face),
             [$values[$a], $values[$b], $values[$c], $values[$d]],
         )
     };
 }
 
-/// The joined faces, where the ambiguous ones are known. Only these are decided.
+/// The joined faces, where the ambiguous ones are known: only these are decided, each by products of 128 bits.
+fn joined_long(values: &[i64; 8], faces: u8) -> u8
+    requires known { bits_of 6 faces ≡ ambiguous_flags (signs_of values.now) }
+    requires small { All (λ v. unsigned_abs v < 2 ^ 44) values.now }
+    ensures { result ≡ number_of_bits (joined_of values.now) }
+{
+    let d0 = digit!(joined_digit, faces, values, 0, 0, 4, 6, 2);
+    let d1 = digit!(joined_digit, faces, values, 1, 1, 3, 7, 5);
+    let d2 = digit!(joined_digit, faces, values, 2, 0, 1, 5, 4);
+    let d3 = digit!(joined_digit, faces, values, 3, 2, 6, 7, 3);
+    let d4 = digit!(joined_digit, faces, values, 4, 0, 2, 3, 1);
+    let d5 = digit!(joined_digit, faces, values, 5, 4, 5, 7, 6);
+    d0 + 2 * (d1 + 2 * (d2 + 2 * (d3 + 2 * (d4 + 2 * d5))))
+}
+
+/// The same where the values are short: each face is decided, without a branch.
+#[inline(always)]
+fn joined_short(values: &[i64; 8], faces: u8) -> u8
+    requires known { bits_of 6 faces ≡ ambiguous_flags (signs_of values.now) }
+    requires short { All (λ v. unsigned_abs v < 2 ^ 31) values.now }
+    ensures { result ≡ number_of_bits (joined_of values.now) }
+{
+    let d0 = digit!(short_digit, faces, values, 0, 0, 4, 6, 2);
+    let d1 = digit!(short_digit, faces, values, 1, 1, 3, 7, 5);
+    let d2 = digit!(short_digit, faces, values, 2, 0, 1, 5, 4);
+    let d3 = digit!(short_digit, faces, values, 3, 2, 6, 7, 3);
+    let d4 = digit!(short_digit, faces, values, 4, 0, 2, 3, 1);
+    let d5 = digit!(short_digit, faces, values, 5, 4, 5, 7, 6);
+    d0 + 2 * (d1 + 2 * (d2 + 2 * (d3 + 2 * (d4 + 2 * d5))))
+}
+
+/// The joined faces, where the ambiguous ones are known.
 pub(crate) fn joined_among(values: &[i64; 8], faces: u8) -> u8
     requires known { bits_of 6 faces ≡ ambiguous_flags (signs_of values.now) }
     requires small { All (λ v. unsigned_abs v < 2 ^ 44) values.now }
@@ -75,13 +134,11 @@ pub(crate) fn joined_among(values: &[i64; 8], faces: u8) -> u8
     if faces == 0 {
         return 0;
     }
-    let d0 = digit!(faces, values, 0, 0, 4, 6, 2);
-    let d1 = digit!(faces, values, 1, 1, 3, 7, 5);
-    let d2 = digit!(faces, values, 2, 0, 1, 5, 4);
-    let d3 = digit!(faces, values, 3, 2, 6, 7, 3);
-    let d4 = digit!(faces, values, 4, 0, 2, 3, 1);
-    let d5 = digit!(faces, values, 5, 4, 5, 7, 6);
-    d0 + 2 * (d1 + 2 * (d2 + 2 * (d3 + 2 * (d4 + 2 * d5))))
+    if are_short(values) {
+        joined_short(values, faces)
+    } else {
+        joined_long(values, faces)
+    }
 }
 
 /// The set of the faces that are ambiguous and joined, from the sign byte and the shifted values of the corners. Bit f is
