@@ -1,0 +1,2 @@
+pub mod BetweenSamples
+pub mod Reciprocals

@@ -1,19 +1,14 @@
 -- Where the crossing edges of a row of points are crossed, from the samples at their ends.
-use Rattle.std.proofs.Common.{◌≡◌, ℕ, zero, suc, ◌+◌, ◌*◌, ◌/◌, ◌%◌, ◌<◌, ◌==◌, true, ℤ, List, [], ◌∷◌, length, map, get_or, set, refl, sym, ◌∙◌, ap, ap₂, subst, arith, inl, inr, w64, to_z, of_z}
+use Rattle.std.proofs.Common.{◌≡◌, ℕ, ◌+◌, ◌*◌, ◌/◌, ◌%◌, ◌<◌, ◌==◌, true, ℤ, List, length, get_or, set, sym, ◌∙◌, ap, ap₂, subst, arith, inl, inr, w64, to_z, of_z}
 use Rattle.std.specs.Int.{from_bool}
-use Rattle.std.specs.List.{range_with_len}
 use Rattle.std.proofs.lemmas.Bool.{and_parts, cases_lt, ltb-true}
 use Rattle.std.proofs.lemmas.Int.{ints}
-use Rattle.std.proofs.lemmas.List.{ext_get_or, get_or-map, get_or-set_other, get_or-set_same, length-map}
-use Rattle.std.proofs.lemmas.Simd.{map-map}
 use Rattle.iso_defs.specs.Grid.{edge_axis, edge_lower, edge_upper, has_next, index, is_edge, stride}
 use Rattle.iso_defs.specs.Signs.{differ, is_above, is_crossing}
 use Rattle.iso_defs.proofs.Points.{x_index, y_index, z_index}
 use Rattle.iso_base.specs.Samples.{IsSample}
 use Rattle.iso_base.specs.Shifted.{shifted}
 use Rattle.iso_base.specs.Volume.{sample}
-use Rattle.verdict_laws.proofs.Lists.{In, In-filter}
-use Rattle.mesh_laws.proofs.Cells.{range_at_least}
 use Rattle.crossing_edges.specs.Flags.{edge_place}
 use Rattle.crossing_edges.proofs.OffsetEdges.{offset_at, place_more as one_place_more, places_are as each_place}
 use Rattle.flat_mesh.specs.Lattice.{IsLeveled, Leveled, heights}
@@ -121,7 +116,7 @@ ends_of v w y z edge ends same have hy hz low crossing x nx axis one ex en ea eo
     record { lower = lower_end v y z edge ends have hy hz low x ex; upper = upper_end v y z edge ends have hy hz low x _ ex step parts.0; apart = parts.1 }
 
 -- a sample fits
-whole : (z : ℤ) → IsSample z → to_z w64 (of_z w64 z) ≡ z
+pub whole : (z : ℤ) → IsSample z → to_z w64 (of_z w64 z) ≡ z
 whole z is = let low = is.low in let high = is.high in omega (arith, ints)
 
 -- the sample there is one, and its shifted value is the volume's

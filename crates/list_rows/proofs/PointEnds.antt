@@ -1,5 +1,5 @@
 -- The two points at the ends of a crossing edge of a row.
-use Rattle.std.proofs.Common.{◌≡◌, ℕ, ◌+◌, ◌*◌, ◌/◌, ◌%◌, ◌<◌, ◌==◌, true, sym, ◌∙◌, ap, arith, inl, inr}
+use Rattle.std.proofs.Common.{◌≡◌, ℕ, ◌+◌, ◌*◌, ◌/◌, ◌%◌, ◌<◌, ◌==◌, true, ℤ, sym, ◌∙◌, ap, ap₂, subst, arith, inl, inr, w64, to_z, of_z}
 use Rattle.std.specs.Int.{from_bool}
 use Rattle.std.proofs.lemmas.Bool.{and_parts, cases_lt, ltb-true}
 use Rattle.iso_defs.specs.Grid.{edge_axis, edge_lower, edge_upper, has_next, index, is_edge, stride}
@@ -7,13 +7,32 @@ use Rattle.iso_defs.specs.Signs.{differ, is_above, is_crossing}
 use Rattle.iso_defs.proofs.Points.{x_index, y_index, z_index}
 use Rattle.iso_base.specs.Points.{IsPoint, index_of}
 use Rattle.iso_base.specs.declared.point.Point.{Point}
-use Rattle.flat_mesh.specs.Lattice.{Leveled, heights}
+use Rattle.iso_base.specs.Shifted.{shifted}
+use Rattle.iso_base.specs.Volume.{sample}
+use Rattle.flat_mesh.specs.Lattice.{IsLeveled, Leveled, heights}
 use Rattle.flat_mesh.specs.Rows.{row_start}
+use Rattle.list_rows.proofs.Corners.{sample_is}
+use Rattle.list_rows.proofs.Ends.{whole}
 
 -- a point, which is that of an index
 pub record IsAt (v : Leveled) (p : Point) (q : ℕ) : Type 0 where
   pub there : IsPoint v.grid p
   pub index : index_of v.grid p ≡ q
+
+-- its sample as it is read there, and the shifted value of that
+module _ (v w : Leveled) (same : w ≡ v) (p : Point) (q : ℕ) (at : IsAt v p q) where
+  pub end_there : IsPoint w.grid p
+  end_there = subst (λ (u : Leveled). IsPoint u.grid p) (sym same) at.there
+
+  module _ (leveled : IsLeveled v) (value : ℤ) (reads : value ≡ sample w.samples (index_of w.grid p)) where
+    read_is : value ≡ sample v.samples q
+    read_is = reads ∙ (ap (λ (u : Leveled). sample u.samples (index_of u.grid p)) same ∙ ap (sample v.samples) at.index)
+
+    read_kept : to_z w64 (of_z w64 value) ≡ sample v.samples q
+    read_kept = ap (λ (s : ℤ). to_z w64 (of_z w64 s)) read_is ∙ whole (sample v.samples q) (sample_is v leveled q)
+
+    pub read_height : shifted (to_z w64 (of_z w64 value)) w.level ≡ heights v q
+    read_height = ap₂ shifted read_kept (ap (λ (u : Leveled). u.level) same)
 
 module _ (v : Leveled) (y z edge : ℕ) (hy : y < v.grid.ny) (hz : z < v.grid.nz) (low : edge < 3 * v.grid.nx)
     (crossing : is_crossing v.grid (heights v) (3 * row_start v.grid y z + edge) ≡ true) where

@@ -2,7 +2,6 @@
 ghost use Rattle.std.specs.Prelude.{◌≡◌, ℕ, ◌+◌, ◌*◌, ◌<◌, ◌≤◌, ◌^◌, All, length, map, true, unsigned_abs};
 ghost use Rattle.iso_defs.specs.Grid.{index};
 ghost use Rattle.iso_defs.specs.Signs.{is_crossing};
-ghost use Rattle.iso_base.specs.Points.{IsPoint, index_of};
 ghost use Rattle.iso_base.specs.Samples.{IsSample};
 ghost use Rattle.iso_base.specs.Shifted.{shifted};
 ghost use Rattle.iso_base.specs.Volume.{sample};
@@ -15,7 +14,7 @@ ghost use Rattle.mesh_rows.specs.Rows.{AreEdges, row_places};
 ghost use Rattle.list_rows.specs.Ends.{HaveEnds};
 ghost use Rattle.list_rows.specs.Signs.{AreSliceSigns};
 
-use edge_points::place;
+use edge_points::sample_place;
 use flat_mesh::{Cell, Heights};
 use iso_base::{Level, Point, Sizes};
 use samples::{Samples, each_corner};
@@ -72,17 +71,6 @@ impl<'a, S: Samples> ListField<'a, S> {
         let sizes = self.sizes();
         let start = sizes.nx() * sizes.ny() * z;
         self.samples.put_signs(start, self.level, slice);
-    }
-
-    /// The shifted value of a point.
-    #[inline(always)]
-    fn height(&self, point: Point) -> i64
-        requires { IsPoint self.now.grid point }
-        ensures value { result ≡ heights self.now (index_of self.now.grid point) }
-        ensures bound { unsigned_abs result < 2 ^ 44 }
-    {
-        self.level
-            .shifted(self.samples.at_point(&self.sizes, point))
     }
 
     /// The shifted value of one of the samples at the corners of a cell.
@@ -179,9 +167,7 @@ impl<'a, S: Samples> ListField<'a, S> {
         let x = usize::from(edge / 3);
         let axis = usize::from(edge % 3);
         let step = nx * axis + usize::from(axis == 0);
-        let low = self.level.shifted(ends[x]);
-        let high = self.level.shifted(ends[x + step]);
-        place(low, high)
+        sample_place(self.level, ends[x], ends[x + step])
     }
 
     /// The same, from samples that are asked for by their points.
@@ -204,7 +190,11 @@ impl<'a, S: Samples> ListField<'a, S> {
             y: y + u32::from(axis == 1),
             z: z + u32::from(axis == 2),
         };
-        place(self.height(low), self.height(high))
+        sample_place(
+            self.level,
+            self.samples.at_point(&self.sizes, low),
+            self.samples.at_point(&self.sizes, high),
+        )
     }
 
     /// Fills in where the crossing edges of a row of points are crossed, where these are few: no row of samples is copied.

@@ -15,4 +15,3 @@ pub mod Corners
 pub mod EightLanes
 pub mod OneSide
 pub mod EdgeEnds
-pub mod BetweenSamples

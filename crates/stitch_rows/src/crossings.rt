@@ -1,10 +1,7 @@
 //! Where the crossing edges of a row of points are crossed.
 ghost use Rattle.std.specs.Prelude.{◌≡◌, ◌+◌, ◌*◌, ◌<◌, length, map, true};
 ghost use Rattle.iso_defs.specs.Bricks.{bricks_along};
-ghost use Rattle.iso_defs.specs.Place.{place};
-ghost use Rattle.iso_defs.specs.Signs.{differ, is_crossing};
-ghost use Rattle.iso_base.specs.Samples.{IsSample};
-ghost use Rattle.iso_base.specs.Shifted.{is_above_level, shifted};
+ghost use Rattle.iso_defs.specs.Signs.{is_crossing};
 ghost use Rattle.brick_store.specs.Copies.{AreAllCopies};
 ghost use Rattle.crossing_edges.specs.Flags.{edge_place};
 ghost use Rattle.flat_mesh.specs.Lattice.{heights};
@@ -14,25 +11,12 @@ ghost use Rattle.stitch_rows.specs.Bricks.{IsPointRow};
 
 use crate::bricks::{PointRow, count_along, row_place};
 use crate::field::Field;
+use edge_points::sample_place;
 use packed_samples::PackedRun;
 use samples::{Packed, sample_at};
 
 /// How far behind the copy of a point's sample a brick has those of the next points along x, y and z.
 const STEPS: [usize; 3] = [1, 9, 81];
-
-/// Where an edge between two samples is crossed, in thousandths from the first one. Shifted values are as far apart as a thousand times
-/// their samples, so that a thousand is taken out of the division: it is one of short numbers for most samples.
-#[inline(always)]
-fn place_between(field: &Field, low: i64, high: i64) -> u16
-    requires low { IsSample low }
-    requires high { IsSample high }
-    requires apart { differ (is_above_level low field.now.level) (is_above_level high field.now.level) ≡ true }
-    ensures { result ≡ place (shifted low field.now.level) (shifted high field.now.level) }
-{
-    let part = field.height_of(low).unsigned_abs();
-    let whole = low.abs_diff(high);
-    ((2 * part + whole) / (2 * whole)) as u16
-}
 
 /// Where a crossing edge of a row is crossed. The brick that holds its point has copies of both of its ends: the last brick of the row
 /// holds the row's last point too. `start` is where the samples of the row begin in its first brick, `last` where its last brick stands.
@@ -61,7 +45,11 @@ fn place_of<T: Packed>(
     let low = start + 721 * brick as usize + x as usize;
     // The axis of an edge cannot be foreseen, so that a branch on it would cost more than a look into a table.
     let high = low + STEPS[(edge % 3) as usize];
-    place_between(field, sample_at(copies, low), sample_at(copies, high))
+    sample_place(
+        field.level(),
+        sample_at(copies, low),
+        sample_at(copies, high),
+    )
 }
 
 /// Fills in where the crossing edges of a row are crossed, from the samples of all bricks.

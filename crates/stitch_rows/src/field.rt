@@ -90,6 +90,14 @@ impl<'a> Field<'a> {
         self.store.sizes()
     }
 
+    /// The level.
+    #[inline(always)]
+    pub(crate) fn level(&self) -> Level
+        ensures { result ≡ self.now.level }
+    {
+        self.level
+    }
+
     /// The samples of the bricks, those of a brick behind those of the brick before it, where they lie in memory.
     #[inline(always)]
     pub fn copies(&self) -> PackedRun<'_>
@@ -173,16 +181,6 @@ impl<'a> Field<'a> {
             Some(brick) => brick.0,
             None => u32::MAX,
         }
-    }
-
-    /// The shifted value of a sample.
-    #[inline(always)]
-    pub fn height_of(&self, sample: i64) -> i64
-        requires { IsSample sample }
-        ensures value { result ≡ shifted sample self.now.level }
-        ensures bound { unsigned_abs result < 2 ^ 44 }
-    {
-        self.level.shifted(sample)
     }
 
     /// The least sample that is above the level.

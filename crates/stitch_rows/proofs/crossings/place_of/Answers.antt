@@ -1,4 +1,4 @@
-use Rattle.std.proofs.Common.{◌≡◌, ◌∙◌, rules, ℤ, List, map, w64, to_z, of_z, ap₂, refl, subst, sym, arith}
+use Rattle.std.proofs.Common.{◌≡◌, ◌∙◌, rules, ℤ, List, map, w64, to_z, of_z, ap, ap₂, refl, subst, sym, arith}
 use Rattle.std.proofs.lemmas.Int.{to_z-of_z}
 use Rattle.std.proofs.lemmas.List.{length-map}
 use Rattle.iso_defs.specs.Place.{place}
@@ -36,8 +36,8 @@ sample_at-requires-2 g c =
     c.requires.edge c.requires.crossing c.from-x.ensures c.min-brick.ensures refl refl in
     omega (arith, e.high_inside, length-map c.args.copies.now g.T.Packed.value)
 
-pub place_between-requires-clause-low : goal.place_between-requires-clause-low
-place_between-requires-clause-low g c =
+pub sample_place-requires-clause-low : goal.sample_place-requires-clause-low
+sample_place-requires-clause-low g c =
     let v = c.args.field.now in
     let list : List ℤ = map g.T.Packed.value c.args.copies.now in
     let is = c.sizes.ensures.leveled in
@@ -46,8 +46,8 @@ place_between-requires-clause-low g c =
     let low : to_z w64 (of_z w64 c.sample_at.result) ≡ c.sample_at.result = search (rules, to_z-of_z) in
     subst IsSample (sym (low ∙ c.sample_at.ensures)) e.low_range
 
-pub place_between-requires-clause-high : goal.place_between-requires-clause-high
-place_between-requires-clause-high g c =
+pub sample_place-requires-clause-high : goal.sample_place-requires-clause-high
+sample_place-requires-clause-high g c =
     let v = c.args.field.now in
     let list : List ℤ = map g.T.Packed.value c.args.copies.now in
     let is = c.sizes.ensures.leveled in
@@ -56,8 +56,8 @@ place_between-requires-clause-high g c =
     let high : to_z w64 (of_z w64 c.sample_at-2.result) ≡ c.sample_at-2.result = search (rules, to_z-of_z) in
     subst IsSample (sym (high ∙ c.sample_at-2.ensures)) e.high_range
 
-pub place_between-requires-clause-apart : goal.place_between-requires-clause-apart
-place_between-requires-clause-apart g c =
+pub sample_place-requires-clause-apart : goal.sample_place-requires-clause-apart
+sample_place-requires-clause-apart g c =
     let v = c.args.field.now in
     let list : List ℤ = map g.T.Packed.value c.args.copies.now in
     let is = c.sizes.ensures.leveled in
@@ -65,7 +65,8 @@ place_between-requires-clause-apart g c =
     c.requires.edge c.requires.crossing c.from-x.ensures c.min-brick.ensures refl refl in
     let low : to_z w64 (of_z w64 c.sample_at.result) ≡ c.sample_at.result = search (rules, to_z-of_z) in
     let high : to_z w64 (of_z w64 c.sample_at-2.result) ≡ c.sample_at-2.result = search (rules, to_z-of_z) in
-    ap₂ (λ (a b : ℤ). differ (is_above_level a v.level) (is_above_level b v.level)) (low ∙ c.sample_at.ensures) (high ∙ c.sample_at-2.ensures) ∙ e.apart
+    ap (λ (l : ℤ). differ (is_above_level (to_z w64 (of_z w64 c.sample_at.result)) l) (is_above_level (to_z w64 (of_z w64 c.sample_at-2.result)) l)) c.level.ensures
+    ∙ (ap₂ (λ (a b : ℤ). differ (is_above_level a v.level) (is_above_level b v.level)) (low ∙ c.sample_at.ensures) (high ∙ c.sample_at-2.ensures) ∙ e.apart)
 
 pub returns : goal.returns
 returns g c =
@@ -76,5 +77,6 @@ returns g c =
     c.requires.edge c.requires.crossing c.from-x.ensures c.min-brick.ensures refl refl in
     let low : to_z w64 (of_z w64 c.sample_at.result) ≡ c.sample_at.result = search (rules, to_z-of_z) in
     let high : to_z w64 (of_z w64 c.sample_at-2.result) ≡ c.sample_at-2.result = search (rules, to_z-of_z) in
-    c.place_between.ensures
-    ∙ (ap₂ (λ (a b : ℤ). place (shifted a v.level) (shifted b v.level)) (low ∙ c.sample_at.ensures) (high ∙ c.sample_at-2.ensures) ∙ e.place_is)
+    c.sample_place.ensures.value
+    ∙ (ap (λ (l : ℤ). place (shifted (to_z w64 (of_z w64 c.sample_at.result)) l) (shifted (to_z w64 (of_z w64 c.sample_at-2.result)) l)) c.level.ensures
+    ∙ ap₂ (λ (a b : ℤ). place (shifted a v.level) (shifted b v.level)) (low ∙ c.sample_at.ensures) (high ∙ c.sample_at-2.ensures) ∙ e.place_is)

@@ -1,11 +1,10 @@
 -- Where an edge is crossed, by the samples at its ends.
-use Rattle.std.proofs.Common.{◌≡◌, ◌∙◌, ℕ, ◌+◌, ◌*◌, ◌/◌, ◌<◌, ◌≤◌, true, ℤ, pos, negsuc, ◌-ℤ◌, nat_abs, refl, sym, subst, ap₂, arith}
+use Rattle.std.proofs.Common.{◌≡◌, ◌∙◌, ℕ, ◌+◌, ◌*◌, ◌/◌, ◌<◌, true, ℤ, pos, negsuc, ◌-ℤ◌, nat_abs, refl, sym, ap₂, arith}
 use Rattle.std.proofs.lemmas.Int.{ints}
 use Rattle.std.proofs.Math.Nat.{mul-div-mul_left}
 use Rattle.iso_defs.specs.Place.{place}
 use Rattle.iso_defs.specs.Signs.{differ, is_above}
 use Rattle.iso_base.specs.Shifted.{is_above_level, shifted}
-use Rattle.flat_mesh.proofs.Known.{place_low}
 
 module _ (low high level : ℤ) (apart : differ (is_above_level low level) (is_above_level high level) ≡ true) where
   abbrev part : ℕ
@@ -30,6 +29,3 @@ module _ (low high level : ℤ) (apart : differ (is_above_level low level) (is_a
       let below : 2 * d ≡ 1000 * (2 * whole) = omega (arith, far) in
       let thousand : 0 < 1000 = omega arith in
       sym (ap₂ ◌/◌ above below ∙ mul-div-mul_left (2 * part + whole) (2 * whole) thousand)
-
-  pub few_parts : (2 * part + whole) / (2 * whole) ≤ 1000
-  few_parts = subst (λ n. n ≤ 1000) (sym by_samples) (place_low (shifted low level) (shifted high level) apart)
