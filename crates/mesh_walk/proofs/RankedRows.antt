@@ -1,6 +1,7 @@
 -- How many crossing edges begin in a row of points, and before it.
-use Rattle.std.proofs.Common.{◌≡◌, ℕ, zero, suc, ◌+◌, ◌*◌, ◌^◌, ◌<◌, ◌≤◌, List, All, length, get_or, set, take, sym, ◌∙◌, ap, subst, arith, zero-add}
+use Rattle.std.proofs.Common.{◌≡◌, ℕ, zero, suc, ◌+◌, ◌*◌, ◌^◌, ◌<◌, ◌≤◌, List, All, length, get_or, set, take, sym, ◌∙◌, ap, subst, inl, inr, arith, zero-add}
 use Rattle.std.specs.List.{sum}
+use Rattle.std.proofs.lemmas.Bool.{cases_lt}
 use Rattle.std.proofs.lemmas.List.{get_or-set_other, get_or-set_same, get_or_default, length-set}
 use Rattle.std.proofs.lemmas.List.FromFn.{get_or-map-range_with_len}
 use Rattle.std.proofs.lemmas.List.Sums.{sum_by_more}
@@ -19,7 +20,8 @@ use Rattle.flat_mesh.proofs.Quiet.{quiet_rows}
 use Rattle.row_lists.proofs.ActiveLists.{few}
 use Rattle.mesh_rows.specs.Rows.{row_names}
 use Rattle.mesh_walk.proofs.RowSlots.{names_count}
-use Rattle.mesh_walk.specs.Numbers.{AreQuiet, AreRowRanks}
+use Rattle.mesh_walk.specs.Numbers.{AreQuiet, AreRowRanks, row_number}
+use Rattle.mesh_walk.specs.declared.ranks.RowPlace.{RowPlace}
 
 -- the edges of a row, by how many there are
 pub row_sum : (v : Leveled) (y z count : ℕ) → count ≡ length (row_names v y z)
@@ -142,11 +144,35 @@ pub record RowAt (v : Leveled) (row y z : ℕ) : Type 0 where
   pub z_low : z < v.grid.nz
   pub row_is : y + v.grid.ny * z ≡ row
 
-pub found_row : (v : Leveled) (g : Grid) (row y z : ℕ) → g ≡ v.grid → y < g.ny → z < g.nz → y + g.ny * z ≡ row → RowAt v row y z
-found_row v g row y z same hy hz e = record {
-  y_low = subst (λ (g : Grid). y < g.ny) same hy;
-  z_low = subst (λ (g : Grid). z < g.nz) same hz;
-  row_is = subst (λ (g : Grid). y + g.ny * z ≡ row) same e;
+-- a walk has come to the row of a number
+pub record HasCome (v : Leveled) (row : ℕ) (place : RowPlace) : Type 0 where
+  pub y_low : place.y < v.grid.ny
+  pub row_is : row_number v.grid place ≡ row
+
+pub come_first : (v : Leveled) (place : RowPlace) → IsGrid v.grid → place.y ≡ 0 → place.z ≡ 0 → HasCome v 0 place
+come_first v place is y z =
+    let none : v.grid.ny * place.z ≡ v.grid.ny * 0 = ap (λ n. v.grid.ny * n) z in
+    let least = is.y.least in
+    record { y_low = omega (arith, y); row_is = omega (arith, y, none) }
+
+pub come_next : (v : Leveled) (g : Grid) (row : ℕ) (place next : RowPlace) → g ≡ v.grid → next.y < g.ny → row_number g next ≡ row_number g place + 1
+    → HasCome v row place → HasCome v (row + 1) next
+come_next v g row place next same low on come = record {
+  y_low = subst (λ (g : Grid). next.y < g.ny) same low;
+  row_is = subst (λ g. row_number g next ≡ row_number g place + 1) same on ∙ ap (λ n. n + 1) come.row_is;
+}
+
+pub come_at : (v : Leveled) (row : ℕ) (place : RowPlace) → HasCome v row place → row < row_count v.grid → RowAt v row place.y place.z
+come_at v row place come low = record {
+  y_low = come.y_low;
+  z_low = elim (cases_lt place.z v.grid.nz) [
+    | inl z_low ↦ z_low
+    | inr high ↦ (
+        let k : v.grid.ny * v.grid.nz ≤ v.grid.ny * place.z = mul-le-mul_left v.grid.ny high in
+        let at = come.row_is in
+        absurd (omega arith))
+  ];
+  row_is = come.row_is;
 }
 
 -- the same of another volume that is equal

@@ -10,6 +10,11 @@ use Rattle.flat_mesh.specs.Faces.{loops_at}
 use Rattle.flat_mesh.specs.Lattice.{Leveled, heights}
 use Rattle.mesh_rows.specs.Counts.{centres_among}
 use Rattle.mesh_walk.specs.Spans.{edge_count}
+use Rattle.mesh_walk.specs.declared.ranks.RowPlace.{RowPlace}
+
+-- the number of a row of points, by its coordinates
+abbrev pub row_number : Grid → RowPlace → ℕ
+row_number g row = row.y + g.ny * row.z
 
 -- how many crossing edges begin at points before one
 abbrev pub edges_to : Leveled → ℕ → ℕ

@@ -7,14 +7,14 @@ ghost use Rattle.flat_mesh.specs.Rows.{row_start};
 ghost use Rattle.mesh_lines.specs.Blocks.{Adds};
 ghost use Rattle.mesh_walk.specs.Cells.{AreCells};
 ghost use Rattle.mesh_walk.specs.Fans.{AreFans, seen};
-ghost use Rattle.mesh_walk.specs.Numbers.{AreRowRanks, cells_cost, cost_of_row};
+ghost use Rattle.mesh_walk.specs.Numbers.{AreRowRanks, cells_cost, cost_of_row, row_number};
 ghost use Rattle.mesh_walk.specs.Places.{AreRowPlaces, due_to, in_slot};
 ghost use Rattle.mesh_walk.specs.Slots.{IsReady};
 ghost use Rattle.mesh_walk.specs.Spans.{all_centres_text, centres_text, row_centres_text};
 
 use crate::cells::RowCells;
 use crate::places::{CellPlaces, EdgePlaces};
-use crate::ranks::row_at;
+use crate::ranks::RowPlace;
 use crate::slots::{Around, first_slots};
 use crate::walk::Walk;
 use byte_streams::{Failed, Sink};
@@ -119,7 +119,7 @@ struct Centres {
 fn write_row<R: MeshRows, K: Sink>(
     rows: &mut R,
     walk: Walk<'_>,
-    row: u32,
+    row: RowPlace,
     centres: &mut Centres,
     block: &mut Block,
     sink: &mut K,
@@ -129,9 +129,11 @@ fn write_row<R: MeshRows, K: Sink>(
     requires ready { let v = R.leveled rows.old in
         IsReady (in_slot centres.old.places.slots.places) (due_to v) v centres.old.places.next }
     requires ranks { AreRowRanks (R.leveled rows.old) walk.ranks.now walk.total }
-    requires row { row < row_count (R.leveled rows.old).grid }
+    requires y { row.y < (R.leveled rows.old).grid.ny }
+    requires z { row.z < (R.leveled rows.old).grid.nz }
     ensures adds { let v = R.leveled rows.old in
-        Adds (K.seen sink.old) (K.seen sink.new) block.old block.new result (row_centres_text walk.entry.style v row) }
+        Adds (K.seen sink.old) (K.seen sink.new) block.old block.new result
+        (row_centres_text walk.entry.style v (row_number v.grid row)) }
     ensures bytes { IfOk result (λ _. block.new.total ≤ block.old.total + 256 * (R.leveled rows.old).grid.nx) }
     ensures style { centres.new.texts.style ≡ walk.entry.style }
     ensures width { centres.new.texts.count ≡ (R.leveled rows.old).grid.nx }
@@ -140,11 +142,11 @@ fn write_row<R: MeshRows, K: Sink>(
     ensures volume { R.leveled rows.new ≡ R.leveled rows.old }
     ensures kept { R.kept rows.new ≡ R.kept rows.old }
     ensures least { R.spent rows.old ≤ R.spent rows.new }
-    ensures most { let cost = R.row_cost (R.kept rows.old) in
-        R.spent rows.new ≤ R.spent rows.old + cost_of_row (R.leveled rows.old).grid cost row }
+    ensures most { let g = (R.leveled rows.old).grid in
+        R.spent rows.new ≤ R.spent rows.old + cost_of_row g (R.row_cost (R.kept rows.old)) (row_number g row) }
 {
-    let sizes = rows.sizes();
-    let (y, z) = row_at(&sizes, row);
+    let _ = rows.sizes();
+    let RowPlace { y, z } = row;
     if !centres.cells.find(rows, walk, y, z) {
         return Ok(());
     }
@@ -184,8 +186,10 @@ pub fn write_centres<R: MeshRows, K: Sink>(
         places: Around::of(EdgePlaces::new()),
         fans: [RowFan { x: 0, fan: 0 }; FANS],
     };
-    for row in 0..sizes.ny() * sizes.nz() {
-        write_row(rows, walk, row, &mut centres, block, sink)?;
+    let mut place = RowPlace::first();
+    for _row in 0..sizes.ny() * sizes.nz() {
+        write_row(rows, walk, place, &mut centres, block, sink)?;
+        place = place.next(&sizes);
     }
     Ok(())
 }

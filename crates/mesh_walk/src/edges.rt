@@ -5,10 +5,10 @@ ghost use Rattle.flat_mesh.specs.Rows.{row_start};
 ghost use Rattle.mesh_rows.specs.Rows.{AreEdges, row_places};
 ghost use Rattle.mesh_lines.specs.Blocks.{Adds};
 ghost use Rattle.mesh_walk.specs.Edges.{AreRowEdges};
-ghost use Rattle.mesh_walk.specs.Numbers.{AreRowRanks};
+ghost use Rattle.mesh_walk.specs.Numbers.{AreRowRanks, row_number};
 ghost use Rattle.mesh_walk.specs.Spans.{all_edges_text, edge_line, edges_text, row_edges_text};
 
-use crate::ranks::row_at;
+use crate::ranks::RowPlace;
 use crate::walk::Walk;
 use byte_streams::{Failed, Sink};
 use flat_mesh::Heights;
@@ -132,26 +132,28 @@ impl RowEdges {
 fn write_row<R: MeshRows, K: Sink>(
     rows: &mut R,
     walk: Walk<'_>,
-    row: u32,
+    row: RowPlace,
     edges: &mut RowEdges,
     block: &mut Block,
     sink: &mut K,
 ) -> Result<(), Failed>
     requires ranks { AreRowRanks (R.leveled rows.old) walk.ranks.now walk.total }
-    requires row { row < row_count (R.leveled rows.old).grid }
+    requires y { row.y < (R.leveled rows.old).grid.ny }
+    requires z { row.z < (R.leveled rows.old).grid.nz }
     requires style { edges.old.texts.style ≡ walk.style }
     requires width { edges.old.texts.count ≡ (R.leveled rows.old).grid.nx }
     ensures style { edges.new.texts.style ≡ edges.old.texts.style }
     ensures width { edges.new.texts.count ≡ edges.old.texts.count }
     ensures adds { let v = R.leveled rows.old in
-        Adds (K.seen sink.old) (K.seen sink.new) block.old block.new result (row_edges_text walk.entry.style v row) }
+        Adds (K.seen sink.old) (K.seen sink.new) block.old block.new result
+        (row_edges_text walk.entry.style v (row_number v.grid row)) }
     ensures bytes { IfOk result (λ _. block.new.total ≤ block.old.total + 192 * (R.leveled rows.old).grid.nx) }
     ensures volume { R.leveled rows.new ≡ R.leveled rows.old }
     ensures kept { R.kept rows.new ≡ R.kept rows.old }
     ensures spent { R.spent rows.new ≡ R.spent rows.old }
 {
-    let sizes = rows.sizes();
-    let (y, z) = row_at(&sizes, row);
+    let _ = rows.sizes();
+    let RowPlace { y, z } = row;
     if !walk.has_edges(rows, y, z) {
         return Ok(());
     }
@@ -177,8 +179,10 @@ pub fn write_edges<R: MeshRows, K: Sink>(
 {
     let sizes = rows.sizes();
     let mut edges = RowEdges::new(RowTexts::new(walk.style, sizes.nx(), block));
-    for row in 0..sizes.ny() * sizes.nz() {
-        write_row(rows, walk, row, &mut edges, block, sink)?;
+    let mut place = RowPlace::first();
+    for _row in 0..sizes.ny() * sizes.nz() {
+        write_row(rows, walk, place, &mut edges, block, sink)?;
+        place = place.next(&sizes);
     }
     Ok(())
 }

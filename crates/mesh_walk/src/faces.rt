@@ -1,4 +1,4 @@
-//! The lines of the triangles, cell by cell.
+//! The lines of the triangles: those of a row of cells are listed first, and then written one after the other.
 ghost use Rattle.std.specs.Prelude.{◌≡◌, ℕ, ◌+◌, ◌*◌, ◌/◌, ◌<◌, ◌≤◌, List, All, IfOk, length, map, slice_index};
 ghost use Rattle.std.specs.List.{concat};
 ghost use Rattle.iso_defs.specs.Rows.{row_count};
@@ -7,14 +7,14 @@ ghost use Rattle.mesh_lines.specs.Blocks.{Adds};
 ghost use Rattle.mesh_lines.specs.Triangles.{corner_text};
 ghost use Rattle.mesh_walk.specs.Cells.{AreCells, cells_start};
 ghost use Rattle.mesh_walk.specs.Listed.{HaveCorners};
-ghost use Rattle.mesh_walk.specs.Numbers.{AreRowRanks, HasNumber, cells_cost, cost_of_row};
+ghost use Rattle.mesh_walk.specs.Numbers.{AreRowRanks, HasNumber, cells_cost, cost_of_row, row_number};
 ghost use Rattle.mesh_walk.specs.Slots.{AreAround, IsReady};
 ghost use Rattle.mesh_walk.specs.Spans.{all_faces_text, face_lines, faces_text, row_faces_text};
 ghost use Rattle.mesh_walk.specs.Texts.{HasText, number_due};
 
 use crate::cells::RowCells;
 use crate::corners::{CornerSlots, LIST, list_corners};
-use crate::ranks::row_at;
+use crate::ranks::RowPlace;
 use crate::slots::{Around, TEXTS};
 use crate::texts::NumberTexts;
 use crate::walk::Walk;
@@ -119,21 +119,24 @@ impl Faces {
 fn write_row<R: MeshRows, K: Sink>(
     rows: &mut R,
     walk: Walk<'_>,
-    row: u32,
+    row: RowPlace,
     faces: &mut Faces,
     block: &mut Block,
     sink: &mut K,
 ) -> Result<(), Failed>
     requires ranks { AreRowRanks (R.leveled rows.old) walk.ranks.now walk.total }
-    requires row { row < row_count (R.leveled rows.old).grid }
+    requires y { row.y < (R.leveled rows.old).grid.ny }
+    requires z { row.z < (R.leveled rows.old).grid.nz }
     requires ready { let v = R.leveled rows.old in
         IsReady (text_at faces.old.texts.slots.texts) (number_due walk.style v) v faces.old.texts.next }
     requires slots { HaveCorners faces.old.slots.tables }
-    requires next { HasNumber (R.leveled rows.old) ((R.leveled rows.old).grid.nx * row) faces.old.next }
-    ensures adds { Adds (K.seen sink.old) (K.seen sink.new) block.old block.new result
-        (row_faces_text walk.entry.style.format (R.leveled rows.old) row) }
+    requires next { let v = R.leveled rows.old in
+        HasNumber v (v.grid.nx * row_number v.grid row) faces.old.next }
+    ensures adds { let v = R.leveled rows.old in
+        Adds (K.seen sink.old) (K.seen sink.new) block.old block.new result
+        (row_faces_text walk.entry.style.format v (row_number v.grid row)) }
     ensures next { let v = R.leveled rows.old in
-        IfOk result (λ _. HasNumber v (v.grid.nx * (row + 1)) faces.new.next) }
+        IfOk result (λ _. HasNumber v (v.grid.nx * (row_number v.grid row + 1)) faces.new.next) }
     ensures ready { let v = R.leveled rows.old in
         IsReady (text_at faces.new.texts.slots.texts) (number_due walk.entry.style v) v faces.new.texts.next }
     ensures slots { HaveCorners faces.new.slots.tables }
@@ -141,11 +144,11 @@ fn write_row<R: MeshRows, K: Sink>(
     ensures volume { R.leveled rows.new ≡ R.leveled rows.old }
     ensures kept { R.kept rows.new ≡ R.kept rows.old }
     ensures least { R.spent rows.old ≤ R.spent rows.new }
-    ensures most { let cost = R.row_cost (R.kept rows.old) in
-        R.spent rows.new ≤ R.spent rows.old + cost_of_row (R.leveled rows.old).grid cost row }
+    ensures most { let g = (R.leveled rows.old).grid in
+        R.spent rows.new ≤ R.spent rows.old + cost_of_row g (R.row_cost (R.kept rows.old)) (row_number g row) }
 {
-    let sizes = rows.sizes();
-    let (y, z) = row_at(&sizes, row);
+    let _ = rows.sizes();
+    let RowPlace { y, z } = row;
     if !faces.cells.find(rows, walk, y, z) {
         return Ok(());
     }
@@ -180,8 +183,10 @@ pub fn write_faces<R: MeshRows, K: Sink>(
         next: walk.total,
     };
     faces.slots.fill();
-    for row in 0..sizes.ny() * sizes.nz() {
-        write_row(rows, walk, row, &mut faces, block, sink)?;
+    let mut place = RowPlace::first();
+    for _row in 0..sizes.ny() * sizes.nz() {
+        write_row(rows, walk, place, &mut faces, block, sink)?;
+        place = place.next(&sizes);
     }
     Ok(())
 }

@@ -1,27 +1,26 @@
-use Rattle.std.proofs.Common.{◌+◌, ◌*◌, sym, ap, subst, rules, arith}
+use Rattle.std.proofs.Common.{◌+◌, ◌*◌, sym, subst, rules, arith}
 use Rattle.mesh_text.specs.Numbers.{text_at}
 use Rattle.mesh_walk.specs.Slots.{IsReady}
 use Rattle.mesh_walk.specs.Texts.{number_due}
 use Rattle.mesh_walk.proofs.TextSlots.{ready_still}
-use Rattle.mesh_walk.specs.Numbers.{AreQuiet}
+use Rattle.mesh_walk.specs.Numbers.{row_number}
 use Rattle.mesh_walk.proofs.Adding.{adds_as, adds_none}
 use Rattle.mesh_walk.proofs.FaceLines.{quiet_faces, quiet_number}
-use Rattle.mesh_walk.proofs.RankedRows.{found_row}
 use Rattle.mesh_walk.proofs.faces.write_row.Goals as goal
 
 pub returns-then-not-find-clause-adds : goal.returns-then-not-find-clause-adds
 returns-then-not-find-clause-adds g c =
     let v = g.R.Heights.leveled c.args.rows.now in
-    let at = found_row v _ _ _ _ c.sizes-sizes.ensures.value c.row_at-y.ensures.y c.row_at-y.ensures.z c.row_at-y.ensures.row in
-    let quiet = subst (λ a. AreQuiet v a v.grid.nx) (ap (λ n. v.grid.nx * n) at.row_is) (c.find.ensures.quiet c.if-not-find.true) in
-    adds_as _ _ _ _ _ _ _ (sym (quiet_faces c.args.walk.style.format v (v.grid.nx * c.args.row) v.grid.nx quiet)) (adds_none _ c.args.block.now tt)
+    let quiet = c.find.ensures.quiet c.if-not-find.true in
+    let row = row_number v.grid c.args.row in
+    adds_as _ _ _ _ _ _ _ (sym (quiet_faces c.args.walk.style.format v (v.grid.nx * row) v.grid.nx quiet)) (adds_none _ c.args.block.now tt)
 
 pub returns-then-not-find-clause-next : goal.returns-then-not-find-clause-next
 returns-then-not-find-clause-next g c =
     let v = g.R.Heights.leveled c.args.rows.now in
-    let at = found_row v _ _ _ _ c.sizes-sizes.ensures.value c.row_at-y.ensures.y c.row_at-y.ensures.z c.row_at-y.ensures.row in
-    let quiet = subst (λ a. AreQuiet v a v.grid.nx) (ap (λ n. v.grid.nx * n) at.row_is) (c.find.ensures.quiet c.if-not-find.true) in
-    quiet_number v (v.grid.nx * c.args.row) v.grid.nx (v.grid.nx * (c.args.row + 1)) c.args.faces.now.next quiet (omega arith) c.requires.next
+    let quiet = c.find.ensures.quiet c.if-not-find.true in
+    let row = row_number v.grid c.args.row in
+    quiet_number v (v.grid.nx * row) v.grid.nx (v.grid.nx * (row + 1)) c.args.faces.now.next quiet (omega arith) c.requires.next
 
 pub returns-clause-ready : goal.returns-clause-ready
 returns-clause-ready g c =
@@ -30,4 +29,4 @@ returns-clause-ready g c =
     let ready : IsReady (text_at c.turn_to.new.self.slots.texts) due v c.turn_to.new.self.next = search rules in
     let texts = text_at c.write.new.self.texts.slots.texts in
     subst (IsReady texts due v) (sym c.write.ensures.row)
-    (ready_still v c.sizes-sizes.ensures.leveled.grid (text_at c.turn_to.new.self.slots.texts) texts due c.write.ensures.edges c.turn_to.new.self.next ready)
+    (ready_still v c.sizes.ensures.leveled.grid (text_at c.turn_to.new.self.slots.texts) texts due c.write.ensures.edges c.turn_to.new.self.next ready)
