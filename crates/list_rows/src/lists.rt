@@ -2,22 +2,40 @@
 ghost use Rattle.std.specs.Prelude.{◌≡◌, ◌+◌, ◌-◌, ◌*◌, ◌/◌, ◌%◌, ◌<◌, ◌≤◌, length, map, slice_index, take};
 ghost use Rattle.row_lists.specs.Active.{active_among};
 ghost use Rattle.row_lists.specs.Edges.{edges_among};
-ghost use Rattle.mesh_rows.specs.Rows.{AreActive, AreEdges};
+ghost use Rattle.mesh_rows.specs.Rows.{AreEdges};
 ghost use Rattle.list_rows.specs.Lists.{cases_of, flags_of};
 ghost use Rattle.list_rows.specs.Cases.{AreRowCases};
-ghost use Rattle.list_rows.specs.Parts.{AreCells, HaveAllRows};
+ghost use Rattle.list_rows.specs.Parts.{AreCells, HaveAllRows, part_cases, part_places};
 
-use crate::parts::{RowParts, numbers_from, part_of};
+use crate::parts::{RowPart, RowParts, numbers_from, part_of};
 use flat_mesh::Heights;
 use row_lists::{CASES, EDGES, POINTS, list_active, list_edges};
 
-/// Lists the crossing edges of a row at the front of a buffer, by the numbers of its points, and says how many there are.
-pub fn list_whole_edges(numbers: &[u16], edges: &mut [u16; EDGES]) -> usize
+/// Buffers for a row that is kept whole: the flags of its points, and the cases of the cells that begin at them. They are made once, since
+/// what stands in them is written over, and to clear them for each row takes long.
+#[derive(Drop)]
+pub struct WholeRow {
+    pub flags: [u8; POINTS],
+    pub cases: [u16; CASES],
+}
+
+impl WholeRow {
+    /// Buffers for any row.
+    pub fn new() -> WholeRow {
+        WholeRow {
+            flags: [0; POINTS],
+            cases: [0; CASES],
+        }
+    }
+}
+
+/// Lists the crossing edges of a row at the front of a buffer, by the numbers of its points, and says how many there are. `row` is a
+/// buffer too.
+pub fn list_whole_edges(numbers: &[u16], row: &mut [u8; POINTS], edges: &mut [u16; EDGES]) -> usize
     requires { length numbers.now ≤ 1026 }
     ensures put { take result edges.new ≡ edges_among (flags_of numbers.now) 0 (length numbers.now) }
     ensures count { result ≤ 3 * length numbers.now }
 {
-    let mut row = [0u8; POINTS];
     let flags = &mut row[..numbers.len()];
     for x in 0..numbers.len() {
         flags[x] = (numbers[x] % 8) as u8;
@@ -46,9 +64,10 @@ pub fn list_cases(
     active
 }
 
-/// Lists the active cells of a row likewise, by the numbers of its points.
+/// Lists the active cells of a row likewise, by the numbers of its points. `all` is a buffer too.
 pub fn list_whole_cells(
     numbers: &[u16],
+    all: &mut [u16; CASES],
     places: &mut [u16; POINTS],
     cases: &mut [u16; POINTS],
 ) -> usize
@@ -58,11 +77,10 @@ pub fn list_whole_cells(
     ensures cases { take result cases.new ≡ map (slice_index (cases_of numbers.now)) (take result places.new) }
     ensures count { result < length numbers.now }
 {
-    let mut all = [0u16; CASES];
     for x in 0..numbers.len() {
         all[x] = numbers[x] / 8;
     }
-    list_cases(&all, numbers.len() - 1, places, cases)
+    list_cases(all, numbers.len() - 1, places, cases)
 }
 
 /// Buffers for a row of cells: the numbers of their cases, and the active ones among them, by how far each is along x, with its case.
@@ -121,6 +139,7 @@ pub fn list_row_edges<H: Heights>(
     rows: &RowParts,
     y: u32,
     z: u32,
+    whole: &mut WholeRow,
     edges: &mut [u16; EDGES],
 ) -> usize
     requires y { y < (H.leveled field.now).grid.ny }
@@ -133,36 +152,28 @@ pub fn list_row_edges<H: Heights>(
     let part = part_of(field, rows, y, z);
     let start = part.start as usize;
     if part.is_whole {
-        return list_whole_edges(numbers_from(rows, start, nx), edges);
+        return list_whole_edges(numbers_from(rows, start, nx), &mut whole.flags, edges);
     }
     let count = usize::from(part.edges);
     copy_front(numbers_from(rows, start, count), edges);
     count
 }
 
-/// Lists the cells of a row that may have loops at the front of two buffers, and says how many there are: how far each is along x,
-/// and its case.
-pub fn list_row_cells<H: Heights>(
-    field: &H,
+/// Lists the active cells of a row that is kept as what it has at the front of two buffers, and says how many there are: how far each is
+/// along x, and its case.
+pub fn list_few_cells(
     rows: &RowParts,
-    y: u32,
-    z: u32,
+    part: RowPart,
     places: &mut [u16; POINTS],
     cases: &mut [u16; POINTS],
 ) -> usize
-    requires y { y + 1 < (H.leveled field.now).grid.ny }
-    requires z { z + 1 < (H.leveled field.now).grid.nz }
-    requires rows { HaveAllRows (H.leveled field.now) rows.now }
-    ensures few { result < (H.leveled field.now).grid.nx }
-    ensures cells { AreActive (H.leveled field.now) y z (take result places.new) (take result cases.new) }
+    requires fit { part.start + part.edges + 2 * part.cells ≤ length rows.now.list.items }
+    requires few { part.cells ≤ 1026 }
+    ensures count { result ≡ part.cells }
+    ensures places { take result places.new ≡ part_places rows.now.list.items part }
+    ensures cases { take result cases.new ≡ part_cases rows.now.list.items part }
 {
-    let nx = field.sizes().nx() as usize;
-    let part = part_of(field, rows, y, z);
-    let start = part.start as usize;
-    if part.is_whole {
-        return list_whole_cells(numbers_from(rows, start, nx), places, cases);
-    }
-    let start = start + usize::from(part.edges);
+    let start = part.start as usize + usize::from(part.edges);
     let count = usize::from(part.cells);
     copy_front(numbers_from(rows, start, count), places);
     copy_front(numbers_from(rows, start + count, count), cases);

@@ -5,7 +5,8 @@ ghost use Rattle.iso_base.specs.Samples.{IsSample};
 
 use crate::field::ListField;
 use crate::kept::{KeptRows, all_rows};
-use crate::lists::{list_row_cells, list_row_edges};
+use crate::lists::{WholeRow, list_few_cells, list_row_edges, list_whole_cells};
+use crate::parts::{numbers_from, part_of};
 use crate::places::{count_row, place_row};
 use flat_mesh::{Cell, Heights};
 use iso_base::{Level, Memory, Sizes};
@@ -15,12 +16,13 @@ use samples::Samples;
 use std::alloc::Global;
 use std::marker::Model;
 
-/// A volume at a level, with the flags of its points, the cases of its cells and where its edges are crossed. Contracts see the
-/// grid, the samples and the level.
+/// A volume at a level, with the flags of its points, the cases of its cells and where its edges are crossed, and with buffers for a
+/// row. Contracts see the grid, the samples and the level.
 #[derive(Drop)]
 pub struct ListRows<'a, S: Samples> {
     field: ListField<'a, S>,
     kept: KeptRows,
+    whole: WholeRow,
 }
 
 impl<'a, S: Samples> Model for ListRows<'a, S> {
@@ -49,7 +51,11 @@ impl<'a, S: Samples> ListRows<'a, S> {
         let _ = sizes.count();
         let field = ListField::new(sizes, samples, level);
         let kept = all_rows(alloc, &field)?;
-        Ok(ListRows { field, kept })
+        Ok(ListRows {
+            field,
+            kept,
+            whole: WholeRow::new(),
+        })
     }
 }
 
@@ -82,7 +88,7 @@ impl<'a, S: Samples> MeshRows for ListRows<'a, S> {
     }
 
     fn list_edges(&mut self, y: u32, z: u32, edges: &mut [u16; EDGES]) -> usize {
-        list_row_edges(&self.field, &self.kept.rows, y, z, edges)
+        list_row_edges(&self.field, &self.kept.rows, y, z, &mut self.whole, edges)
     }
 
     fn fill_places(&mut self, y: u32, z: u32, edges: &[u16], places: &mut [u16]) {
@@ -97,7 +103,14 @@ impl<'a, S: Samples> MeshRows for ListRows<'a, S> {
         places: &mut [u16; POINTS],
         cases: &mut [u16; POINTS],
     ) -> usize {
-        list_row_cells(&self.field, &self.kept.rows, y, z, places, cases)
+        let nx = self.field.sizes().nx() as usize;
+        let rows = &self.kept.rows;
+        let part = part_of(&self.field, rows, y, z);
+        if part.is_whole {
+            let numbers = numbers_from(rows, part.start as usize, nx);
+            return list_whole_cells(numbers, &mut self.whole.cases, places, cases);
+        }
+        list_few_cells(rows, part, places, cases)
     }
 
     fn count_cells(&mut self) -> Counts {
