@@ -1,35 +1,22 @@
 //! The cases of the cells of a row, from the signs of the points around it.
-ghost use Rattle.std.specs.Prelude.{◌≡◌, ℕ, ◌+◌, ◌-◌, ◌*◌, ◌<◌, ◌≤◌, ◌==◌, ◌||◌, IfOk, cond, length, slice_index};
+ghost use Rattle.std.specs.Prelude.{◌≡◌, ℕ, ◌+◌, ◌-◌, ◌*◌, ◌<◌, ◌≤◌, ◌==◌, ◌||◌, IfOk, cond, length, min, slice_index};
 ghost use Rattle.std.specs.Int.{bit_at};
-ghost use Rattle.iso_defs.specs.Bricks.{bits_of};
-ghost use Rattle.flat_mesh.specs.Cases.{signs_at};
+ghost use Rattle.iso_defs.specs.Grid.{index};
 ghost use Rattle.flat_mesh.specs.Centres.{IsCellAt};
 ghost use Rattle.flat_mesh.specs.Rows.{IsSignRow, byte_of, row_start};
 ghost use Rattle.mesh_rows.specs.Counts.{AreCounts};
-ghost use Rattle.mesh_rows.specs.Rows.{AreCases, IsCaseOf};
-ghost use Rattle.list_rows.specs.Cases.{AreBytes, ArePut, AreRowCases, HaveRoom};
+ghost use Rattle.mesh_rows.specs.Rows.{AreCases, AreCasesTo};
+ghost use Rattle.list_rows.specs.Cases.{AreBytes, AreCasesBut, AreMixed, ArePut, AreRowCases, HaveRoom};
 ghost use Rattle.list_rows.specs.Signs.{AreRowSigns};
 
 use crate::counts::count_cell;
 use crate::signs::RowSigns;
+use case_table::{ambiguous_set, row_of};
 use flat_mesh::{Cell, Heights, cell_case, cell_row};
 use iso_base::{Point, Sizes};
 use mesh_rows::Counts;
 use std::alloc::{AllocError, Global};
 use std::simd::prelude::*;
-
-/// A number of a case that has the loops of a cell, from its sign byte.
-#[inline(always)]
-fn case_number<H: Heights>(field: &H, cell: Cell, signs: u8) -> u16
-    requires cell { IsCellAt (H.leveled field.now).grid cell }
-    requires signs { bits_of 8 signs ≡ signs_at (H.leveled field.now) cell.index }
-    ensures { IsCaseOf (H.leveled field.now) cell.index result }
-{
-    if signs == 0 || signs == 255 {
-        return 0;
-    }
-    cell_case(field, cell, signs).number()
-}
 
 /// A bit for each of the 64 bytes from a place on: whether it is neither 0 nor 255.
 #[inline(always)]
@@ -43,7 +30,120 @@ fn mixed_at(bytes: &[u8], from: usize) -> u64
     next.simd_gt(u8x64::splat(1)).to_bitmask()
 }
 
-/// Writes and counts the cases of 64 cells of a row from one on, bit after bit of those that may have loops.
+/// The index of the first point of a row.
+#[inline(always)]
+fn row_index<H: Heights>(field: &H, y: u32, z: u32) -> u32
+    requires y { y < (H.leveled field.now).grid.ny }
+    requires z { z < (H.leveled field.now).grid.nz }
+    ensures { result ≡ row_start (H.leveled field.now).grid y z }
+{
+    let sizes = field.sizes();
+    sizes.nx() * (y + sizes.ny() * z)
+}
+
+/// The cell so many places behind a point of a row, which begins with the point of index `start`.
+#[inline(always)]
+fn cell_behind<H: Heights>(field: &H, start: u32, low: Point, place: u32) -> Cell
+    requires start { start ≡ row_start (H.leveled field.now).grid low.y low.z }
+    requires x { low.x + place + 1 < (H.leveled field.now).grid.nx }
+    requires y { low.y + 1 < (H.leveled field.now).grid.ny }
+    requires z { low.z + 1 < (H.leveled field.now).grid.nz }
+    ensures cell { IsCellAt (H.leveled field.now).grid result }
+    ensures index { result.index ≡ index (H.leveled field.now).grid (low.x + place) low.y low.z }
+{
+    let _ = field.sizes();
+    let x = low.x + place;
+    Cell {
+        index: start + x,
+        low: Point { x, ..low },
+    }
+}
+
+/// Writes the cases of the cells of these bits as if none of their faces were joined, and gives the bits of those that have an ambiguous
+/// face: whether it is joined remains to be asked.
+#[inline(always)]
+fn put_clear<H: Heights>(field: &H, low: Point, bytes: &[u8], mixed: u64, cases: &mut [u16]) -> u64
+    requires x { low.x < (H.leveled field.now).grid.nx }
+    requires many { low.x + 64 ≤ length bytes.now }
+    requires bytes { AreBytes (H.leveled field.now) low.y low.z bytes.now }
+    requires count { length cases.old ≡ (H.leveled field.now).grid.nx }
+    requires before { AreCasesBut (H.leveled field.now) low.y low.z low.x mixed cases.old }
+    ensures { AreCasesBut (H.leveled field.now) low.y low.z low.x result cases.new }
+{
+    let _ = (field.sizes(), low.y, low.z);
+    let mut unclear = 0u64;
+    let mut rest = mixed;
+    while rest != 0 {
+        let place = rest.trailing_zeros();
+        let x = (low.x + place) as usize;
+        let signs = bytes[x];
+        // With no joined face this is one look into a table.
+        cases[x] = row_of(signs, 0).number();
+        // A bit in place of a branch: where cells have ambiguous faces here and there, it can't be foreseen.
+        unclear |= u64::from(ambiguous_set(signs) != 0) << place;
+        rest ^= 1 << place;
+    }
+    unclear
+}
+
+/// Writes the cases of the cells of these bits, whose faces have to be asked.
+#[inline(always)]
+fn put_unclear<H: Heights>(field: &H, low: Point, bytes: &[u8], unclear: u64, cases: &mut [u16])
+    requires y { low.y + 1 < (H.leveled field.now).grid.ny }
+    requires z { low.z + 1 < (H.leveled field.now).grid.nz }
+    requires x { low.x < (H.leveled field.now).grid.nx }
+    requires many { low.x + 64 ≤ length bytes.now }
+    requires bytes { AreBytes (H.leveled field.now) low.y low.z bytes.now }
+    requires count { length cases.old ≡ (H.leveled field.now).grid.nx }
+    requires before { AreCasesBut (H.leveled field.now) low.y low.z low.x unclear cases.old }
+    ensures { AreCasesBut (H.leveled field.now) low.y low.z low.x 0 cases.new }
+{
+    let start = row_index(field, low.y, low.z);
+    let mut rest = unclear;
+    while rest != 0 {
+        let place = rest.trailing_zeros();
+        let cell = cell_behind(field, start, low, place);
+        let x = (low.x + place) as usize;
+        cases[x] = cell_case(field, cell, bytes[x]).number();
+        rest ^= 1 << place;
+    }
+}
+
+/// Counts 64 cells of a row from one on, bit after bit of those that may have loops.
+#[inline(always)]
+fn count_many<H: Heights>(
+    field: &H,
+    low: Point,
+    mixed: u64,
+    cases: &[u16],
+    counts: Counts,
+) -> Counts
+    requires y { low.y + 1 < (H.leveled field.now).grid.ny }
+    requires z { low.z + 1 < (H.leveled field.now).grid.nz }
+    requires x { low.x < (H.leveled field.now).grid.nx }
+    requires count { length cases.now ≡ (H.leveled field.now).grid.nx }
+    requires mixed { AreMixed (H.leveled field.now) low.y low.z low.x mixed }
+    requires cases { AreCasesTo (H.leveled field.now) low.y low.z (low.x + 64) cases.now }
+    requires counts { let g = (H.leveled field.now).grid in
+        AreCounts (H.leveled field.now) (row_start g low.y low.z + min low.x g.nx) counts }
+    ensures { let g = (H.leveled field.now).grid in
+        AreCounts (H.leveled field.now) (row_start g low.y low.z + min (low.x + 64) g.nx) result }
+{
+    let start = row_index(field, low.y, low.z);
+    let mut counts = counts;
+    let mut rest = mixed;
+    while rest != 0 {
+        let place = rest.trailing_zeros();
+        let cell = cell_behind(field, start, low, place);
+        let case = cases[(low.x + place) as usize];
+        counts = count_cell(field, cell, case, counts);
+        rest ^= 1 << place;
+    }
+    counts
+}
+
+/// Writes and counts the cases of 64 cells of a row from one on. Those that have to ask for their faces come after the others, so that
+/// each loop does the same for all of its cells.
 #[inline(always)]
 fn put_many<H: Heights>(
     field: &H,
@@ -62,23 +162,10 @@ fn put_many<H: Heights>(
     requires before { ArePut (H.leveled field.now) low.y low.z low.x cases.old counts }
     ensures { ArePut (H.leveled field.now) low.y low.z (low.x + 64) cases.new result }
 {
-    let sizes = field.sizes();
-    let start = sizes.nx() * (low.y + sizes.ny() * low.z);
-    let mut counts = counts;
-    let mut mixed = mixed_at(bytes, low.x as usize);
-    while mixed != 0 {
-        let place = mixed.trailing_zeros();
-        let x = low.x + place;
-        let cell = Cell {
-            index: start + x,
-            low: Point { x, ..low },
-        };
-        let case = case_number(field, cell, bytes[x as usize]);
-        cases[x as usize] = case;
-        counts = count_cell(field, cell, case, counts);
-        mixed ^= 1 << place;
-    }
-    counts
+    let mixed = mixed_at(bytes, low.x as usize);
+    let unclear = put_clear(field, low, bytes, mixed, cases);
+    put_unclear(field, low, bytes, unclear, cases);
+    count_many(field, low, mixed, cases, counts)
 }
 
 /// Writes and counts the cases of the cells of a row over zeros, from their sign bytes.
