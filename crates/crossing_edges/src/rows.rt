@@ -1,17 +1,17 @@
 //! The crossing edges of the rows of a volume at a level, and where they are crossed.
-ghost use Rattle.std.specs.Prelude.{◌≡◌, ◌+◌, ◌*◌, ◌<◌, ◌≤◌, ◌^◌, All, length, map, take, true, unsigned_abs};
+ghost use Rattle.std.specs.Prelude.{◌≡◌, ◌+◌, ◌*◌, ◌<◌, ◌≤◌, All, length, map, take, true};
 ghost use Rattle.iso_defs.specs.Grid.{Grid, point_count, stride};
 ghost use Rattle.iso_defs.specs.Scratch.{crossing_edges};
 ghost use Rattle.iso_defs.specs.Signs.{is_crossing};
 ghost use Rattle.iso_base.specs.Samples.{IsSample};
-ghost use Rattle.iso_base.specs.Shifted.{field};
+ghost use Rattle.iso_base.specs.Shifted.{field, shifted};
 ghost use Rattle.iso_base.specs.Sizing.{IsGrid};
 ghost use Rattle.crossing_edges.specs.Flags.{edge_place, flags_from, names_in, places_in};
 ghost use Rattle.crossing_edges.specs.Leveled.{heights};
 ghost use Rattle.crossing_edges.specs.Rows.{AreOffsets};
 
 use crate::counts::count_all_edges;
-use edge_points::place;
+use edge_points::sample_place;
 use iso_base::{Level, Sizes};
 use row_lists::{EDGES, list_edges};
 use samples::Samples;
@@ -98,14 +98,14 @@ impl<'a, S: Samples> EdgeRows<'a, S> {
         count_all_edges(self.flags)
     }
 
-    /// The height over the level at a point.
+    /// The sample of a point.
     #[inline(always)]
-    fn height(&self, point: u32) -> i64
+    fn sample(&self, point: u32) -> i64
         requires point { point < point_count self.now.grid }
-        ensures value { result ≡ heights self.now point }
-        ensures bound { unsigned_abs result < 2 ^ 44 }
+        ensures height { shifted result self.now.level ≡ heights self.now point }
+        ensures sample { IsSample result }
     {
-        self.level.shifted(self.samples.at(point))
+        self.samples.at(point)
     }
 
     /// How far apart the indices of neighbours along an axis are. No branch rests on the axis, whose way a processor would have
@@ -131,7 +131,7 @@ impl<'a, S: Samples> EdgeRows<'a, S> {
         let _ = self.sizes();
         let lower = start + u32::from(edge / 3);
         let upper = lower + self.step(edge % 3);
-        place(self.height(lower), self.height(upper))
+        sample_place(self.level, self.sample(lower), self.sample(upper))
     }
 
     /// Fills in where the crossing edges of a row are crossed, at the front of a buffer.
