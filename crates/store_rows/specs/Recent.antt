@@ -8,32 +8,28 @@ use Rattle.store_rows.specs.Cells.{AreListed}
 use Rattle.store_rows.specs.declared.known.KnownRows.{KnownRows}
 use Rattle.store_rows.specs.declared.recent.RecentLists.{RecentLists}
 
--- a list of so many numbers, before which so many were put, lies in one piece among the last ones
-pub record IsWithin (start count next : ℕ) : Type 0 where
-  pub before : start + count ≤ next
-  pub inside : start % 262144 + count ≤ 262144
-
--- all do whose places are noted
+-- the lists that are noted lie among the numbers that are in use, of which there are no more than there is room for
 pub record AreWithin (lists : RecentLists) : Type 0 where
   pub tags : length lists.tags.now ≡ 49152
   pub starts : length lists.starts.now ≡ 49152
   pub counts : length lists.counts.now ≡ 49152
-  pub numbers : length lists.numbers.now ≡ 262144
-  pub each : (k : ℕ) → k < 49152 → IsWithin (slice_index lists.starts.now k) (slice_index lists.counts.now k) lists.next
-  pub low : lists.next ≤ 2 ^ 31 + 8192
+  pub least : 4096 ≤ length lists.numbers.now
+  pub most : length lists.numbers.now < 2 ^ 31
+  pub each : (k : ℕ) → k < 49152 → slice_index lists.starts.now k < 4294967295 → slice_index lists.starts.now k + slice_index lists.counts.now k ≤ lists.next
+  pub next : lists.next ≤ length lists.numbers.now
 
--- the list at the place of a key is its own, and no number was written over it since
-pub record AreNoted (tags starts : List ℕ) (next key : ℕ) : Type 0 where
+-- a list is noted at the place of a key, and is its own
+pub record AreNoted (tags starts : List ℕ) (key : ℕ) : Type 0 where
   pub tag : slice_index tags (key % 49152) ≡ key / 49152
-  pub recent : next ≤ slice_index starts (key % 49152) + 262144
+  pub some : slice_index starts (key % 49152) < 4294967295
 
 abbrev pub IsNoted : RecentLists → ℕ → Type 0
-IsNoted lists key = AreNoted lists.tags.now lists.starts.now lists.next key
+IsNoted lists key = AreNoted lists.tags.now lists.starts.now key
 
 -- this list is kept under a key
 pub record IsKept (lists : RecentLists) (key : ℕ) (list : List ℕ) : Type 0 where
   pub noted : IsNoted lists key
-  pub list_is : list ≡ take (slice_index lists.counts.now (key % 49152)) (drop (slice_index lists.starts.now (key % 49152) % 262144) lists.numbers.now)
+  pub list_is : list ≡ take (slice_index lists.counts.now (key % 49152)) (drop (slice_index lists.starts.now (key % 49152)) lists.numbers.now)
 
 -- this is the list that was put under this key
 pub record IsPut (key : ℕ) (list : List ℕ) (k : ℕ) (l : List ℕ) : Type 0 where

@@ -101,6 +101,8 @@ pub struct KnownRows<'a> {
 impl<'a> KnownRows<'a> {
     /// Nothing is known.
     pub fn new(field: &Field, room: ListRoom<'a>) -> KnownRows<'a>
+        requires least { 4096 ≤ length room.numbers.now }
+        requires most { length room.numbers.now < 2 ^ 31 }
         ensures { AreKnown field.now result }
     {
         // Reading the sizes brings in what is true of every volume at a level.

@@ -1,5 +1,5 @@
 //! The rows of a volume in bricks.
-ghost use Rattle.std.specs.Prelude.{◌≡◌, ◌+◌, ◌*◌, ◌<◌, ◌≤◌, All, length, map, slice_index, take};
+ghost use Rattle.std.specs.Prelude.{◌≡◌, ◌+◌, ◌*◌, ◌^◌, ◌<◌, ◌≤◌, All, length, map, slice_index, take};
 ghost use Rattle.flat_mesh.specs.Lattice.{heights};
 ghost use Rattle.iso_defs.specs.Bricks.{brick_count};
 ghost use Rattle.mesh_rows.specs.Rows.{AreCases};
@@ -92,7 +92,9 @@ impl<'a, R: CellRows, L: Ledger> StoreRows<'a, R, L> {
         room: ListRoom<'a>,
         steps: &'a mut Steps<L>,
     ) -> StoreRows<'a, R, L>
-        requires { NamesCases (R.named rows.old) field.now.grid (heights field.now) }
+        requires least { 4096 ≤ length room.numbers.now }
+        requires most { length room.numbers.now < 2 ^ 31 }
+        requires named { NamesCases (R.named rows.old) field.now.grid (heights field.now) }
         ensures field { result.field.now ≡ field.now }
         ensures same_rows { result.rows.ghost_name ≡ rows.entry.ghost_name }
         ensures rows { result.rows.now ≡ rows.old }
