@@ -113,7 +113,7 @@ impl Bench {
         let tree = SpanTree::of(alloc, &store)?;
         let cache = MeshCache::new(alloc, capacity)?;
         let log = EditLog::new(alloc)?;
-        let ranks = RowRanks::new(alloc, &store.sizes())?;
+        let ranks = RowRanks::with_room(alloc, &store.sizes())?;
         Ok(Bench {
             alloc,
             store,

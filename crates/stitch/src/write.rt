@@ -1,5 +1,5 @@
 //! A mesh written while its volume is walked.
-ghost use Rattle.std.specs.Prelude.{◌≡◌, ◌+◌, ◌*◌, ◌≤◌, IfOk, is_some};
+ghost use Rattle.std.specs.Prelude.{◌≡◌, ◌+◌, ◌*◌, ◌<◌, ◌≤◌, ◌^◌, IfOk, is_some, length};
 ghost use Rattle.iso_defs.specs.Bricks.{brick_count};
 ghost use Rattle.iso_defs.specs.Texts.{scratch_ply};
 ghost use Rattle.iso_base.specs.Shifted.{field};
@@ -21,7 +21,7 @@ use mesh_walk::write_mesh;
 use span_tree::SpanTree;
 use std::sync::ledger::Ledger;
 use stitch_rows::{CellRows, Field};
-use store_rows::{ListRoom, NUMBERS, PLACES, StoreRows};
+use store_rows::{LEAST_ROOM, ListRoom, PLACES, StoreRows};
 
 /// Where the coordinates of the mesh of a volume are counted from.
 fn origin_of(store: &BrickStore) -> Origin
@@ -31,6 +31,17 @@ fn origin_of(store: &BrickStore) -> Origin
         Origin::Pad
     } else {
         Origin::Volume
+    }
+}
+
+/// The room for lists that was borrowed, where it is large enough, else a small one.
+fn numbers_of<'n>(taken: &'n mut Option<Vec<u16>>, few: &'n mut [u16; LEAST_ROOM]) -> &'n mut [u16]
+    ensures least { 4096 ≤ length result.now }
+    ensures most { length result.now < 2 ^ 31 }
+{
+    match taken {
+        Some(room) if LEAST_ROOM <= room.len() && room.len() < 1 << 31 => room.as_mut_slice(),
+        _ => few,
     }
 }
 
@@ -61,15 +72,18 @@ fn write_in<R: CellRows, K: Sink, L: Ledger>(
     let mut tags = [0; PLACES];
     let mut starts = [0; PLACES];
     let mut counts = [0; PLACES];
-    let mut numbers = [0; NUMBERS];
+    let mut few = [0; LEAST_ROOM];
+    let mut taken = ranks.take_room();
     let room = ListRoom {
         tags: &mut tags,
         starts: &mut starts,
         counts: &mut counts,
-        numbers: &mut numbers,
+        numbers: numbers_of(&mut taken, &mut few),
     };
     let mut store = StoreRows::new(field, rows, room, steps);
-    write_mesh(&mut store, style, ranks, sink)
+    let written = write_mesh(&mut store, style, ranks, sink);
+    ranks.put_room(taken);
+    written
 }
 
 /// Appends the text of the mesh of a volume in bricks at a level, as PLY, and says how many vertices, faces and bytes were
