@@ -1,6 +1,6 @@
 //! A brick of a volume at a level.
 ghost use Rattle.std.specs.Prelude.{◌≡◌, ℕ, ◌+◌, ◌-◌, ◌/◌, ◌%◌, ◌<◌, ◌≤◌, ◌^◌, All, length, map, unsigned_abs};
-ghost use Rattle.iso_defs.specs.Bricks.{brick_cell, brick_count, in_brick};
+ghost use Rattle.iso_defs.specs.Bricks.{brick_cell, brick_count, has_cell, in_brick};
 ghost use Rattle.iso_defs.specs.Cell.{cell_values};
 ghost use Rattle.iso_base.specs.Samples.{IsSample};
 ghost use Rattle.iso_base.specs.Shifted.{shifted};
@@ -143,6 +143,20 @@ impl<'a> Block<'a> {
         ensures { result ≡ in_brick self.now.grid self.now.brick 0 y z }
     {
         y < self.along_y && z < self.along_z
+    }
+
+    /// Whether the brick has this cell.
+    #[inline(always)]
+    pub fn has_cell(&self, cell: u32) -> bool
+        requires { cell < 512 }
+        ensures { result ≡ has_cell self.now.grid self.now.brick cell }
+    {
+        // Most bricks have all cells, which is found out once for all of them.
+        let whole = self.along_x == 9 && self.along_y == 9 && self.along_z == 9;
+        whole
+            || (cell % 8 + 1 < u32::from(self.along_x)
+                && cell / 8 % 8 + 1 < u32::from(self.along_y)
+                && cell / 64 + 1 < u32::from(self.along_z))
     }
 
     /// How many cells the brick has along x.

@@ -7,12 +7,12 @@ ghost use Rattle.case_table.specs.Cases.{are_ambiguous};
 ghost use Rattle.iso_base.specs.Shifted.{field};
 ghost use Rattle.brick_mesh.specs.Block.{HasPoint, IsCell, IsCellRow, heights};
 ghost use Rattle.brick_mesh.specs.Entries.{IsPlain, case_of, entries_from, first_cases};
-ghost use Rattle.brick_mesh.specs.Signs.{AreBytes, AreRows};
+ghost use Rattle.brick_mesh.specs.Signs.{AreBytes, ArePlane, AreRows};
 ghost use Rattle.brick_store.specs.Copies.{AreCopiesOf};
 ghost use Rattle.brick_store.specs.Holding.{points_along};
 
 use crate::block::Block;
-use crate::lanes::sign_bytes;
+use crate::lanes::{mixed_at, sign_bytes};
 use crate::signs::{PairRows, bytes_among, has_only, is_mixed, pair_rows};
 use arrayvec::ArrayVec;
 use brick_store::{BrickId, BrickStore};
@@ -101,58 +101,86 @@ fn bytes_of_row(block: &Block<'_>, rows: &PairRows, row: u8) -> [u8; 8]
     )
 }
 
-/// Puts the entries of a row of cells with these sign bytes behind those of the rows before it.
-fn add_cells<T: Packed, L: Ledger>(
+/// Writes a row of sign bytes from a place on.
+#[inline(always)]
+fn put_bytes(row: &[u8; 8], start: usize, bytes: &mut [u8; 64])
+    requires room { start + 8 ≤ 64 }
+    ensures inside { (x : ℕ) → x < 8 → slice_index bytes.new (start + x) ≡ slice_index row.now x }
+    ensures before { (k : ℕ) → k < start → slice_index bytes.new k ≡ slice_index bytes.old k }
+{
+    bytes[start..start + 8].copy_from_slice(row);
+}
+
+/// The sign bytes of a plane of cells across z, from the rows of signs.
+#[inline(always)]
+fn bytes_of_plane(block: &Block<'_>, rows: &PairRows, z: u8) -> [u8; 64]
+    requires z { z < 8 }
+    requires rows { AreRows block.now 81 rows.now }
+    ensures { ArePlane block.now z 64 result }
+{
+    let mut bytes = [0; 64];
+    for y in 0..8 {
+        let row = bytes_of_row(block, rows, y + 8 * z);
+        put_bytes(&row, 8 * usize::from(y), &mut bytes);
+    }
+    bytes
+}
+
+/// Puts the entry of a cell with this sign byte behind the others, if the brick has the cell and that has a crossing edge.
+#[inline(always)]
+fn add_there<T: Packed, L: Ledger>(
     block: &Block<'_>,
     copies: &[T],
-    signs: &[u8; 8],
-    row: u8,
+    cell: u32,
+    signs: u8,
     entries: &mut ArrayVec<u32, 512>,
     steps: &mut Steps<L>,
 )
     requires copies { AreCopiesOf block.now.grid block.now.samples block.now.brick (map T.value copies.now) }
-    requires row { row < 64 }
-    requires signs { AreBytes block.now row signs.now }
-    requires entries { entries.old.items ≡ entries_from block.now 0 (8 * row) }
-    ensures entries { entries.new.items ≡ entries_from block.now 0 (8 * row + 8) }
-    ensures counted { steps.new + length entries.old.items ≡ steps.old + length entries.new.items }
+    requires cell { cell < 512 }
+    requires signs { IsCell block.now cell → bits_of 8 signs ≡ cell_signs block.now.grid (heights block.now)
+        (brick_cell block.now.grid block.now.brick cell) }
+    requires room { array_vec_len entries.old < 512 }
+    ensures entries { entries.new.items ≡ entries.old.items ++ entries_from block.now cell 1 }
+    ensures counted { steps.new ≡ steps.old + length (entries_from block.now cell 1) }
 {
-    if !block.has_row(row % 8 + 1, row / 8 + 1) {
-        return;
-    }
-    for x in 0..block.cells_along_x() {
-        let cell = 8 * u32::from(row) + u32::from(x);
-        add_cell(block, copies, cell, signs[x as usize], entries, steps);
+    if block.has_cell(cell) {
+        add_cell(block, copies, cell, signs, entries, steps);
     }
 }
 
-/// Puts the entries of a row of cells behind those of the rows before it.
-/// Most rows have none, and are passed over at once.
-#[inline(always)]
-fn add_row<T: Packed, L: Ledger>(
+/// Puts the entries of a plane of cells across z behind those of the planes before it. The cells are gone through by the bits of
+/// a mask, since a processor can't foresee which of them have a crossing edge.
+fn add_plane<T: Packed, L: Ledger>(
     block: &Block<'_>,
     copies: &[T],
     rows: &PairRows,
-    row: u8,
+    z: u8,
     entries: &mut ArrayVec<u32, 512>,
     steps: &mut Steps<L>,
 )
     requires copies { AreCopiesOf block.now.grid block.now.samples block.now.brick (map T.value copies.now) }
-    requires row { row < 64 }
+    requires z { z < 8 }
     requires rows { AreRows block.now 81 rows.now }
-    requires entries { entries.old.items ≡ entries_from block.now 0 (8 * row) }
-    ensures entries { entries.new.items ≡ entries_from block.now 0 (8 * row + 8) }
+    requires entries { entries.old.items ≡ entries_from block.now 0 (64 * z) }
+    ensures entries { entries.new.items ≡ entries_from block.now 0 (64 * z + 64) }
     ensures counted { steps.new + length entries.old.items ≡ steps.old + length entries.new.items }
 {
-    let signs = bytes_of_row(block, rows, row);
-    if has_only(&signs, 0) || has_only(&signs, 255) {
-        return;
+    let signs = bytes_of_plane(block, rows, z);
+    let mut bits = mixed_at(&signs, 0);
+    let mut next = 0;
+    while bits != 0 {
+        let skipped = bits.trailing_zeros();
+        let place = next + skipped;
+        let cell = 64 * u32::from(z) + place;
+        add_there(block, copies, cell, signs[place as usize], entries, steps);
+        next += skipped + 1;
+        bits = (bits >> skipped) / 2;
     }
-    add_cells(block, copies, &signs, row, entries, steps);
 }
 
 /// Puts the entries of a brick into an empty list.
-fn add_rows<T: Packed, L: Ledger>(
+fn add_planes<T: Packed, L: Ledger>(
     block: &Block<'_>,
     copies: &[T],
     rows: &PairRows,
@@ -166,8 +194,8 @@ fn add_rows<T: Packed, L: Ledger>(
     ensures counted { steps.new ≡ steps.old + length entries.new.items }
     ensures bound { steps.new ≤ steps.old + 512 }
 {
-    for row in 0..64 {
-        add_row(block, copies, rows, row, entries, steps);
+    for z in 0..8 {
+        add_plane(block, copies, rows, z, entries, steps);
     }
 }
 
@@ -185,11 +213,11 @@ fn add_entries<L: Ledger>(
     ensures bound { steps.new ≤ steps.old + 512 }
 {
     match block.copies() {
-        PackedRun::U8(copies) => add_rows(block, copies, rows, entries, steps),
-        PackedRun::I16(copies) => add_rows(block, copies, rows, entries, steps),
-        PackedRun::U16(copies) => add_rows(block, copies, rows, entries, steps),
-        PackedRun::I32(copies) => add_rows(block, copies, rows, entries, steps),
-        PackedRun::I64(copies) => add_rows(block, copies, rows, entries, steps),
+        PackedRun::U8(copies) => add_planes(block, copies, rows, entries, steps),
+        PackedRun::I16(copies) => add_planes(block, copies, rows, entries, steps),
+        PackedRun::U16(copies) => add_planes(block, copies, rows, entries, steps),
+        PackedRun::I32(copies) => add_planes(block, copies, rows, entries, steps),
+        PackedRun::I64(copies) => add_planes(block, copies, rows, entries, steps),
     }
 }
 
