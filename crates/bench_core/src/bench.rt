@@ -21,6 +21,7 @@ use crate::contour::plane_contours;
 use crate::edits::{area_change, is_in_range, one_change};
 use crate::fault::BeginFault;
 use crate::follow::follow;
+use crate::ranks::ranks_of;
 use crate::walked::{walked_measures, walked_numbers};
 use crate::windows::{Window, write_window};
 use brick_store::BrickStore;
@@ -113,7 +114,7 @@ impl Bench {
         let tree = SpanTree::of(alloc, &store)?;
         let cache = MeshCache::new(alloc, capacity)?;
         let log = EditLog::new(alloc)?;
-        let ranks = RowRanks::new(alloc, &store.sizes())?;
+        let ranks = ranks_of(alloc, &store.sizes())?;
         Ok(Bench {
             alloc,
             store,

@@ -8,6 +8,7 @@ mod contour;
 mod edits;
 mod fault;
 mod follow;
+mod ranks;
 mod surface;
 mod walked;
 mod windows;

@@ -8,7 +8,7 @@ use Rattle.iso_base.specs.declared.format.MeshFormat.{MeshFormat}
 use Rattle.iso_base.specs.declared.format.MeshFormat.TheVariants.{Ply, Obj}
 use Rattle.byte_streams.specs.Seen.{Puts, Tape}
 use Rattle.flat_mesh.specs.Lattice.{Leveled, heights}
-use Rattle.mesh_defs.specs.Lists.{FlatMesh}
+use Rattle.iso_defs.specs.MeshLists.{FlatMesh}
 use Rattle.flat_mesh.specs.Mesh.{mesh_of}
 use Rattle.mesh_lines.specs.declared.style.Origin.{Origin}
 use Rattle.mesh_lines.specs.declared.style.Style.{Style}

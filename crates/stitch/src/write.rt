@@ -21,7 +21,7 @@ use mesh_walk::write_mesh;
 use span_tree::SpanTree;
 use std::sync::ledger::Ledger;
 use stitch_rows::{CellRows, Field};
-use store_rows::{ListRoom, NUMBERS, PLACES, StoreRows};
+use store_rows::{ListRoom, PLACES, StoreRows};
 
 /// Where the coordinates of the mesh of a volume are counted from.
 fn origin_of(store: &BrickStore) -> Origin
@@ -61,7 +61,8 @@ fn write_in<R: CellRows, K: Sink, L: Ledger>(
     let mut tags = [0; PLACES];
     let mut starts = [0; PLACES];
     let mut counts = [0; PLACES];
-    let mut numbers = [0; NUMBERS];
+    // What is kept of rows has room that stays with the ranks from one write to the next.
+    let mut numbers = ranks.take_room();
     let room = ListRoom {
         tags: &mut tags,
         starts: &mut starts,
@@ -69,7 +70,9 @@ fn write_in<R: CellRows, K: Sink, L: Ledger>(
         numbers: &mut numbers,
     };
     let mut store = StoreRows::new(field, rows, room, steps);
-    write_mesh(&mut store, style, ranks, sink)
+    let written = write_mesh(&mut store, style, ranks, sink);
+    ranks.put_room(numbers);
+    written
 }
 
 /// Appends the text of the mesh of a volume in bricks at a level, as PLY, and says how many vertices, faces and bytes were

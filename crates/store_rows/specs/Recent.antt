@@ -1,5 +1,6 @@
 -- Lists of numbers that are kept, each under a key.
-use Rattle.std.specs.Prelude.{◌≡◌, ℕ, ◌+◌, ◌*◌, ◌/◌, ◌%◌, ◌^◌, ◌<◌, ◌≤◌, List, drop, length, slice_index, take}
+use Rattle.std.specs.Prelude.{◌≡◌, ℕ, ◌+◌, ◌*◌, ◌/◌, ◌%◌, ◌^◌, ◌<◌, ◌≤◌, List, [], Option, Some, None, drop, length, slice_index, take}
+use Rattle.std.specs.Global.{Vec}
 use Rattle.iso_defs.specs.Rows.{row_count}
 use Rattle.flat_mesh.specs.Lattice.{Leveled}
 use Rattle.mesh_rows.specs.Rows.{AreEdges, row_places}
@@ -8,32 +9,36 @@ use Rattle.store_rows.specs.Cells.{AreListed}
 use Rattle.store_rows.specs.declared.known.KnownRows.{KnownRows}
 use Rattle.store_rows.specs.declared.recent.RecentLists.{RecentLists}
 
--- a list of so many numbers, before which so many were put, lies in one piece among the last ones
-pub record IsWithin (start count next : ℕ) : Type 0 where
-  pub before : start + count ≤ next
-  pub inside : start % 262144 + count ≤ 262144
+-- the numbers of a room; none where there is no room
+abbrev pub numbers_in : Option (Vec ℕ) → List ℕ
+numbers_in (Some numbers) = numbers.items
+numbers_in None = []
 
--- all do whose places are noted
+-- the numbers of the lists that were put
+abbrev pub numbers_of : RecentLists → List ℕ
+numbers_of lists = numbers_in lists.numbers.now
+
+-- the lists that are noted lie among the numbers that were put, and these are no more than may be
 pub record AreWithin (lists : RecentLists) : Type 0 where
   pub tags : length lists.tags.now ≡ 49152
   pub starts : length lists.starts.now ≡ 49152
   pub counts : length lists.counts.now ≡ 49152
-  pub numbers : length lists.numbers.now ≡ 262144
-  pub each : (k : ℕ) → k < 49152 → IsWithin (slice_index lists.starts.now k) (slice_index lists.counts.now k) lists.next
-  pub low : lists.next ≤ 2 ^ 31 + 8192
+  pub most : lists.most < 2 ^ 31
+  pub each : (k : ℕ) → k < 49152 → slice_index lists.starts.now k < 4294967295 → slice_index lists.starts.now k + slice_index lists.counts.now k ≤ length (numbers_of lists)
+  pub few : length (numbers_of lists) ≤ lists.most
 
--- the list at the place of a key is its own, and no number was written over it since
-pub record AreNoted (tags starts : List ℕ) (next key : ℕ) : Type 0 where
+-- a list is noted at the place of a key, and is its own
+pub record AreNoted (tags starts : List ℕ) (key : ℕ) : Type 0 where
   pub tag : slice_index tags (key % 49152) ≡ key / 49152
-  pub recent : next ≤ slice_index starts (key % 49152) + 262144
+  pub some : slice_index starts (key % 49152) < 4294967295
 
 abbrev pub IsNoted : RecentLists → ℕ → Type 0
-IsNoted lists key = AreNoted lists.tags.now lists.starts.now lists.next key
+IsNoted lists key = AreNoted lists.tags.now lists.starts.now key
 
 -- this list is kept under a key
 pub record IsKept (lists : RecentLists) (key : ℕ) (list : List ℕ) : Type 0 where
   pub noted : IsNoted lists key
-  pub list_is : list ≡ take (slice_index lists.counts.now (key % 49152)) (drop (slice_index lists.starts.now (key % 49152) % 262144) lists.numbers.now)
+  pub list_is : list ≡ take (slice_index lists.counts.now (key % 49152)) (drop (slice_index lists.starts.now (key % 49152)) (numbers_of lists))
 
 -- this is the list that was put under this key
 pub record IsPut (key : ℕ) (list : List ℕ) (k : ℕ) (l : List ℕ) : Type 0 where

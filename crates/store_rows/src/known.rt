@@ -2,7 +2,7 @@
 ghost use Rattle.std.specs.Prelude.{◌≡◌, ◌+◌, ◌*◌, ◌/◌, ◌^◌, ◌<◌, ◌≤◌, ◌++◌, IfSome, drop, length, take};
 ghost use Rattle.mesh_rows.specs.Rows.{AreActive, AreEdges, row_names, row_places};
 ghost use Rattle.stitch_rows.specs.Bricks.{AreMarked};
-ghost use Rattle.store_rows.specs.Recent.{AreKnown, IsNoted};
+ghost use Rattle.store_rows.specs.Recent.{AreKnown};
 
 use crate::recent::{ListRoom, RecentLists};
 use row_lists::{EDGES, POINTS, list_edges};
@@ -132,24 +132,22 @@ impl<'a> KnownRows<'a> {
         }
     }
 
-    /// Under which key the crossing edges of a row of points are kept: they are now, whether they were or not.
-    #[inline(always)]
-    fn find_edges(&mut self, field: &Field, y: u32, z: u32) -> u32
+    /// Lists the crossing edges of a row of points, keeps them under their key, and says how many there are.
+    fn keep_edges(&mut self, field: &Field, y: u32, z: u32, key: u32) -> usize
         requires y { y < field.now.grid.ny }
         requires z { z < field.now.grid.nz }
         requires known { AreKnown field.now self.old }
-        ensures key { result ≡ 3 * (y + field.now.grid.ny * z) }
-        ensures noted { IsNoted self.new.recent result }
+        requires key { key ≡ 3 * (y + field.now.grid.ny * z) }
+        requires low { key < 2 ^ 23 }
+        ensures few { result ≤ 3 * field.now.grid.nx }
+        ensures edges { AreEdges field.now y z (take result self.new.list) }
         ensures known { AreKnown field.now self.new }
     {
         // Reading the sizes brings in what is true of every volume at a level.
         let _ = field.sizes();
-        let key = edges_key(field, y, z);
-        if !self.recent.has(key) {
-            let count = self.list_anew(field, y, z);
-            self.recent.put(key, &self.list[..count]);
-        }
-        key
+        let count = self.list_anew(field, y, z);
+        self.recent.put(key, &self.list[..count]);
+        count
     }
 
     /// How many crossing edges begin in a row of points.
@@ -162,8 +160,12 @@ impl<'a> KnownRows<'a> {
     {
         // Reading the sizes brings in what is true of every volume at a level.
         let _ = field.sizes();
-        let key = self.find_edges(field, y, z);
-        self.recent.list(key).len() as u32
+        let key = edges_key(field, y, z);
+        if self.recent.has(key) {
+            return self.recent.list(key).len() as u32;
+        }
+        let count = self.keep_edges(field, y, z, key);
+        self.list[..count].len() as u32
     }
 
     /// Lists the crossing edges of a row of points, and says how many there are.
@@ -177,8 +179,12 @@ impl<'a> KnownRows<'a> {
     {
         // Reading the sizes brings in what is true of every volume at a level.
         let _ = field.sizes();
-        let key = self.find_edges(field, y, z);
-        put_front(self.recent.list(key), edges)
+        let key = edges_key(field, y, z);
+        if self.recent.has(key) {
+            return put_front(self.recent.list(key), edges);
+        }
+        let count = self.keep_edges(field, y, z, key);
+        put_front(&self.list[..count], edges)
     }
 
     /// Fills in where the crossing edges of a row are crossed.

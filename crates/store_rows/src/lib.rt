@@ -6,5 +6,5 @@ mod known;
 mod recent;
 mod store;
 
-pub use recent::{ListRoom, NUMBERS, PLACES};
+pub use recent::{ListRoom, PLACES};
 pub use store::StoreRows;

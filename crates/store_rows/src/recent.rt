@@ -1,36 +1,38 @@
 //! Lists of numbers that were asked for last, each under a key.
-ghost use Rattle.std.specs.Prelude.{◌≡◌, ◌⊎◌, ℕ, ◌+◌, ◌-◌, ◌/◌, ◌%◌, ◌^◌, ◌<◌, ◌≤◌, List, drop, length, set, slice_index, take};
+ghost use Rattle.std.specs.Prelude.{◌≡◌, ◌⊎◌, ℕ, ◌+◌, ◌/◌, ◌%◌, ◌^◌, ◌<◌, ◌≤◌, ◌++◌, List, [], drop, length, set, slice_index, take};
 ghost use Rattle.std.specs.Bool.{OnTrue};
-ghost use Rattle.store_rows.specs.Recent.{AreNoted, AreWithin, IsKept, IsNoted, IsPut};
+ghost use Rattle.store_rows.specs.Recent.{AreNoted, AreWithin, IsKept, IsNoted, IsPut, numbers_in, numbers_of};
 
 /// So many lists have a place: three for each of 16,384 rows, which are all rows of a volume of 128 points along each axis.
 pub const PLACES: usize = 49_152;
 
-/// So many numbers are kept: all lists of a smooth surface in such a volume, and those of two slices of a noisy one.
-pub const NUMBERS: usize = 262_144;
+/// So many numbers are used at most, however many there is room for.
+const MOST: usize = (1 << 31) - 1;
 
-/// Behind so many numbers the count of them begins anew.
-const MOST: u32 = 1 << 31;
+/// Stands in place of where a list begins where none is noted.
+const NONE: u32 = u32::MAX;
 
-/// Room for lists, of which nothing is known: buffers of whoever asks for them.
+/// Room for lists, of which nothing is known: buffers of whoever asks for them. The more numbers there is room for, the more lists are
+/// kept, and none where there is none.
 #[derive(Drop)]
 pub struct ListRoom<'a> {
     pub tags: &'a mut [u8; PLACES],
     pub starts: &'a mut [u32; PLACES],
     pub counts: &'a mut [u16; PLACES],
-    pub numbers: &'a mut [u16; NUMBERS],
+    pub numbers: &'a mut Option<Vec<u16>>,
 }
 
 /// Lists of numbers, each under a key. A key has a place, by its remainder, where it is noted how often the number of places goes into
-/// the key whose list was put there last, how many numbers were put before that list, and how long it is. Each list is put behind the one
-/// before, and over those that were put first where there is no more room. `next` is how many numbers were put in all.
+/// the key whose list was put there last, where among the numbers that list begins, and how long it is. Each list is put behind the one
+/// before, and where there is no more room, all are let go: none that is noted is ever written over. `most` is how many numbers there
+/// may be.
 #[derive(Drop)]
 pub struct RecentLists<'a> {
     pub tags: &'a mut [u8; PLACES],
     pub starts: &'a mut [u32; PLACES],
     pub counts: &'a mut [u16; PLACES],
-    pub numbers: &'a mut [u16; NUMBERS],
-    pub next: u32,
+    pub numbers: &'a mut Option<Vec<u16>>,
+    pub most: usize,
 }
 
 /// Where the list of a key is noted.
@@ -51,52 +53,65 @@ fn tag_of(key: u32) -> u8
     (key as usize / PLACES) as u8
 }
 
-/// Where a list begins among the numbers.
+/// The numbers of a room.
 #[inline(always)]
-fn begin_at(start: u32) -> usize
-    ensures value { result ≡ start % 262144 }
-    ensures bound { result < 262144 }
+fn numbers_in(room: &Option<Vec<u16>>) -> &[u16]
+    ensures { result.now ≡ numbers_in room.now }
 {
-    start as usize % NUMBERS
+    match room {
+        Some(numbers) => numbers.as_slice(),
+        None => &[],
+    }
 }
 
-/// Writes a list over what is there from a place on.
-#[inline(always)]
-fn put_list(list: &[u16], start: usize, numbers: &mut [u16; NUMBERS])
-    requires room { start + length list.now ≤ 262144 }
-    ensures long { length numbers.new ≡ 262144 }
-    ensures inside { (i : ℕ) → i < length list.now → slice_index numbers.new (start + i) ≡ slice_index list.now i }
-    ensures before { (p : ℕ) → p < start → slice_index numbers.new p ≡ slice_index numbers.old p }
-    ensures behind { (p : ℕ) → start + length list.now ≤ p → slice_index numbers.new p ≡ slice_index numbers.old p }
+/// For how many numbers a room has memory, as far as they are used.
+fn most_in(room: &Option<Vec<u16>>) -> usize
+    ensures { result < 2 ^ 31 }
 {
-    numbers[start..start + list.len()].copy_from_slice(list);
+    match room {
+        Some(numbers) => numbers.capacity().min(MOST),
+        None => 0,
+    }
 }
 
-/// So much room there is. That is said here, and nothing else is done.
+/// Lets the numbers of a room go.
+fn clear(room: &mut Option<Vec<u16>>)
+    ensures { numbers_in room.new ≡ [] }
+{
+    if let Some(numbers) = room {
+        numbers.clear();
+    }
+}
+
+/// Puts a list behind the numbers of a room, and says whether it is there.
 #[inline(always)]
-fn tell_room(
-    tags: &[u8; PLACES],
-    starts: &[u32; PLACES],
-    counts: &[u16; PLACES],
-    numbers: &[u16; NUMBERS],
-)
+fn put_list(list: &[u16], room: &mut Option<Vec<u16>>) -> bool
+    ensures { OnTrue result (numbers_in room.new ≡ numbers_in room.old ++ list.now) }
+{
+    match room {
+        Some(numbers) => numbers.extend_from_slice(list).is_ok(),
+        None => false,
+    }
+}
+
+/// So many places there are. That is said here, and nothing else is done.
+#[inline(always)]
+fn tell_places(tags: &[u8; PLACES], starts: &[u32; PLACES], counts: &[u16; PLACES])
     ensures tags { length tags.now ≡ 49152 }
     ensures starts { length starts.now ≡ 49152 }
     ensures counts { length counts.now ≡ 49152 }
-    ensures numbers { length numbers.now ≡ 262144 }
 {
-    let _ = (tags.len(), starts.len(), counts.len(), numbers.len());
+    let _ = (tags.len(), starts.len(), counts.len());
 }
 
-/// Whether the list at the place of a key is its own, and no number was written over it since.
+/// Whether a list is noted at the place of a key, and is its own.
 #[inline(always)]
-fn is_noted(tags: &[u8; PLACES], starts: &[u32; PLACES], next: u32, key: u32) -> bool
-    requires key { key < 2 ^ 23 }
-    requires before { slice_index starts.now (key % 49152) ≤ next }
-    ensures { OnTrue result (AreNoted tags.now starts.now next key) }
+fn is_noted(tags: &[u8; PLACES], starts: &[u32; PLACES], key: u32) -> bool
+    requires { key < 2 ^ 23 }
+    ensures { OnTrue result (AreNoted tags.now starts.now key) }
 {
     let place = place_of(key);
-    tags[place] == tag_of(key) && next - starts[place] <= NUMBERS as u32
+    tags[place] == tag_of(key) && starts[place] != NONE
 }
 
 /// The list at a place.
@@ -104,15 +119,15 @@ fn is_noted(tags: &[u8; PLACES], starts: &[u32; PLACES], next: u32, key: u32) ->
 fn part_of<'n>(
     starts: &[u32; PLACES],
     counts: &[u16; PLACES],
-    numbers: &'n [u16; NUMBERS],
+    room: &'n Option<Vec<u16>>,
     place: usize,
 ) -> &'n [u16]
     requires place { place < 49152 }
-    requires inside { slice_index starts.now place % 262144 + slice_index counts.now place ≤ 262144 }
-    ensures { result.now ≡ take (slice_index counts.now place) (drop (slice_index starts.now place % 262144) numbers.now) }
+    requires inside { slice_index starts.now place + slice_index counts.now place ≤ length (numbers_in room.now) }
+    ensures { result.now ≡ take (slice_index counts.now place) (drop (slice_index starts.now place) (numbers_in room.now)) }
 {
-    let start = begin_at(starts[place]);
-    &numbers[start..start + counts[place] as usize]
+    let start = starts[place] as usize;
+    &numbers_in(room)[start..start + counts[place] as usize]
 }
 
 impl<'a> RecentLists<'a> {
@@ -121,27 +136,29 @@ impl<'a> RecentLists<'a> {
         ensures within { AreWithin result }
         ensures none { (key : ℕ) → (list : List ℕ) → IsKept result key list → ⊥ }
     {
+        let most = most_in(room.numbers);
         let mut lists = RecentLists {
             tags: room.tags,
             starts: room.starts,
             counts: room.counts,
             numbers: room.numbers,
-            next: 0,
+            most,
         };
         lists.forget();
         lists
     }
 
-    /// Forgets all lists.
+    /// Lets all lists go.
     fn forget(&mut self)
+        requires { self.old.most < 2 ^ 31 }
         ensures within { AreWithin self.new }
         ensures none { (key : ℕ) → (list : List ℕ) → IsKept self.new key list → ⊥ }
-        ensures next { self.new.next ≡ 262145 }
+        ensures most { self.new.most ≡ self.old.most }
+        ensures numbers { numbers_of self.new ≡ [] }
     {
-        tell_room(self.tags, self.starts, self.counts, self.numbers);
-        self.starts.fill(0);
-        self.counts.fill(0);
-        self.next = NUMBERS as u32 + 1;
+        tell_places(self.tags, self.starts, self.counts);
+        self.starts.fill(NONE);
+        clear(self.numbers);
     }
 
     /// Whether the list of a key is kept.
@@ -151,7 +168,7 @@ impl<'a> RecentLists<'a> {
         requires key { key < 2 ^ 23 }
         ensures { OnTrue result (IsNoted self.now key) }
     {
-        is_noted(self.tags, self.starts, self.next, key)
+        is_noted(self.tags, self.starts, key)
     }
 
     /// The list of a key that is kept.
@@ -164,55 +181,55 @@ impl<'a> RecentLists<'a> {
         part_of(self.starts, self.counts, self.numbers, place_of(key))
     }
 
-    /// Goes on to where so many numbers can be put one behind the other.
+    /// Lets all lists go if so many numbers more do not fit behind them.
     #[inline(always)]
     fn make_room(&mut self, count: usize)
         requires within { AreWithin self.old }
-        requires few { count ≤ 4096 }
+        requires few { count ≤ self.old.most }
         ensures within { AreWithin self.new }
         ensures kept { (k : ℕ) → (l : List ℕ) → IsKept self.new k l → IsKept self.old k l }
-        ensures room { self.new.next % 262144 + count ≤ 262144 }
-        ensures low { self.new.next ≤ 2 ^ 31 + 4096 }
+        ensures room { length (numbers_of self.new) + count ≤ self.new.most }
     {
-        if self.next > MOST {
+        if self.most - numbers_in(self.numbers).len() < count {
             self.forget();
-        }
-        let left = NUMBERS - begin_at(self.next);
-        if left < count {
-            self.next += left as u32;
         }
     }
 
-    /// Notes where the list of a key was put, behind all others.
+    /// Notes where the list of a key was put.
     #[inline(always)]
-    fn note(&mut self, key: u32, count: usize)
+    fn note(&mut self, key: u32, start: usize, count: usize)
         requires key { key < 2 ^ 23 }
         requires few { count ≤ 4096 }
-        requires low { self.old.next ≤ 2 ^ 31 + 4096 }
+        requires low { start < 2 ^ 31 }
         ensures tags { self.new.tags.now ≡ set self.old.tags.now (key % 49152) (key / 49152) }
-        ensures starts { self.new.starts.now ≡ set self.old.starts.now (key % 49152) self.old.next }
+        ensures starts { self.new.starts.now ≡ set self.old.starts.now (key % 49152) start }
         ensures counts { self.new.counts.now ≡ set self.old.counts.now (key % 49152) count }
         ensures numbers { self.new.numbers.now ≡ self.old.numbers.now }
-        ensures next { self.new.next ≡ self.old.next + count }
+        ensures most { self.new.most ≡ self.old.most }
     {
         let place = place_of(key);
         self.tags[place] = tag_of(key);
-        self.starts[place] = self.next;
+        self.starts[place] = start as u32;
         self.counts[place] = count as u16;
-        self.next += count as u32;
     }
 
-    /// Keeps a list under a key.
+    /// Keeps a list under a key, if there is room for it.
     pub fn put(&mut self, key: u32, list: &[u16])
         requires within { AreWithin self.old }
         requires key { key < 2 ^ 23 }
         requires few { length list.now ≤ 4096 }
         ensures within { AreWithin self.new }
-        ensures noted { IsNoted self.new key }
         ensures each { (k : ℕ) → (l : List ℕ) → IsKept self.new k l → IsPut key list.now k l ⊎ IsKept self.old k l }
     {
+        if self.most < list.len() {
+            return;
+        }
         self.make_room(list.len());
-        put_list(list, begin_at(self.next), self.numbers);
-        self.note(key, list.len());
+        let start = numbers_in(self.numbers).len();
+        if put_list(list, self.numbers) {
+            self.note(key, start, list.len());
+        } else {
+            self.forget();
+        }
     }
 }

@@ -5,18 +5,18 @@ use Rattle.store_rows.proofs.known.KnownRows.list_edges.Goals as goal
 
 pub put_front-requires : goal.put_front-requires
 put_front-requires c =
-    let found = c.find_edges-key in
-    let are = edges_kept c.args.field.now found.new.self.recent c.args.y c.args.z found.result c.list.result.now found.ensures.known.recent c.requires.y c.requires.z c.list.ensures found.ensures.key in
+    let key = c.edges_key-key in
+    let are = edges_kept c.args.field.now c.args.self.now.recent c.args.y c.args.z key.result c.list.result.now c.requires.known.recent c.requires.y c.requires.z c.list.ensures key.ensures.value in
     omega (arith, edges_long c.args.field.now c.args.y c.args.z c.list.result.now are, names_few c.args.field.now c.args.y c.args.z, c.sizes.ensures.leveled.grid.x.most)
 
-pub returns-clause-few : goal.returns-clause-few
-returns-clause-few c =
-    let found = c.find_edges-key in
-    let are = edges_kept c.args.field.now found.new.self.recent c.args.y c.args.z found.result c.list.result.now found.ensures.known.recent c.requires.y c.requires.z c.list.ensures found.ensures.key in
+pub returns-then-has-clause-few : goal.returns-then-has-clause-few
+returns-then-has-clause-few c =
+    let key = c.edges_key-key in
+    let are = edges_kept c.args.field.now c.args.self.now.recent c.args.y c.args.z key.result c.list.result.now c.requires.known.recent c.requires.y c.requires.z c.list.ensures key.ensures.value in
     omega (arith, edges_long c.args.field.now c.args.y c.args.z c.list.result.now are, names_few c.args.field.now c.args.y c.args.z, c.put_front.ensures.count)
 
-pub returns-clause-edges : goal.returns-clause-edges
-returns-clause-edges c =
-    let found = c.find_edges-key in
-    let are = edges_kept c.args.field.now found.new.self.recent c.args.y c.args.z found.result c.list.result.now found.ensures.known.recent c.requires.y c.requires.z c.list.ensures found.ensures.key in
+pub returns-then-has-clause-edges : goal.returns-then-has-clause-edges
+returns-then-has-clause-edges c =
+    let key = c.edges_key-key in
+    let are = edges_kept c.args.field.now c.args.self.now.recent c.args.y c.args.z key.result c.list.result.now c.requires.known.recent c.requires.y c.requires.z c.list.ensures key.ensures.value in
     subst (AreEdges c.args.field.now c.args.y c.args.z) (sym c.put_front.ensures.list) are

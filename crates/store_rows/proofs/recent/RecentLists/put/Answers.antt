@@ -1,43 +1,25 @@
-use Rattle.std.proofs.Common.{◌≡◌, ◌+◌, ◌∙◌, ◌%◌, ap, get_or, length, sym, arith, inl, inr}
-use Rattle.store_rows.proofs.RecentRows.{put_each, put_noted, put_within}
+use Rattle.std.proofs.Common.{◌≡◌, ◌++◌, ◌∙◌, ap, length, inl, inr, set, ◌%◌, ℕ}
+use Rattle.store_rows.specs.Recent.{numbers_in, numbers_of}
+use Rattle.store_rows.proofs.RecentRows.{put_each, put_within}
 use Rattle.store_rows.proofs.recent.RecentLists.put.Goals as goal
 
-pub returns-clause-noted : goal.returns-clause-noted
-returns-clause-noted c =
+pub returns-then-put_list-clause-within : goal.returns-then-put_list-clause-within
+returns-then-put_list-clause-within c =
     let old = c.make_room.new.self in
     let new = c.note.new.self in
-    let within = c.make_room.ensures.within in
-    let same : new.numbers.now ≡ c.put_list.new.numbers = c.note.ensures.numbers in
-    put_noted old new c.args.key c.args.list.now within within.tags within.starts within.counts within.numbers (ap length same ∙ c.put_list.ensures.long)
-    c.note.ensures.tags c.note.ensures.starts c.note.ensures.counts c.note.ensures.next c.make_room.ensures.room
-    (λ i low. ap (λ l. get_or l (old.next % 262144 + i) 0) same ∙ (ap (λ s. get_or c.put_list.new.numbers (s + i) 0) (sym c.begin_at.ensures.value) ∙ c.put_list.ensures.inside i low))
-    (λ p low. ap (λ l. get_or l p 0) same ∙ c.put_list.ensures.before p (omega (arith, low, c.begin_at.ensures.value)))
-    (λ p high. ap (λ l. get_or l p 0) same ∙ c.put_list.ensures.behind p (omega (arith, high, c.begin_at.ensures.value)))
+    let numbers : numbers_of new ≡ numbers_of old ++ c.args.list.now = ap numbers_in c.note.ensures.numbers ∙ c.if-put_list.ensures in
+    let starts = c.note.ensures.starts ∙ ap (λ (s : ℕ). set old.starts.now (c.args.key % 49152) s) (ap length c.numbers_in-start.ensures) in
+    put_within old new c.args.key c.args.list.now c.make_room.ensures.within c.note.ensures.most
+    c.note.ensures.tags starts c.note.ensures.counts c.make_room.ensures.room numbers
 
-pub returns-clause-within : goal.returns-clause-within
-returns-clause-within c =
+pub returns-then-put_list-clause-each : goal.returns-then-put_list-clause-each
+returns-then-put_list-clause-each c k l kept =
     let old = c.make_room.new.self in
     let new = c.note.new.self in
-    let within = c.make_room.ensures.within in
-    let same : new.numbers.now ≡ c.put_list.new.numbers = c.note.ensures.numbers in
-    put_within old new c.args.key c.args.list.now within within.tags within.starts within.counts within.numbers (ap length same ∙ c.put_list.ensures.long)
-    c.note.ensures.tags c.note.ensures.starts c.note.ensures.counts c.note.ensures.next c.make_room.ensures.room
-    (λ i low. ap (λ l. get_or l (old.next % 262144 + i) 0) same ∙ (ap (λ s. get_or c.put_list.new.numbers (s + i) 0) (sym c.begin_at.ensures.value) ∙ c.put_list.ensures.inside i low))
-    (λ p low. ap (λ l. get_or l p 0) same ∙ c.put_list.ensures.before p (omega (arith, low, c.begin_at.ensures.value)))
-    (λ p high. ap (λ l. get_or l p 0) same ∙ c.put_list.ensures.behind p (omega (arith, high, c.begin_at.ensures.value)))
-    c.make_room.ensures.low c.requires.few
-
-pub returns-clause-each : goal.returns-clause-each
-returns-clause-each c k l kept =
-    let old = c.make_room.new.self in
-    let new = c.note.new.self in
-    let within = c.make_room.ensures.within in
-    let same : new.numbers.now ≡ c.put_list.new.numbers = c.note.ensures.numbers in
-    elim (put_each old new c.args.key c.args.list.now within within.tags within.starts within.counts within.numbers (ap length same ∙ c.put_list.ensures.long)
-    c.note.ensures.tags c.note.ensures.starts c.note.ensures.counts c.note.ensures.next c.make_room.ensures.room
-    (λ i low. ap (λ l. get_or l (old.next % 262144 + i) 0) same ∙ (ap (λ s. get_or c.put_list.new.numbers (s + i) 0) (sym c.begin_at.ensures.value) ∙ c.put_list.ensures.inside i low))
-    (λ p low. ap (λ l. get_or l p 0) same ∙ c.put_list.ensures.before p (omega (arith, low, c.begin_at.ensures.value)))
-    (λ p high. ap (λ l. get_or l p 0) same ∙ c.put_list.ensures.behind p (omega (arith, high, c.begin_at.ensures.value))) k l kept) [
+    let numbers : numbers_of new ≡ numbers_of old ++ c.args.list.now = ap numbers_in c.note.ensures.numbers ∙ c.if-put_list.ensures in
+    let starts = c.note.ensures.starts ∙ ap (λ (s : ℕ). set old.starts.now (c.args.key % 49152) s) (ap length c.numbers_in-start.ensures) in
+    elim (put_each old new c.args.key c.args.list.now c.make_room.ensures.within c.note.ensures.most
+    c.note.ensures.tags starts c.note.ensures.counts c.make_room.ensures.room numbers k l kept) [
       | inl put ↦ inl put
       | inr was ↦ inr (c.make_room.ensures.kept k l was)
     ]

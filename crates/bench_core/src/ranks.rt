@@ -1,0 +1,21 @@
+//! The ranks of rows that a bench has.
+
+ghost use Rattle.std.specs.Prelude.{◌≡◌, IfOk};
+ghost use Rattle.edge_points.specs.Rows.{no_counts};
+
+use edge_points::RowRanks;
+use iso_base::{Memory, Sizes};
+use std::alloc::Global;
+
+/// For so many numbers there is room for the lists of rows that a write keeps: all those of a volume of 128 points along each axis, unless
+/// it is noisy. A page of this memory is first touched when lists are put there.
+const ROOM: usize = 2_097_152;
+
+/// The ranks of the rows of a grid, with room for the lists of rows that a write keeps.
+pub fn ranks_of(alloc: Global, sizes: &Sizes) -> Result<RowRanks, Memory>
+    ensures { IfOk result (λ r. r ≡ no_counts sizes.now) }
+{
+    let mut ranks = RowRanks::new(alloc, sizes)?;
+    ranks.put_room(Some(Vec::with_capacity(alloc, ROOM)?));
+    Ok(ranks)
+}
