@@ -13,7 +13,7 @@ use Rattle.byte_streams.specs.declared.Failed.{Failed}
 use Rattle.iso_io.specs.Shelves.{Store, Stores, FilesCut, with_file}
 use Rattle.voxel_list.specs.Areas.{Area}
 use Rattle.flat_mesh.specs.Lattice.{Leveled, heights}
-use Rattle.mesh_defs.specs.Lists.{FlatMesh}
+use Rattle.iso_defs.specs.MeshLists.{FlatMesh}
 use Rattle.flat_mesh.specs.Mesh.{mesh_of}
 use Rattle.mesh_more.specs.Texts.{moved_text}
 use Rattle.window_mesh.specs.Crops.{IsWindowOfMesh, window_of}

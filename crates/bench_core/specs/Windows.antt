@@ -9,7 +9,7 @@ use Rattle.iso_base.specs.declared.fault.Written.{Written}
 use Rattle.iso_base.specs.declared.format.MeshFormat.{MeshFormat}
 use Rattle.iso_io.specs.Shelves.{Store, with_file}
 use Rattle.voxel_list.specs.Areas.{Area}
-use Rattle.mesh_defs.specs.Lists.{FlatMesh}
+use Rattle.iso_defs.specs.MeshLists.{FlatMesh}
 use Rattle.flat_mesh.specs.Mesh.{mesh_of}
 use Rattle.mesh_more.specs.Texts.{moved_text}
 use Rattle.window_laws.specs.Windows.{thin_axis}

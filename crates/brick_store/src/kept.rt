@@ -22,7 +22,7 @@ use std::alloc::{AllocError, Global};
 use voxel_list::FillBox;
 
 /// Copies of samples in as few bytes as serve, by the kind and the pad of their volume.
-#[derive(Debug, Drop)]
+#[derive(Drop)]
 pub enum Kept {
     U8(Vec<u8>),
     I16(Vec<i16>),

@@ -30,7 +30,7 @@ use voxel_list::{FillBox, VoxelList};
 /// A volume in bricks of 8x8x8 cells, in the order of their numbers. Each has 729 samples of its own: those at the corners of its
 /// cells, and zeros behind the end of the grid. They are kept in the narrowest width that has room for all samples of the kind and for the
 /// pad: one, two, four or eight bytes each. Contracts see a store as the volume that it stands for.
-#[derive(Debug, Drop)]
+#[derive(Drop)]
 pub struct BrickStore {
     sizes: Sizes,
     kind: SampleKind,

@@ -1,7 +1,7 @@
 //! Pages that lists are stored in.
 ghost use Rattle.page_pool.specs.Chains.{Has};
 
-use page_pool::{Chain, Pool, pages_needed};
+use page_pool::{Chain, Full, Pool, pages_needed};
 use std::process::Abort;
 
 /// One entry more than a page has room for.
@@ -23,8 +23,13 @@ fn stored(rt: &impl Abort, pool: &mut Pool) -> Chain
 fn check_full(rt: &impl Abort, pool: &mut Pool) {
     let chain = stored(rt, pool);
     assert_eq!(rt; pool.free(), 14);
-    let full = pool.store(&[7; 512]).expect_err(rt, "there is no room");
-    assert_eq!(rt; (full.needed, full.free), (16, 14));
+    let full = pool.store(&[7; 512]).err();
+    assert!(rt;
+        full == Some(Full {
+            needed: 16,
+            free: 14
+        })
+    );
     pool.release(chain);
 }
 

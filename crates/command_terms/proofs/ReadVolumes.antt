@@ -4,8 +4,8 @@ use Rattle.std.specs.Prelude.{Option, Result}
 use Rattle.iso_base.specs.Volume.{Volume}
 use Rattle.nrrd_read.specs.Files.{IsRead}
 use Rattle.nrrd_read.specs.Nrrd.{nrrd_of, Fails}
-use Rattle.nrrd_read.specs.declared.fault.NrrdFault.{NrrdFault}
-use Rattle.nrrd_read.specs.declared.fault.NrrdFault.TheVariants as faults
+use Rattle.refusals.specs.declared.nrrd.NrrdFault.{NrrdFault}
+use Rattle.refusals.specs.declared.nrrd.NrrdFault.TheVariants as faults
 use Rattle.command_terms.specs.Volumes.{IsNoVolume, of_read, volume_refusal, volume_of, with_pad}
 use Rattle.endings.specs.declared.answer.VolumeFault.{VolumeFault}
 use Rattle.endings.specs.declared.answer.VolumeFault.TheVariants.{Nrrd}

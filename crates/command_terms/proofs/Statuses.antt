@@ -3,10 +3,10 @@ use Rattle.std.proofs.Common.{◌≡◌, ◌⊎◌, refl, sym, ◌∙◌, inl, i
 use Rattle.endings.specs.Status.{mesh_status, nrrd_status, status_of, volume_status}
 use Rattle.endings.specs.declared.answer.VolumeFault.{VolumeFault}
 use Rattle.endings.specs.declared.answer.VolumeFault.TheVariants as volume_faults
-use Rattle.nrrd_read.specs.declared.fault.NrrdFault.{NrrdFault}
-use Rattle.nrrd_read.specs.declared.fault.NrrdFault.TheVariants as nrrd_faults
-use Rattle.mesh_read.specs.declared.fault.MeshFault.{MeshFault}
-use Rattle.mesh_read.specs.declared.fault.MeshFault.TheVariants as mesh_faults
+use Rattle.refusals.specs.declared.nrrd.NrrdFault.{NrrdFault}
+use Rattle.refusals.specs.declared.nrrd.NrrdFault.TheVariants as nrrd_faults
+use Rattle.refusals.specs.declared.mesh.MeshFault.{MeshFault}
+use Rattle.refusals.specs.declared.mesh.MeshFault.TheVariants as mesh_faults
 use Rattle.endings.specs.declared.answer.Answer.{Answer}
 use Rattle.endings.specs.declared.answer.Answer.TheVariants as answers
 use Rattle.endings.specs.declared.answer.Status.{Status}

@@ -8,12 +8,12 @@ use Rattle.iso_base.specs.Sizing.{sized}
 use Rattle.iso_base.specs.declared.sizes.SizeFault.{SizeFault}
 use Rattle.byte_streams.specs.Causes.{Rose}
 use Rattle.byte_streams.specs.Seen.{Feed}
-use Rattle.voxel_list.specs.Padding.{grown, padded_volume}
+use Rattle.iso_base.specs.Padding.{grown, padded_volume}
 use Rattle.nrrd_read.specs.Nrrd.{nrrd_of}
-use Rattle.nrrd_read.specs.declared.fault.NrrdFault.{NrrdFault}
-use Rattle.nrrd_read.specs.declared.fault.NrrdFault.TheVariants as faults
-use Rattle.voxel_list.specs.declared.pad.PadFault.{PadFault}
-use Rattle.voxel_list.specs.declared.pad.PadFault.TheVariants as pads
+use Rattle.refusals.specs.declared.nrrd.NrrdFault.{NrrdFault}
+use Rattle.refusals.specs.declared.nrrd.NrrdFault.TheVariants as faults
+use Rattle.refusals.specs.declared.pad.PadFault.{PadFault}
+use Rattle.refusals.specs.declared.pad.PadFault.TheVariants as pads
 use Rattle.endings.specs.declared.answer.VolumeFault.{VolumeFault}
 use Rattle.endings.specs.declared.answer.VolumeFault.TheVariants.{Nrrd, Pad, LevelNotAbovePad}
 use Rattle.endings.specs.declared.answer.Answer.{Answer}

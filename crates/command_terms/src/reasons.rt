@@ -2,8 +2,7 @@
 
 use endings::{Answer, VolumeFault};
 use iso_base::Memory;
-use nrrd_read::NrrdFault;
-use voxel_list::PadFault;
+use refusals::{NrrdFault, PadFault};
 
 /// Why the bytes of a file hold no volume to work on.
 #[derive(Clone, Copy)]

@@ -1,7 +1,7 @@
 -- The words of a command line after the command: options and plain words.
 use Rattle.std.specs.Prelude.{◌≡◌, ◌==◌, ◌||◌, not, Bool, false, if◌then◌else◌, ℕ, ◌≤◌, List, [], ◌∷◌, length, filter, Option, Some, None, is_some}
 use Rattle.std.specs.List.{filter_map, list_any, list_all}
-use Rattle.byte_names.specs.Bytes.{minus}
+use Rattle.iso_defs.specs.Bytes.{minus}
 use Rattle.command_words.specs.declared.options.Found.{Found}
 use Rattle.command_words.specs.declared.options.Found.TheVariants.{Nothing, Once, Again}
 

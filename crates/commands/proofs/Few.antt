@@ -15,8 +15,8 @@ use Rattle.commands.specs.Checks.{mesh_in}
 use Rattle.mesh_read.specs.Answers.{◌>>=◌, all_or_first, unless_fault}
 use Rattle.mesh_read.specs.Obj as objs
 use Rattle.mesh_read.specs.Ply as plys
-use Rattle.mesh_read.specs.declared.fault.MeshFault.{MeshFault}
-use Rattle.mesh_read.specs.declared.fault.MeshFault.TheVariants.{NotMesh, ShortMesh}
+use Rattle.refusals.specs.declared.mesh.MeshFault.{MeshFault}
+use Rattle.refusals.specs.declared.mesh.MeshFault.TheVariants.{NotMesh, ShortMesh}
 
 -- ---- lines
 

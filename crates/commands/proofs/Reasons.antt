@@ -14,7 +14,7 @@ use Rattle.command_words.specs.declared.request.Request.{Request}
 use Rattle.command_words.specs.declared.request.Request.TheVariants as requests
 use Rattle.endings.specs.Status.{status_of}
 use Rattle.endings.specs.declared.answer.VolumeFault.{VolumeFault}
-use Rattle.mesh_read.specs.declared.fault.MeshFault.{MeshFault}
+use Rattle.refusals.specs.declared.mesh.MeshFault.{MeshFault}
 use Rattle.endings.specs.declared.answer.Answer.{Answer}
 use Rattle.endings.specs.declared.answer.Answer.TheVariants as answers
 use Rattle.endings.specs.declared.answer.Status.{Status}

@@ -10,7 +10,7 @@ use Rattle.iso_base.specs.declared.sizes.SizeFault.{SizeFault}
 use Rattle.iso_base.specs.declared.sizes.SizeFault.TheVariants.{TooThin, AxisTooLong, TooMany}
 use Rattle.std.proofs.lemmas.Bool.{ltb-false}
 use Rattle.voxel_list.proofs.Volumes.{padded_is}
-use Rattle.voxel_list.specs.Padding.{first_padded, grown, inner_point, padded_sample, padded_volume}
+use Rattle.iso_base.specs.Padding.{first_padded, grown, inner_point, padded_sample, padded_volume}
 use Rattle.iso_defs.specs.Lists.{below}
 use Rattle.padded_samples.specs.Pads.{InPad, padded_list}
 use Rattle.iso_defs.specs.Outside.{is_outer}

@@ -5,7 +5,7 @@ use Rattle.iso_defs.specs.Texts as files
 use Rattle.iso_base.specs.Volume.{Volume}
 use Rattle.iso_base.specs.Shifted.{field}
 use Rattle.byte_streams.specs.Seen.{Tape, Puts}
-use Rattle.mesh_defs.specs.Lists.{FlatMesh}
+use Rattle.iso_defs.specs.MeshLists.{FlatMesh}
 use Rattle.flat_mesh.specs.Mesh.{mesh_of}
 use Rattle.mesh_lines.specs.Lines.{text_of}
 use Rattle.mesh_lines.proofs.Texts.{pad_obj, pad_ply, volume_obj, volume_ply}

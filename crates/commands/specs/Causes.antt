@@ -3,7 +3,7 @@ use Rattle.std.specs.Prelude.{◌≡◌, ◌⊎◌, ◌<◌, length, true, Optio
 use Rattle.iso_base.specs.declared.verdict.Verdict.{Verdict}
 use Rattle.byte_streams.specs.Causes.{Rose}
 use Rattle.iso_io.specs.Shelves.{Lacks, content}
-use Rattle.mesh_read.specs.declared.fault.MeshFault.{MeshFault}
+use Rattle.refusals.specs.declared.mesh.MeshFault.{MeshFault}
 use Rattle.session.specs.Sessions.{script_limit}
 use Rattle.command_words.specs.declared.request.Request.{Request}
 use Rattle.command_words.specs.declared.request.Request.TheVariants.{Points, Extract, Session, Check}

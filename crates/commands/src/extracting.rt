@@ -19,7 +19,8 @@ use iso_io::{Failed, Sink, Source};
 use list_mesh::ListMesh;
 use mesh_lines::{Origin, Style};
 use mesh_text::TwoWayFormat;
-use nrrd_read::{FileVolume, RawVolume, read_file_volume, with_samples};
+use nrrd_read::{FileVolume, RawVolume, read_file_volume};
+use raw_samples::with_samples;
 use samples::Samples;
 use std::alloc::Global;
 

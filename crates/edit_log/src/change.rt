@@ -14,7 +14,7 @@ use voxel_list::FillBox;
 
 /// A change of a volume or a level, with what it replaced. Indices, boxes and samples are of the stored grid, with the
 /// pad's layer; levels are in thousandths.
-#[derive(Debug, Drop)]
+#[derive(Drop)]
 pub enum Change {
     /// The sample at an index, x fastest.
     One { index: u32, old: i64, new: i64 },

@@ -18,14 +18,14 @@ use std::marker::Model;
 use voxel_list::FillBox;
 
 /// A value and how often it stands in a row.
-#[derive(Clone, Copy, Debug, PartialEq, Eq)]
+#[derive(Clone, Copy)]
 struct Run {
     value: i64,
     count: u32,
 }
 
 /// Values one after another, in the way that takes less.
-#[derive(Debug, Drop)]
+#[derive(Drop)]
 enum Kept {
     Equal(Vec<Run>),
     Each(Vec<i64>),
@@ -33,7 +33,7 @@ enum Kept {
 
 /// Values one after another, kept as runs of equal ones, or each by itself where such runs are short. Contracts see the list
 /// of the values.
-#[derive(Debug, Drop)]
+#[derive(Drop)]
 pub struct Runs {
     kept: Kept,
 }

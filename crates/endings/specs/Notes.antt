@@ -3,14 +3,14 @@ use Rattle.std.specs.Prelude.{ℕ, List, [], ◌++◌, codes}
 use Rattle.iso_defs.specs.Texts.{line}
 use Rattle.iso_base.specs.declared.sizes.SizeFault.{SizeFault}
 use Rattle.iso_base.specs.declared.sizes.SizeFault.TheVariants as sizes
-use Rattle.nrrd_read.specs.declared.fault.Field.{Field}
-use Rattle.nrrd_read.specs.declared.fault.Field.TheVariants as fields
-use Rattle.nrrd_read.specs.declared.fault.EncodingWord.{EncodingWord}
-use Rattle.nrrd_read.specs.declared.fault.EncodingWord.TheVariants as encodings
-use Rattle.nrrd_read.specs.declared.fault.NrrdFault.{NrrdFault}
-use Rattle.nrrd_read.specs.declared.fault.NrrdFault.TheVariants as nrrds
-use Rattle.mesh_read.specs.declared.fault.MeshFault.{MeshFault}
-use Rattle.mesh_read.specs.declared.fault.MeshFault.TheVariants as meshes
+use Rattle.refusals.specs.declared.nrrd.Field.{Field}
+use Rattle.refusals.specs.declared.nrrd.Field.TheVariants as fields
+use Rattle.refusals.specs.declared.nrrd.EncodingWord.{EncodingWord}
+use Rattle.refusals.specs.declared.nrrd.EncodingWord.TheVariants as encodings
+use Rattle.refusals.specs.declared.nrrd.NrrdFault.{NrrdFault}
+use Rattle.refusals.specs.declared.nrrd.NrrdFault.TheVariants as nrrds
+use Rattle.refusals.specs.declared.mesh.MeshFault.{MeshFault}
+use Rattle.refusals.specs.declared.mesh.MeshFault.TheVariants as meshes
 use Rattle.iso_defs.specs.Texts.{counted, counted_twice, level_and_pad}
 use Rattle.endings.specs.declared.answer.VolumeFault.{VolumeFault}
 use Rattle.endings.specs.declared.answer.VolumeFault.TheVariants as volumes

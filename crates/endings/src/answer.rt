@@ -4,8 +4,7 @@ ghost use Rattle.endings.specs.Status.{mesh_status, nrrd_status, number_of, stat
 
 use iso_base::SizeFault;
 use iso_io::{ReadFault, ShelfError};
-use mesh_read::MeshFault;
-use nrrd_read::NrrdFault;
+use refusals::{MeshFault, NrrdFault};
 use thiserror::Error;
 
 /// How the program ends. Its number is what the system is told.
@@ -54,21 +53,21 @@ impl Status {
 }
 
 /// Why there is no volume to work on.
-#[derive(Clone, Copy, Debug, PartialEq, Eq, Error)]
+#[derive(Clone, Copy, Debug, Error)]
 pub enum VolumeFault {
     /// The bytes hold no volume.
-    #[error("{0}")]
+    #[error("no volume")]
     Nrrd(NrrdFault),
     /// The sizes with the pad's layers are not within the limits.
-    #[error("with the pad: {0}")]
+    #[error("sizes out of range with the padding")]
     Pad(SizeFault),
     /// There is a pad and the level, in thousandths, is not above it.
-    #[error("level of {level} thousandths not above pad {pad}")]
+    #[error("level not above pad")]
     LevelNotAbovePad { level: i64, pad: i64 },
 }
 
 /// A status, with what its note says.
-#[derive(Clone, Copy, Debug, PartialEq, Eq)]
+#[derive(Clone, Copy)]
 pub enum Answer {
     Done,
     MeshRefused,

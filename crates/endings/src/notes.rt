@@ -10,8 +10,7 @@ use crate::parts::{put_counted, put_counted_twice, put_level_and_pad, put_named}
 use arrayvec::ArrayString;
 use iso_base::SizeFault;
 use iso_io::{Sink, write_all_of};
-use mesh_read::MeshFault;
-use nrrd_read::{EncodingWord, Field, NrrdFault};
+use refusals::{EncodingWord, Field, MeshFault, NrrdFault};
 
 fn name_of_field(field: Field) -> &'static str
     ensures name { result.now ≡ field_name field }

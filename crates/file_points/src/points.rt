@@ -8,8 +8,9 @@ ghost use Rattle.file_points.specs.Points.{PutsPointsOf, text_of};
 use byte_streams::{Failed, Sink};
 use crossing_edges::{EdgeRows, point_flags};
 use iso_base::{Level, Memory};
-use nrrd_read::{FileVolume, NrrdFault, RawVolume, read_file_volume, with_samples};
+use nrrd_read::{FileVolume, NrrdFault, RawVolume, read_file_volume};
 use point_write::put_points;
+use raw_samples::with_samples;
 use samples::Samples;
 use std::alloc::Global;
 

@@ -1,7 +1,7 @@
 //! Numbers of thousandths, and how they are printed.
 
 ghost use Rattle.std.specs.Prelude.{◌≡◌, ◌+◌, ◌/◌, ◌<◌, ◌≤◌, ◌^◌, ◌++◌, ◌∷◌, [], unsigned_abs, length, decimal};
-ghost use Rattle.byte_names.specs.Bytes.{minus};
+ghost use Rattle.iso_defs.specs.Bytes.{minus};
 ghost use Rattle.arrayvec.specs.ArrayString.{array_string_len};
 ghost use Rattle.iso_defs.specs.Texts.{decimal_text, level_size_text, level_text, thousandths};
 

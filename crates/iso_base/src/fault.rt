@@ -32,13 +32,13 @@ pub enum BenchFault {
     #[error("outside of the volume")]
     Outside,
     /// A value is not one of the volume's kind; with the range of that kind.
-    #[error("no value from {least} to {greatest}")]
+    #[error("value out of range")]
     ValueOutside { least: i64, greatest: i64 },
     /// A level's absolute value is 2^33 times 1,000 thousandths or more.
     #[error("level out of range")]
     LevelOutside,
     /// There is a pad and the level, in thousandths, is not above it.
-    #[error("level of {level} thousandths not above pad {pad}")]
+    #[error("level not above pad")]
     LevelNotAbovePad { level: i64, pad: i64 },
     /// There is no earlier state.
     #[error("nothing to undo")]
@@ -47,16 +47,16 @@ pub enum BenchFault {
     #[error("nothing to redo")]
     NothingToRedo,
     /// A box has more points than one command may fill; with their number.
-    #[error("box of {n} points")]
+    #[error("box of too many points")]
     FillTooLarge { n: u64 },
     /// A window has only n points along an axis, fewer than two: the first such axis, 0 is x.
-    #[error("window of {n} points along axis {axis}")]
+    #[error("window too thin")]
     WindowThin { axis: u8, n: u64 },
     /// The shelf did not take the file.
     #[error("file not written")]
     ShelfFailed,
     /// The volume has no such plane.
-    #[error("no plane {k}")]
+    #[error("no such plane")]
     NoSuchPlane { k: i64 },
 }
 

@@ -11,13 +11,13 @@ use thiserror::Error;
 #[derive(Clone, Copy, Debug, PartialEq, Eq, Error)]
 pub enum SizeFault {
     /// An axis has fewer than 2 samples.
-    #[error("axis {axis} has {n} samples, fewer than 2")]
+    #[error("axis of fewer than 2 samples")]
     TooThin { axis: u8, n: u64 },
     /// An axis has more than 1,026 samples.
-    #[error("axis {axis} has {n} samples, more than 1026")]
+    #[error("axis of more than 1026 samples")]
     AxisTooLong { axis: u8, n: u64 },
     /// The grid has more than 160,000,000 samples.
-    #[error("{n} samples, more than 160000000")]
+    #[error("more than 160000000 samples")]
     TooMany { n: u64 },
 }
 

@@ -9,7 +9,7 @@ use Rattle.iso_defs.specs.Texts.{face_head, line, obj_text, ply_text, position_t
 use Rattle.iso_base.specs.declared.format.MeshFormat.{MeshFormat}
 use Rattle.iso_base.specs.declared.format.MeshFormat.TheVariants.{Ply, Obj, Off, Vtk}
 use Rattle.iso_base.specs.declared.point.Point.{Point}
-use Rattle.mesh_defs.specs.Lists.{FlatMesh}
+use Rattle.iso_defs.specs.MeshLists.{FlatMesh}
 use Rattle.mesh_text.specs.Lines.{ply_head}
 use Rattle.mesh_more.specs.Heads.{off_head, vtk_faces, vtk_head}
 use Rattle.mesh_more.specs.Texts.{moved, moved_text, moved_vertex}

@@ -1,14 +1,14 @@
 -- The text of a mesh in a style: its format, and where its coordinates are counted from.
 use Rattle.std.specs.Prelude.{ℕ, ◌+◌, ◌*◌, ℤ, pos, List, [], ◌∷◌, ◌++◌, length, slice_index, true}
 use Rattle.std.specs.List.{flat_map}
-use Rattle.byte_names.specs.Bytes.{space, digit_three, lower_f, lower_v}
+use Rattle.iso_defs.specs.Bytes.{space, digit_three, lower_f, lower_v}
 use Rattle.iso_defs.specs.Cell.{Triangle}
 use Rattle.iso_defs.specs.Place.{Position}
 use Rattle.iso_defs.specs.Texts.{line, numbers_text, printed}
 use Rattle.iso_base.specs.declared.fault.Written.{Written}
 use Rattle.iso_base.specs.declared.format.MeshFormat.{MeshFormat}
 use Rattle.iso_base.specs.declared.format.MeshFormat.TheVariants.{Ply, Obj, Off, Vtk}
-use Rattle.mesh_defs.specs.Lists.{FlatMesh}
+use Rattle.iso_defs.specs.MeshLists.{FlatMesh}
 use Rattle.mesh_text.specs.Lines.{coordinates_text, ply_head}
 use Rattle.mesh_more.specs.Heads.{off_head, vtk_faces, vtk_head}
 use Rattle.mesh_lines.specs.declared.style.Origin.{Origin}

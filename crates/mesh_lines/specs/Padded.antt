@@ -4,7 +4,7 @@ use Rattle.iso_defs.specs.Grid.{Grid}
 use Rattle.iso_defs.specs.Scratch.{vertices, triangles}
 use Rattle.iso_defs.specs.Texts.{ply_text, obj_text}
 use Rattle.iso_base.specs.declared.fault.Written.{Written}
-use Rattle.mesh_defs.specs.Lists.{FlatMesh}
+use Rattle.iso_defs.specs.MeshLists.{FlatMesh}
 use Rattle.mesh_text.specs.declared.format.TwoWayFormat.{TwoWayFormat}
 use Rattle.mesh_text.specs.declared.format.TwoWayFormat.TheVariants.{Ply, Obj}
 

@@ -1,6 +1,6 @@
 -- The lines of vertices in the parts that those of a row of points have in common.
 use Rattle.std.specs.Prelude.{◌≡◌, ℕ, ◌+◌, ◌-◌, ◌*◌, ◌/◌, ◌%◌, ◌<◌, ◌≤◌, ◌==◌, Bool, false, cond, if◌then◌else◌, List, [], ◌∷◌, ◌++◌, decimal, slice_index, slice_index_or}
-use Rattle.byte_names.specs.Bytes.{space, minus, dot, digit_zero}
+use Rattle.iso_defs.specs.Bytes.{space, minus, dot, digit_zero}
 use Rattle.iso_defs.specs.Place.{Position}
 use Rattle.iso_defs.specs.Texts.{line}
 use Rattle.mesh_text.specs.Pieces.{piece_text}

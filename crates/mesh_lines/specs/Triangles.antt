@@ -1,6 +1,6 @@
 -- The lines of triangles in their parts.
 use Rattle.std.specs.Prelude.{ℕ, ◌+◌, List, [], ◌∷◌, ◌++◌, decimal}
-use Rattle.byte_names.specs.Bytes.{digit_three, lower_f, space}
+use Rattle.iso_defs.specs.Bytes.{digit_three, lower_f, space}
 use Rattle.iso_base.specs.declared.format.MeshFormat.{MeshFormat}
 use Rattle.iso_base.specs.declared.format.MeshFormat.TheVariants.{Ply, Obj, Off, Vtk}
 

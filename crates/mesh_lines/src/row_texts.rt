@@ -1,6 +1,6 @@
 //! The parts that the lines of vertices on a row of points have in common, made once for the row.
 ghost use Rattle.std.specs.Prelude.{◌≡◌, ℕ, ◌+◌, ◌*◌, ◌/◌, ◌%◌, ◌==◌, ◌<◌, ◌≤◌, ◌^◌, ◌∷◌, ◌++◌, [], All, cond, false, length, if◌then◌else◌, slice_index};
-ghost use Rattle.byte_names.specs.Bytes.{space, minus};
+ghost use Rattle.iso_defs.specs.Bytes.{space, minus};
 ghost use Rattle.iso_defs.specs.Texts.{line};
 ghost use Rattle.mesh_text.specs.Pieces.{piece_text};
 ghost use Rattle.mesh_lines.specs.Lines.{vertex_letter, vertex_line};

@@ -1,6 +1,6 @@
 -- Heads of OFF and VTK texts.
 use Rattle.std.specs.Prelude.{ℕ, ◌*◌, List, ◌∷◌, ◌++◌, codes, decimal}
-use Rattle.byte_names.specs.Bytes.{space}
+use Rattle.iso_defs.specs.Bytes.{space}
 use Rattle.iso_defs.specs.Texts.{counted, counted_twice, line}
 
 -- the two lines of an OFF text before its vertices: the last number is that of edges, which is not told

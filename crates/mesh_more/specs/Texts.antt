@@ -1,7 +1,7 @@
 -- Meshes as OFF and VTK texts, and in each format with their positions moved.
 use Rattle.std.specs.Prelude.{ℕ, ◌+◌, ◌*◌, List, ◌∷◌, ◌++◌, length, map, false}
 use Rattle.std.specs.List.{flat_map}
-use Rattle.byte_names.specs.Bytes.{space, digit_three}
+use Rattle.iso_defs.specs.Bytes.{space, digit_three}
 use Rattle.iso_defs.specs.Cell.{Triangle}
 use Rattle.iso_defs.specs.Place.{Position}
 use Rattle.iso_defs.specs.Texts.{line, position_text, numbers_text, ply_text, obj_text}

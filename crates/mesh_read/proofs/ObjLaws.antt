@@ -6,7 +6,7 @@ use Rattle.std.proofs.lemmas.List.{length-append, append-nil}
 use Rattle.std.proofs.Math.Seq.{take-append_seam}
 use Rattle.iso_base.specs.Triangles.{Mesh}
 use Rattle.mesh_read.specs.Corners.{IsInside}
-use Rattle.mesh_read.specs.declared.fault.MeshFault.{MeshFault}
+use Rattle.refusals.specs.declared.mesh.MeshFault.{MeshFault}
 use Rattle.text_lines.specs.Lines.{Line, lines_of}
 use Rattle.text_lines.specs.Words.{words_of}
 use Rattle.mesh_read.specs.Answers.{◌>>=◌, all_or_first}

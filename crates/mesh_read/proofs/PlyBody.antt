@@ -5,8 +5,8 @@ use Rattle.std.proofs.lemmas.List.Elements.{All-append}
 use Rattle.std.proofs.lemmas.Bool.{ltb-true, ltb-false, lt-ltb, le-ltb}
 use Rattle.iso_base.specs.Triangles.{Mesh}
 use Rattle.mesh_read.specs.Corners.{IsInside}
-use Rattle.mesh_read.specs.declared.fault.MeshFault.{MeshFault}
-use Rattle.mesh_read.specs.declared.fault.MeshFault.TheVariants.{ShortMesh}
+use Rattle.refusals.specs.declared.mesh.MeshFault.{MeshFault}
+use Rattle.refusals.specs.declared.mesh.MeshFault.TheVariants.{ShortMesh}
 use Rattle.mesh_read.specs.Answers.{◌>>=◌, all_or_first}
 use Rattle.mesh_read.specs.Ply.{face_of, body_of, numbered, with_words}
 use Rattle.text_lines.specs.Lines.{lines_of}

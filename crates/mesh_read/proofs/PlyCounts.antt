@@ -5,8 +5,8 @@ use Rattle.std.specs.Option.{option_or}
 use Rattle.std.specs.List.{slice_get, list_any}
 use Rattle.std.proofs.lemmas.Bool.{ltb-false}
 use Rattle.std.proofs.lemmas.Option.{none-some}
-use Rattle.mesh_read.specs.declared.fault.MeshFault.{MeshFault}
-use Rattle.mesh_read.specs.declared.fault.MeshFault.TheVariants.{TooMany}
+use Rattle.refusals.specs.declared.mesh.MeshFault.{MeshFault}
+use Rattle.refusals.specs.declared.mesh.MeshFault.TheVariants.{TooMany}
 use Rattle.mesh_read.specs.Ply.{Heading, IsUnread, IsAscii, IsBinary, IsElement, IsProperty, IsEnd, IsOther, is_end, is_face, is_vertex, elements, up_to_end, too_many, count_of, total, before_faces, header_fault, mesh_of, body_of, with_words, numbered, lines_mesh}
 use Rattle.mesh_read.specs.SeenPly.{Told, start, all_told, bad_header, late_fault, fault_told}
 use Rattle.text_lines.proofs.Places.{decide}

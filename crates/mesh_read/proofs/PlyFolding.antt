@@ -6,7 +6,7 @@ use Rattle.std.specs.List.{slice_get, cons_option, range_with_len, list_any}
 use Rattle.std.proofs.lemmas.List.{length-append, append-nil}
 use Rattle.std.proofs.Math.Seq.{take-append_seam}
 use Rattle.std.proofs.lemmas.List.Elements.{filter_map-append}
-use Rattle.mesh_read.specs.declared.fault.MeshFault.{MeshFault}
+use Rattle.refusals.specs.declared.mesh.MeshFault.{MeshFault}
 use Rattle.mesh_read.specs.Ply.{Heading, IsUnread, IsAscii, IsBinary, IsElement, IsProperty, IsEnd, IsOther, is_end, is_format, is_face, element_in, elements, bad_if, fault_of, up_to_end, fault_at, corners_in, begins_corners, face_fault_of, face_fault_at, header_fault}
 use Rattle.mesh_read.specs.SeenPly.{Told, start, fault_now, format_now, elements_now, open_now, bad_now, after_heading, all_told, bad_header, fault_told}
 use Rattle.std.proofs.lemmas.Bool.{false≢true}

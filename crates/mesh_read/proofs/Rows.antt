@@ -1,7 +1,7 @@
 -- Small texts, by computing.
 use Rattle.std.proofs.Common.{◌≡◌, [], ◌∷◌, Ok, Err, refl}
 use Rattle.std.specs.Prelude.{codes}
-use Rattle.mesh_read.specs.declared.fault.MeshFault.TheVariants.{BadHeader, IndexOutside, ShortMesh}
+use Rattle.refusals.specs.declared.mesh.MeshFault.TheVariants.{BadHeader, IndexOutside, ShortMesh}
 use Rattle.mesh_read.specs.Obj.{obj_of, face_of}
 use Rattle.mesh_read.specs.Obj as obj
 use Rattle.mesh_read.specs.Ply as ply

@@ -2,8 +2,8 @@
 pub use Rattle.text_lines.specs.Refusals.{◌>>=◌, all_or_first, unless_fault}
 use Rattle.std.specs.Prelude.{Bool, true, false, Result}
 use Rattle.text_lines.specs.Refusals.{AnswersBut, FailsBut}
-use Rattle.mesh_read.specs.declared.fault.MeshFault.{MeshFault}
-use Rattle.mesh_read.specs.declared.fault.MeshFault.TheVariants.{Memory}
+use Rattle.refusals.specs.declared.mesh.MeshFault.{MeshFault}
+use Rattle.refusals.specs.declared.mesh.MeshFault.TheVariants.{Memory}
 
 -- whether memory was wanting
 abbrev pub is_memory : MeshFault → Bool

@@ -1,10 +1,10 @@
 -- The triangle list that an OBJ text gives, or the first refusal.
 use Rattle.std.specs.Prelude.{ℕ, suc, ◌+◌, ◌-◌, Bool, true, false, ◌==◌, ◌&&◌, nat_le, nat_lt, List, [], ◌∷◌, map, take, length, filter_map, filter, bytes_eq, ℤ, pos, negsuc, Option, Some, None, ok_or, Result, Ok, if◌then◌else◌, codes}
 use Rattle.std.specs.List.{slice_get, range_with_len, before_first}
-use Rattle.byte_names.specs.Bytes.{slash}
+use Rattle.iso_defs.specs.Bytes.{slash}
 use Rattle.iso_base.specs.Triangles.{Mesh}
-use Rattle.mesh_read.specs.declared.fault.MeshFault.{MeshFault}
-use Rattle.mesh_read.specs.declared.fault.MeshFault.TheVariants.{BadNumber, NotTriangle, IndexOutside}
+use Rattle.refusals.specs.declared.mesh.MeshFault.{MeshFault}
+use Rattle.refusals.specs.declared.mesh.MeshFault.TheVariants.{BadNumber, NotTriangle, IndexOutside}
 use Rattle.text_lines.specs.Lines.{texts_of}
 use Rattle.text_lines.specs.Words.{words_of, three_in}
 use Rattle.text_lines.specs.Numbers.{number_of}

@@ -1,6 +1,6 @@
 -- Lines in the form that nearly every writer gives them.
 use Rattle.std.specs.Prelude.{◌≡◌, ◌≢◌, ℕ, ◌<◌, true, List, ◌∷◌, ◌++◌, length, slice_index, Some, Ok}
-use Rattle.byte_names.specs.Bytes.{line_feed}
+use Rattle.iso_defs.specs.Bytes.{line_feed}
 use Rattle.std.specs.List.{list_all}
 use Rattle.text_lines.specs.Lines.{lines_of}
 use Rattle.text_lines.specs.Words.{words_of}

@@ -3,8 +3,8 @@ use Rattle.std.specs.Prelude.{ℕ, ◌+◌, Bool, true, false, ◌==◌, ◌||�
 use Rattle.std.specs.Option.{option_or}
 use Rattle.std.specs.List.{slice_get, range_with_len, list_any}
 use Rattle.iso_base.specs.Triangles.{Mesh}
-use Rattle.mesh_read.specs.declared.fault.MeshFault.{MeshFault}
-use Rattle.mesh_read.specs.declared.fault.MeshFault.TheVariants.{NotMesh, BinaryPly, BadHeader, BadNumber, NotTriangle, IndexOutside, ShortMesh, TooMany}
+use Rattle.refusals.specs.declared.mesh.MeshFault.{MeshFault}
+use Rattle.refusals.specs.declared.mesh.MeshFault.TheVariants.{NotMesh, BinaryPly, BadHeader, BadNumber, NotTriangle, IndexOutside, ShortMesh, TooMany}
 use Rattle.text_lines.specs.Lines.{texts_of}
 use Rattle.text_lines.specs.Words.{words_of}
 use Rattle.text_lines.specs.Numbers.{digits_value}

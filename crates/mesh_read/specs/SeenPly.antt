@@ -2,8 +2,8 @@
 use Rattle.std.specs.Prelude.{ℕ, ◌+◌, Bool, true, false, not, nat_lt, ◌||◌, ◌==◌, List, ◌∷◌, [], ◌++◌, filter_map, length, option_map, Option, Some, None, if◌then◌else◌}
 use Rattle.std.specs.Option.{option_or}
 use Rattle.std.specs.List.{slice_get}
-use Rattle.mesh_read.specs.declared.fault.MeshFault.{MeshFault}
-use Rattle.mesh_read.specs.declared.fault.MeshFault.TheVariants.{BinaryPly, BadHeader}
+use Rattle.refusals.specs.declared.mesh.MeshFault.{MeshFault}
+use Rattle.refusals.specs.declared.mesh.MeshFault.TheVariants.{BinaryPly, BadHeader}
 use Rattle.mesh_read.specs.declared.heading.Heading.{Heading}
 use Rattle.mesh_read.specs.declared.heading.Heading.TheVariants as code
 use Rattle.mesh_read.specs.declared.header.Header.{Header}

@@ -1,7 +1,7 @@
 //! The lines behind a PLY header.
 ghost use Rattle.std.specs.Prelude.{◌≡◌, ◌+◌, ◌<◌, ◌≤◌, ◌^◌, ◌∷◌, length, IfOk, ok_or};
 ghost use Rattle.std.specs.Option.{option_map};
-ghost use Rattle.mesh_read.specs.declared.fault.MeshFault.TheVariants.{BadNumber};
+ghost use Rattle.refusals.specs.declared.mesh.MeshFault.TheVariants.{BadNumber};
 ghost use Rattle.text_lines.specs.Words.{words_of};
 ghost use Rattle.text_lines.specs.Numbers.{digits_value};
 ghost use Rattle.mesh_read.specs.Corners.{IsInside};
@@ -9,9 +9,9 @@ ghost use Rattle.mesh_read.specs.Answers.{Answers};
 ghost use Rattle.mesh_read.specs.Ply.{corners_of, three_first, below, face_of, ply_words, body_of, with_words, numbered};
 ghost use Rattle.mesh_read.specs.SeenPly.{inside};
 
-use crate::fault::MeshFault;
 use crate::plain::{behind_plain_line, plain_face};
 use iso_base::TriangleList;
+use refusals::MeshFault;
 use std::alloc::Global;
 use text_lines::{digits, next_line, next_word};
 

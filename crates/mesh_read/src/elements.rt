@@ -4,7 +4,7 @@ ghost use Rattle.std.specs.List.{slice_get};
 ghost use Rattle.mesh_read.specs.Ply.{has_name, is_face, is_vertex, count_of, total, before_faces, too_many};
 ghost use Rattle.mesh_read.specs.SeenElements.{seen_elements};
 
-use crate::fault::MeshFault;
+use refusals::MeshFault;
 use std::alloc::{AllocError, Global};
 use std::collections::BTreeSet;
 use std::marker::Model;
@@ -13,14 +13,14 @@ use std::marker::Model;
 const COUNT_LIMIT: u64 = 1 << 30;
 
 /// An element and its number of lines.
-#[derive(Clone, Copy, Debug)]
+#[derive(Clone, Copy)]
 pub struct Element<'a> {
     pub name: &'a [u8],
     pub count: u64,
 }
 
 /// Elements of different names in order, and these names in a set, where a name is found at once.
-#[derive(Debug, Drop)]
+#[derive(Drop)]
 pub struct Elements<'a> {
     list: Vec<Element<'a>>,
     names: BTreeSet<&'a [u8]>,

@@ -1,18 +1,18 @@
 //! One pass over the lines of a PLY header, up to its first fault.
 ghost use Rattle.std.specs.Prelude.{◌≡◌, ◌+◌, ◌<◌, ◌≤◌, ◌^◌, ◌==◌, ◌⊎◌, Some, None, length, drop, true, not, ◌||◌, IfOk, IfErr};
 ghost use Rattle.std.specs.List.{list_any};
-ghost use Rattle.mesh_read.specs.declared.fault.MeshFault.TheVariants.{Memory};
+ghost use Rattle.refusals.specs.declared.mesh.MeshFault.TheVariants.{Memory};
 ghost use Rattle.mesh_read.specs.Ply.{has_name, is_face, up_to_end, is_end, header_fault, ply_heads, ply_words};
 ghost use Rattle.mesh_read.specs.SeenPly.{seen_heading, told, start, all_told, after_heading, fault_now, late_fault};
 
 use crate::elements::{Elements, first_above, is_face_name};
-use crate::fault::MeshFault;
 use crate::heading::{Heading, heading_in, is_end_heading};
+use refusals::MeshFault;
 use std::alloc::Global;
 use text_lines::next_line;
 
 /// What the lines so far say.
-#[derive(Debug, Drop)]
+#[derive(Drop)]
 pub struct Header<'a> {
     /// Whether the format line came.
     pub format: bool,

@@ -7,7 +7,7 @@ ghost use Rattle.mesh_read.specs.SeenPly.{seen_heading};
 use text_lines::{digits, next_word};
 
 /// What a line of a header says.
-#[derive(Clone, Copy, Debug)]
+#[derive(Clone, Copy)]
 pub enum Heading<'a> {
     /// A comment, or no word.
     Unread,

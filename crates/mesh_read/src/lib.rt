@@ -4,13 +4,12 @@
 
 mod body;
 mod elements;
-mod fault;
 mod header;
 mod heading;
 mod obj;
 mod plain;
 mod ply;
 
-pub use fault::MeshFault;
 pub use obj::read_obj;
 pub use ply::read_ply;
+pub use refusals::MeshFault;

@@ -1,21 +1,21 @@
 //! Wavefront OBJ texts.
 ghost use Rattle.std.specs.Prelude.{◌≡◌, ◌<◌, ◌≤◌, ◌^◌, ◌==◌, length, position, IfOk, ok_or};
 ghost use Rattle.std.specs.List.{before_first};
-ghost use Rattle.byte_names.specs.Bytes.{slash};
+ghost use Rattle.iso_defs.specs.Bytes.{slash};
 ghost use Rattle.mesh_read.specs.Corners.{IsInside};
-ghost use Rattle.mesh_read.specs.declared.fault.MeshFault.TheVariants.{BadNumber, IndexOutside};
+ghost use Rattle.refusals.specs.declared.mesh.MeshFault.TheVariants.{BadNumber, IndexOutside};
 ghost use Rattle.text_lines.specs.Words.{words_of};
 ghost use Rattle.mesh_read.specs.Answers.{Answers};
 ghost use Rattle.mesh_read.specs.Obj.{saying_of, by_first, reference_number, vertex_named, face_of, obj_of};
 ghost use Rattle.mesh_read.specs.SeenObj.{seen_line};
 
-use crate::fault::MeshFault;
 use iso_base::TriangleList;
+use refusals::MeshFault;
 use std::alloc::Global;
 use text_lines::{next_line, next_word, number, three_words};
 
 /// What a line says.
-#[derive(Clone, Copy, Debug)]
+#[derive(Clone, Copy)]
 pub enum ObjLine<'a> {
     /// A vertex, whose coordinates are not read.
     Vertex,

@@ -1,6 +1,6 @@
 //! Lines in the form that nearly every writer gives them, read in one pass over their bytes.
 ghost use Rattle.std.specs.Prelude.{◌≡◌, ◌+◌, ◌<◌, ◌≤◌, ◌∷◌, length, slice_index, IfSome, false};
-ghost use Rattle.byte_names.specs.Bytes.{digit_three, space};
+ghost use Rattle.iso_defs.specs.Bytes.{digit_three, space};
 ghost use Rattle.text_lines.specs.Numbers.{is_digit};
 ghost use Rattle.mesh_read.specs.Corners.{IsInside};
 ghost use Rattle.mesh_read.specs.Plain.{BeginsLine, BeginsNumber, BeginsFace, IsFirstFeed};

@@ -5,9 +5,9 @@ ghost use Rattle.mesh_read.specs.Ply.{is_ply, ply_of, ply_heads, ply_words, line
 
 use crate::body::read_body;
 use crate::elements::{all_lines, face_lines, lines_before, vertex_lines};
-use crate::fault::MeshFault;
 use crate::header::read_header;
 use iso_base::TriangleList;
+use refusals::MeshFault;
 use std::alloc::Global;
 use text_lines::next_line;
 

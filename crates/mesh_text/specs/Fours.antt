@@ -1,6 +1,6 @@
 -- A table of the digits of numbers, four to a number.
 use Rattle.std.specs.Prelude.{◌≡◌, ℕ, ◌+◌, ◌*◌, ◌/◌, ◌%◌, ◌<◌, ◌≤◌, List, [], ◌∷◌, length, take, drop, decimal, slice_index}
-use Rattle.byte_names.specs.Bytes.{digit_zero}
+use Rattle.iso_defs.specs.Bytes.{digit_zero}
 
 -- a number below 10,000 in four digits
 abbrev pub four_digits : ℕ → List ℕ

@@ -1,7 +1,7 @@
 //! Numbers that follow each other, as texts.
 
 ghost use Rattle.std.specs.Prelude.{◌≡◌, ◌+◌, ◌*◌, ◌≤◌, ◌<◌, ◌^◌, ◌∷◌, ◌++◌, [], take, length, decimal};
-ghost use Rattle.byte_names.specs.Bytes.{space};
+ghost use Rattle.iso_defs.specs.Bytes.{space};
 ghost use Rattle.mesh_text.specs.Numbers.{number_text};
 
 use crate::fours::{Fours, put_last_three};

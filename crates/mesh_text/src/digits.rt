@@ -1,7 +1,7 @@
 //! Numbers and coordinates, written from a place of a text on: each call gives the place behind what it wrote.
 
 ghost use Rattle.std.specs.Prelude.{◌≡◌, ◌+◌, ◌*◌, ◌≤◌, ◌<◌, ◌^◌, ◌∷◌, ◌++◌, [], take, length, decimal, unsigned_abs};
-ghost use Rattle.byte_names.specs.Bytes.{space, minus};
+ghost use Rattle.iso_defs.specs.Bytes.{space, minus};
 ghost use Rattle.iso_defs.specs.Texts.{decimal_text, thousandths, three_digits, line};
 ghost use Rattle.mesh_text.specs.Lines.{along, coordinates_text};
 

@@ -1,7 +1,7 @@
 //! Texts of numbers that are put into lines more than once.
 
 ghost use Rattle.std.specs.Prelude.{◌≡◌, ◌+◌, ◌≤◌, ◌<◌, ◌^◌, ◌∷◌, ◌++◌, [], take, length, decimal};
-ghost use Rattle.byte_names.specs.Bytes.{space};
+ghost use Rattle.iso_defs.specs.Bytes.{space};
 ghost use Rattle.mesh_text.specs.Numbers.{IsShort, number_text, numbers_line};
 
 use number_digits::{Digits, put_array, put_byte};

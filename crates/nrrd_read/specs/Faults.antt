@@ -2,8 +2,8 @@
 use Rattle.text_samples.specs.declared.fault.SampleFault.{SampleFault}
 use Rattle.text_samples.specs.declared.fault.SampleFault.TheVariants.{Bad, Short}
 use Rattle.text_samples.specs.declared.fault.SampleFault.TheVariants as samples
-use Rattle.nrrd_read.specs.declared.fault.NrrdFault.{NrrdFault}
-use Rattle.nrrd_read.specs.declared.fault.NrrdFault.TheVariants.{BadSample, ShortSamples, Memory}
+use Rattle.refusals.specs.declared.nrrd.NrrdFault.{NrrdFault}
+use Rattle.refusals.specs.declared.nrrd.NrrdFault.TheVariants.{BadSample, ShortSamples, Memory}
 
 -- the fault of the volume
 abbrev pub fault_of : SampleFault → NrrdFault

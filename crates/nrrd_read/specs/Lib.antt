@@ -1,10 +1,3 @@
-pub mod Encodings
 pub mod Faults
-pub mod HeaderLines
-pub mod Fields
-pub mod Scanning
-pub mod Checks
-pub mod Nrrd
-pub mod Raw
 pub mod Files
-pub mod RawKinds
+pub mod Nrrd

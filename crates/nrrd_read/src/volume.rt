@@ -3,22 +3,20 @@ ghost use Rattle.std.specs.Prelude.{◌≡◌, length, IfOk};
 ghost use Rattle.iso_defs.specs.Grid.{point_count};
 ghost use Rattle.text_samples.specs.Text.{text_samples};
 ghost use Rattle.text_samples.specs.Hex.{hex_samples};
-ghost use Rattle.nrrd_read.specs.declared.fault.NrrdFault.TheVariants.{ShortSamples};
-ghost use Rattle.nrrd_read.specs.Scanning.{seen_fields};
-ghost use Rattle.nrrd_read.specs.Checks.{map_ok};
+ghost use Rattle.refusals.specs.declared.nrrd.NrrdFault.TheVariants.{ShortSamples};
+ghost use Rattle.nrrd_header.specs.Scanning.{seen_fields};
+ghost use Rattle.nrrd_header.specs.Checks.{map_ok};
+ghost use Rattle.nrrd_read.specs.Faults.{fault_of};
 ghost use Rattle.nrrd_read.specs.Files.{file_voxels, seen_volume};
 ghost use Rattle.nrrd_read.specs.Nrrd.{is_first, split_of, measured, nrrd_of, raw_samples, volume_of, Answers};
 
-use crate::encoding::Encoding;
-use crate::fault::NrrdFault;
-use crate::header::{Header, behind_header, read_fields};
-use crate::layout::{Layout, read_layout};
-use crate::raw::RawVolume;
-use crate::read::ReadVolume;
 use iso_base::VoxelData;
+use nrrd_header::{Encoding, Header, Layout, behind_header, read_fields, read_layout};
+use raw_samples::{RawVolume, ReadVolume};
+use refusals::NrrdFault;
 use std::alloc::{AllocError, Global};
 use text_lines::next_line;
-use text_samples::{read_hex_bytes, read_text_bytes};
+use text_samples::{SampleFault, read_hex_bytes, read_text_bytes};
 
 /// The most bytes that a header may have.
 const HEADER_LIMIT: usize = 65_536;
@@ -82,14 +80,30 @@ fn raw_volume(layout: Layout, body: &[u8]) -> Result<(RawVolume<'_>, u64), NrrdF
     Ok((volume, surplus))
 }
 
+/// The refusal of samples in print as that of their volume.
+fn fault_of(fault: SampleFault) -> NrrdFault
+    ensures { result ≡ fault_of fault }
+{
+    match fault {
+        SampleFault::Bad { place } => NrrdFault::BadSample { place },
+        SampleFault::Short { needed, present } => NrrdFault::ShortSamples { needed, present },
+        SampleFault::Memory => NrrdFault::Memory,
+    }
+}
+
 /// The volume whose samples these bytes say as numbers, and the number of bytes after them.
 fn text_volume(alloc: Global, layout: Layout, body: &[u8]) -> Result<(ReadVolume, u64), NrrdFault>
     ensures { Answers result (volume_of layout.sizes layout.kind
         (text_samples layout.kind (point_count layout.sizes) body.now)) }
 {
     let count = u64::from(layout.sizes.count());
-    let (bytes, surplus) = read_text_bytes(alloc, body, layout.kind, count)?;
-    Ok((ReadVolume::new(layout.sizes, layout.kind, bytes), surplus))
+    match read_text_bytes(alloc, body, layout.kind, count) {
+        Ok((bytes, surplus)) => {
+            let volume = ReadVolume::new(layout.sizes, layout.kind, bytes);
+            Ok((volume, surplus))
+        }
+        Err(fault) => Err(fault_of(fault)),
+    }
 }
 
 /// The volume whose samples stand in these bytes as hex digits, and the number of bytes after them.
@@ -98,12 +112,17 @@ fn hex_volume(alloc: Global, layout: Layout, body: &[u8]) -> Result<(ReadVolume,
         (hex_samples layout.kind layout.big (point_count layout.sizes) body.now)) }
 {
     let count = u64::from(layout.sizes.count());
-    let (bytes, surplus) = read_hex_bytes(alloc, body, layout.kind, layout.big, count)?;
-    Ok((ReadVolume::new(layout.sizes, layout.kind, bytes), surplus))
+    match read_hex_bytes(alloc, body, layout.kind, layout.big, count) {
+        Ok((bytes, surplus)) => {
+            let volume = ReadVolume::new(layout.sizes, layout.kind, bytes);
+            Ok((volume, surplus))
+        }
+        Err(fault) => Err(fault_of(fault)),
+    }
 }
 
 /// A volume as its file holds it.
-#[derive(Debug, Drop)]
+#[derive(Drop)]
 pub enum FileVolume<'a> {
     /// The samples are raw, and stay in the bytes of the file.
     Raw(RawVolume<'a>),

@@ -2,7 +2,7 @@
 
 ghost use Rattle.std.specs.Prelude.{◌≡◌, ◌+◌, ◌*◌, ◌^◌, ◌<◌, ◌≤◌, ◌⊎◌, ◌∷◌, ◌++◌, [], All, IfOk, flat_map, length, map};
 ghost use Rattle.std.specs.Fmt.{signed_decimal};
-ghost use Rattle.byte_names.specs.Bytes.{line_feed};
+ghost use Rattle.iso_defs.specs.Bytes.{line_feed};
 ghost use Rattle.byte_streams.specs.Seen.{Stages};
 ghost use Rattle.nrrd_text.specs.Forms.{IsOfForm, printed};
 

@@ -6,7 +6,7 @@ use Rattle.iso_defs.proofs.Points.{index_in}
 use Rattle.iso_base.specs.Points.{index_of}
 use Rattle.iso_base.specs.Volume.{sample}
 use Rattle.iso_base.specs.declared.point.Point.{Point}
-use Rattle.voxel_list.specs.Padding.{grown}
+use Rattle.iso_base.specs.Padding.{grown}
 use Rattle.voxel_list.proofs.Padding.{moved_sample}
 use Rattle.samples.specs.Cells.{IsLowest}
 use Rattle.samples.proofs.Cells.{cell_values_are}

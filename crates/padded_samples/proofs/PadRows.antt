@@ -8,7 +8,7 @@ use Rattle.std.proofs.Math.Nat.{le_of_mul-le-mul_left, mul-le-mul_left}
 use Rattle.iso_defs.specs.Grid.{Grid, index, point_count}
 use Rattle.iso_defs.specs.Outside.{is_outer}
 use Rattle.iso_base.specs.Volume.{sample}
-use Rattle.voxel_list.specs.Padding.{grown, padded_sample}
+use Rattle.iso_base.specs.Padding.{grown, padded_sample}
 use Rattle.voxel_list.proofs.Padding.{AtEnd, outer_layer, outer_point, outer_row, outer_sample, moved_sample, row_within}
 use Rattle.samples.proofs.Lists.{by_test}
 use Rattle.padded_samples.specs.Pads.{InPad, IsInnerRow, IsPadRow, padded_at, padded_list}

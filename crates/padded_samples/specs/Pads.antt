@@ -4,7 +4,7 @@ use Rattle.iso_defs.specs.Grid.{Grid, point_count}
 use Rattle.iso_base.specs.Samples.{IsSample}
 use Rattle.iso_base.specs.Sizing.{IsGrid}
 use Rattle.iso_base.specs.Volume.{sample}
-use Rattle.voxel_list.specs.Padding.{first_padded, grown, padded_sample}
+use Rattle.iso_base.specs.Padding.{first_padded, grown, padded_sample}
 
 -- a grid, its samples, and the pad round them
 pub record InPad : Type 0 where

@@ -6,7 +6,7 @@ ghost use Rattle.iso_base.specs.Samples.{IsSample};
 ghost use Rattle.iso_base.specs.Sizing.{sized};
 ghost use Rattle.iso_base.specs.Volume.{sample};
 ghost use Rattle.iso_base.specs.declared.sizes.SizeFault.{SizeFault};
-ghost use Rattle.voxel_list.specs.Padding.{grown};
+ghost use Rattle.iso_base.specs.Padding.{grown};
 ghost use Rattle.samples.specs.Cells.{IsLowest};
 ghost use Rattle.samples.specs.Signs.{sign_of};
 ghost use Rattle.padded_samples.specs.Pads.{InPad, IsInPad, IsInnerRow, padded_at, padded_list};
@@ -30,7 +30,7 @@ pub struct Padded<'a, S: Samples> {
 
 impl<'a, S: Samples> Model for Padded<'a, S> {
     ghost use Rattle.std.specs.Prelude.{◌≡◌};
-    ghost use Rattle.voxel_list.specs.Padding.{grown};
+    ghost use Rattle.iso_base.specs.Padding.{grown};
     ghost use Rattle.padded_samples.specs.Pads.{InPad, IsInPad};
 
     ghost Value = { InPad };

@@ -14,7 +14,7 @@ use thiserror::Error;
 
 /// The name of a chain, which only `Pool::store` gives. No other chain that the pool has goes by it. Letting it go keeps the
 /// chain's pages taken for good.
-#[derive(Drop, Debug)]
+#[derive(Drop)]
 pub struct Chain {
     first: u32,
 }
@@ -29,7 +29,7 @@ impl Model for Chain {
 
 /// A list needs more pages than are free. Nothing was stored.
 #[derive(Clone, Copy, Debug, PartialEq, Eq, Error)]
-#[error("{needed} pages needed, {free} free")]
+#[error("too few free pages")]
 pub struct Full {
     /// The pages that the list needs.
     pub needed: u32,

@@ -1,7 +1,7 @@
 -- The text of contour lines.
 use Rattle.std.specs.Prelude.{ℕ, ℤ, pos, ◌-ℤ◌, Bool, if◌then◌else◌, List, ◌∷◌, ◌++◌, length, codes, decimal}
 use Rattle.std.specs.List.{flat_map}
-use Rattle.byte_names.specs.Bytes.{space}
+use Rattle.iso_defs.specs.Bytes.{space}
 use Rattle.iso_defs.specs.Texts.{line, decimal_text}
 use Rattle.plane_contour.specs.Points.{DrawnLine, Point}
 

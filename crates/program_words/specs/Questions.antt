@@ -1,7 +1,7 @@
 -- What a program is asked about itself.
 use Rattle.std.specs.Prelude.{◌&&◌, Bool, false, ℕ, List, [], ◌∷◌, ◌++◌, bytes_eq, codes}
 use Rattle.std.specs.List.{list_any}
-use Rattle.byte_names.specs.Bytes.{line_feed, space}
+use Rattle.iso_defs.specs.Bytes.{line_feed, space}
 
 -- the version of the programs
 abbrev pub version : List ℕ

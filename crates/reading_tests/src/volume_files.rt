@@ -160,42 +160,44 @@ fn fault_of(rt: &HostRuntime, encoding: &str, samples: &str) -> Result<Option<Nr
     Ok(read(rt.alloc(), text.as_bytes()).err())
 }
 
-/// Encodings, samples in print, and what is wrong with them.
-const FAULTY: &[(&str, &str, NrrdFault)] = &[
-    (
-        "text",
-        "10 0 0 0 0 0 0",
-        NrrdFault::ShortSamples {
-            needed: 8,
-            present: 7,
-        },
-    ),
-    ("txt", "10 0 300", NrrdFault::BadSample { place: 2 }),
-    (
-        "text",
-        "10 0 0 0 0 0 0 0\0",
-        NrrdFault::BadSample { place: 7 },
-    ),
-    (
-        "hex",
-        "0A000000 000x0000",
-        NrrdFault::BadSample { place: 5 },
-    ),
-    (
-        "hex",
-        "0A000000,0000000",
-        NrrdFault::ShortSamples {
-            needed: 16,
-            present: 15,
-        },
-    ),
+/// Which sample in print is faulty, if one is.
+fn place_of(fault: Option<NrrdFault>) -> Option<u64> {
+    match fault {
+        Some(NrrdFault::BadSample { place }) => Some(place),
+        _ => None,
+    }
+}
+
+/// How many words or digits are needed and how many are there, if these are too few.
+fn counts_of(fault: Option<NrrdFault>) -> Option<[u64; 2]> {
+    match fault {
+        Some(NrrdFault::ShortSamples { needed, present }) => Some([needed, present]),
+        _ => None,
+    }
+}
+
+/// Encodings, samples in print, and the place of the first one that is faulty.
+const FAULTY: &[(&str, &str, u64)] = &[
+    ("txt", "10 0 300", 2),
+    ("text", "10 0 0 0 0 0 0 0\0", 7),
+    ("hex", "0A000000 000x0000", 5),
+];
+
+/// Encodings, samples in print that are too few, and both counts.
+const SHORT: &[(&str, &str, [u64; 2])] = &[
+    ("text", "10 0 0 0 0 0 0", [8, 7]),
+    ("hex", "0A000000,0000000", [16, 15]),
 ];
 
 #[test]
 fn faulty_samples_in_print(rt: HostRuntime) -> Result<(), Fail> {
-    for (encoding, samples, fault) in FAULTY {
-        let found = fault_of(&rt, encoding, samples)?;
-        assert!(rt; found == Some(*fault), "{samples}");
+    for (encoding, samples, place) in FAULTY {
+        let found = place_of(fault_of(&rt, encoding, samples)?);
+        assert!(rt; found == Some(*place), "{samples}");
+    }
+    for (encoding, samples, counts) in SHORT {
+        let found = counts_of(fault_of(&rt, encoding, samples)?);
+        assert!(rt; found == Some(*counts), "{samples}");
     }
     Ok(())
 }

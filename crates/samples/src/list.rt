@@ -7,7 +7,6 @@ use crate::number::{Packed, sample_at};
 use crate::samples::Samples;
 use crate::signs::put_signs;
 use iso_base::{Level, Point, Sizes, index};
-use voxel_list::VoxelList;
 
 /// Samples in memory, in a width of their own.
 #[derive(Clone, Copy, Debug)]
@@ -71,29 +70,5 @@ impl<'a, T: Packed> Samples for Numbers<'a, T> {
     fn put_signs(&self, start: u32, level: Level, into: &mut [u8]) {
         let start = start as usize;
         put_signs(&self.numbers[start..start + into.len()], level, into);
-    }
-}
-
-impl Samples for VoxelList {
-    ghost list = { λ v. v.samples };
-
-    #[inline(always)]
-    fn at(&self, index: u32) -> i64 {
-        self.samples()[index as usize]
-    }
-
-    #[inline(always)]
-    fn at_point(&self, sizes: &Sizes, point: Point) -> i64 {
-        self.at(index(sizes, point))
-    }
-
-    #[inline(always)]
-    fn copy_row<U: Packed>(&self, sizes: &Sizes, point: Point, into: &mut [U]) {
-        copy_part(self.samples(), sizes, point, into);
-    }
-
-    fn put_signs(&self, start: u32, level: Level, into: &mut [u8]) {
-        let start = start as usize;
-        put_signs(&self.samples()[start..start + into.len()], level, into);
     }
 }

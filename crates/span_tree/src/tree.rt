@@ -22,7 +22,7 @@ use voxel_list::FillBox;
 
 /// The least and the greatest sample of each brick of a store, by number. Contracts see a tree as the list of them:
 /// it is right for a store where these are the store's.
-#[derive(Debug, Drop)]
+#[derive(Drop)]
 pub struct SpanTree {
     sizes: Sizes,
     height: u32,

@@ -1,7 +1,7 @@
 -- Level numbers: an optional minus, one to eighteen digits, and where a point follows, one to three digits behind it.
 use Rattle.std.specs.Prelude.{ℕ, ◌==◌, ◌+◌, ◌-◌, ◌*◌, ◌^◌, nat_le, List, [], ◌∷◌, length, take, drop, position, ℤ, pos, neg_ℤ, Option, Some, None}
 use Rattle.std.specs.Prelude.{option_map, option_and_then, if◌then◌else◌}
-use Rattle.byte_names.specs.Bytes.{minus, dot}
+use Rattle.iso_defs.specs.Bytes.{minus, dot}
 use Rattle.text_lines.specs.Numbers.{digits_value}
 
 -- the thousandths that one to three digits behind a point are

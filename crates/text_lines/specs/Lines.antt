@@ -1,6 +1,6 @@
 -- The lines of a text.
 use Rattle.std.specs.Prelude.{ℕ, zero, suc, Bool, false, ◌==◌, ◌&&◌, List, [], ◌∷◌, get_or, map, if◌then◌else◌}
-use Rattle.byte_names.specs.Bytes.{line_feed, carriage_return}
+use Rattle.iso_defs.specs.Bytes.{line_feed, carriage_return}
 
 -- a line, and the bytes after it
 pub record Line : Type 0 where

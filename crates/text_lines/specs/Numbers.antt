@@ -2,7 +2,7 @@
 use Rattle.std.specs.Prelude.{ℕ, Bool, ◌==◌, ◌&&◌, ◌+◌, ◌-◌, ◌*◌, nat_le, List, [], ◌∷◌, length, fold, ℤ, pos, negsuc, neg_ℤ, Option, Some, None}
 use Rattle.std.specs.Prelude.{option_map, option_and_then, if◌then◌else◌}
 use Rattle.std.specs.List.{list_all}
-use Rattle.byte_names.specs.Bytes.{minus, digit_zero, digit_nine}
+use Rattle.iso_defs.specs.Bytes.{minus, digit_zero, digit_nine}
 
 -- a decimal digit
 abbrev pub is_digit : ℕ → Bool

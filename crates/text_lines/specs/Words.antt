@@ -1,7 +1,7 @@
 -- Blanks, words and the case of letters.
 use Rattle.std.specs.Prelude.{ℕ, Bool, true, ◌==◌, ◌||◌, List, [], ◌∷◌, map, if◌then◌else◌, bytes_eq, Option, Some, None}
 use Rattle.std.specs.Char.{to_ascii_lowercase}
-use Rattle.byte_names.specs.Bytes.{tab, space}
+use Rattle.iso_defs.specs.Bytes.{tab, space}
 
 -- a space or a tab
 abbrev pub is_blank : ℕ → Bool

@@ -1,7 +1,7 @@
 //! Level numbers: whole numbers and numbers with up to three decimals.
 
 ghost use Rattle.std.specs.Prelude.{◌≡◌, ◌<◌, ◌^◌, ◌==◌, IfSome, pos, neg_ℤ, position};
-ghost use Rattle.byte_names.specs.Bytes.{dot};
+ghost use Rattle.iso_defs.specs.Bytes.{dot};
 ghost use Rattle.text_lines.specs.Levels.{decimals_value, level_number_of, thousandths_value};
 
 use crate::numbers::digits;

@@ -1,7 +1,7 @@
 //! The lines of a text.
 
 ghost use Rattle.std.specs.Prelude.{◌≡◌, ℕ, ◌+◌, ◌<◌, ◌≤◌, ◌==◌, ◌∷◌, [], false, length, position, slice_index, MatchOption};
-ghost use Rattle.byte_names.specs.Bytes.{line_feed};
+ghost use Rattle.iso_defs.specs.Bytes.{line_feed};
 ghost use Rattle.text_lines.specs.Lines.{lines_of, text_end};
 
 /// The length of a line without the one return before its line feed.

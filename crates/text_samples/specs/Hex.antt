@@ -2,7 +2,7 @@
 use Rattle.std.specs.Prelude.{ℕ, zero, suc, ◌+◌, ◌-◌, ◌*◌, ◌/◌, Bool, ◌&&◌, nat_le, nat_lt, ℤ, List, [], ◌∷◌, map, take, length, Option, Some, None}
 use Rattle.std.specs.Prelude.{ok_or, Result, Ok, Err, if◌then◌else◌}
 use Rattle.std.specs.List.{enumerate_from}
-use Rattle.byte_names.specs.Bytes.{digit_zero, digit_nine, upper_a, upper_f, lower_a, lower_f}
+use Rattle.iso_defs.specs.Bytes.{digit_zero, digit_nine, upper_a, upper_f, lower_a, lower_f}
 use Rattle.iso_base.specs.Samples.{width_of}
 use Rattle.iso_base.specs.declared.kind.SampleKind.{SampleKind}
 use Rattle.text_samples.specs.declared.fault.SampleFault.{SampleFault}

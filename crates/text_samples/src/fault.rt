@@ -10,10 +10,10 @@ use thiserror::Error;
 #[derive(Clone, Copy, Debug, PartialEq, Eq, Error)]
 pub enum SampleFault {
     /// What stands for the sample at this place, counted from 0, is none of the kind.
-    #[error("bad sample {place}")]
+    #[error("bad sample")]
     Bad { place: u64 },
     /// Fewer words, or digits, are there than needed; with both numbers.
-    #[error("short samples {needed} {present}")]
+    #[error("short samples")]
     Short { needed: u64, present: u64 },
     /// Memory could not be had.
     #[error("memory")]

@@ -16,7 +16,7 @@ use iso_base::SampleKind;
 use std::alloc::Global;
 
 /// How many digits are needed in all, and how many each sample has.
-#[derive(Clone, Copy, Debug)]
+#[derive(Clone, Copy)]
 pub struct Wanted {
     pub needed: u64,
     pub each: u64,

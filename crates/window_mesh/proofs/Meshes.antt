@@ -5,7 +5,7 @@ use Rattle.iso_base.specs.Points.{IsPoint}
 use Rattle.iso_base.specs.Shifted.{field}
 use Rattle.iso_base.specs.Volume.{Volume}
 use Rattle.voxel_list.specs.Areas.{Area, IsArea}
-use Rattle.mesh_defs.specs.Lists.{FlatMesh}
+use Rattle.iso_defs.specs.MeshLists.{FlatMesh}
 use Rattle.flat_mesh.specs.Mesh.{mesh_of}
 use Rattle.window_laws.specs.Windows.{thin_axis}
 use Rattle.window_laws.proofs.Thickness.{thick_of}

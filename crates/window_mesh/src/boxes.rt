@@ -17,7 +17,7 @@ use voxel_list::{FillBox, VoxelList};
 #[derive(Clone, Copy, Debug, PartialEq, Eq, Error)]
 pub enum WindowFault {
     /// An axis has fewer than 2 points of the box; with their number. Axis 0 is x, 1 is y, 2 is z.
-    #[error("{n} points along axis {axis}")]
+    #[error("too few points along an axis")]
     Thin { axis: u8, n: u64 },
     /// Memory could not be had.
     #[error("no memory")]

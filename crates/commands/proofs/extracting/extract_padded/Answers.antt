@@ -3,7 +3,7 @@ use Rattle.std.specs.Prelude.{Option, is_some}
 use Rattle.std.proofs.lemmas.Int.{to_z-of_z}
 use Rattle.iso_defs.specs.Grid.{Grid, point_count}
 use Rattle.iso_base.specs.Samples.{IsSample}
-use Rattle.voxel_list.specs.Padding.{first_padded, grown, padded_volume}
+use Rattle.iso_base.specs.Padding.{first_padded, grown, padded_volume}
 use Rattle.padded_samples.specs.Pads.{InPad, padded_list}
 use Rattle.padded_samples.proofs.PadRows.{padded_length}
 use Rattle.command_terms.specs.Volumes.{text_by}

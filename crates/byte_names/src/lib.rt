@@ -1,2 +1,0 @@
-//! Names of ASCII bytes, for definitions of texts.
-#![tactic(auto)]

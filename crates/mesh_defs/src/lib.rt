@@ -1,2 +1,0 @@
-//! A mesh as lists, for definitions.
-#![tactic(auto)]

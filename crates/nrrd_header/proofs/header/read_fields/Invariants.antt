@@ -1,0 +1,16 @@
+use Rattle.std.proofs.Common.{◌≡◌, ◌+◌, ◌≤◌, length}
+use Rattle.text_lines.specs.Lines.{lines_of}
+use Rattle.nrrd_header.specs.HeaderLines.{header_texts, sample_bytes}
+use Rattle.nrrd_header.specs.Fields.{meanings}
+use Rattle.nrrd_header.specs.Scanning.{seen_fields, no_fields, after_lines}
+use Rattle.nrrd_header.proofs.header.read_fields.Given as goal
+
+abbrev pub invariant-loop-text : goal.invariant-loop-text
+invariant-loop-text l = record {
+  so_far : after_lines (seen_fields l.header) l.number (meanings (header_texts (lines_of l.rest))) ≡ after_lines no_fields 2 (meanings (header_texts (lines_of l.bytes)));
+  samples : sample_bytes (lines_of l.rest) ≡ sample_bytes (lines_of l.bytes);
+  number : l.number + length l.rest ≤ 2 + length l.bytes;
+}
+
+abbrev pub decreases-loop-text : goal.decreases-loop-text
+decreases-loop-text l = length l.rest

@@ -1,0 +1,148 @@
+-- What the values of the fields must be, and the refusals where they are not.
+use Rattle.std.specs.Prelude.{ℕ, zero, Bool, true, false, ◌==◌, ◌||◌, List, ℤ, pos, Option, Some, None, Result, Ok, Err, ok_or, option_and_then}
+use Rattle.std.specs.Prelude.{if◌then◌else◌, codes, ⊤}
+use Rattle.iso_defs.specs.Grid.{Grid}
+use Rattle.iso_base.specs.Sizing.{sized}
+use Rattle.iso_base.specs.declared.kind.SampleKind.{SampleKind}
+use Rattle.iso_base.specs.declared.kind.SampleKind.TheVariants.{I8, U8, I16, U16, I32, U32}
+use Rattle.iso_base.specs.declared.sizes.SizeFault.{SizeFault}
+use Rattle.refusals.specs.declared.nrrd.Field.{Field}
+use Rattle.refusals.specs.declared.nrrd.Field.TheVariants.{Dimension, Kind, Sizes, Endian, LineSkip, ByteSkip}
+use Rattle.refusals.specs.declared.nrrd.Field.TheVariants as fields
+use Rattle.refusals.specs.declared.nrrd.EncodingWord.{EncodingWord}
+use Rattle.refusals.specs.declared.nrrd.EncodingWord.TheVariants.{Gzip, Bzip2, Unknown}
+use Rattle.nrrd_header.specs.declared.encoding.Encoding.{Encoding}
+use Rattle.nrrd_header.specs.declared.encoding.Encoding.TheVariants.{Raw, Text, Hex}
+use Rattle.nrrd_header.specs.declared.layout.Layout.{Layout}
+use Rattle.refusals.specs.declared.nrrd.NrrdFault.{NrrdFault}
+use Rattle.refusals.specs.declared.nrrd.NrrdFault.TheVariants.{MissingField, BadValue, NotThreeAxes, UnsupportedKind, UnsupportedEncoding}
+use Rattle.refusals.specs.declared.nrrd.NrrdFault.TheVariants.{SkipUnsupported, Size, NoEndian}
+use Rattle.text_lines.specs.Words.{is_word, words_of, three_in}
+use Rattle.text_lines.specs.Numbers.{number_of, whole_of}
+use Rattle.text_lines.specs.Refusals.{◌>>=◌}
+use Rattle.nrrd_header.specs.Encodings.{has_order}
+use Rattle.nrrd_header.specs.Fields.{Fields}
+
+-- the value, as it is seen
+abbrev pub map_ok : {A B : Type 0} → (A → B) → Result A NrrdFault → Result B NrrdFault
+map_ok f (Ok x) = Ok (f x)
+map_ok f (Err e) = Err e
+
+-- a field that must be there
+abbrev pub needed : Option (List ℕ) → Field → Result (List ℕ) NrrdFault
+needed value f = ok_or value (MissingField f)
+
+-- there must be three axes
+abbrev pub three_axes : Option ℕ → Result ⊤ NrrdFault
+three_axes None = Err (BadValue Dimension)
+three_axes (Some n) = if n == 3 then Ok tt else Err (NotThreeAxes n)
+
+-- the spellings of each kind
+unfoldable pub is_i8 : List ℕ → Bool
+is_i8 w = is_word w (codes "signed char") || is_word w (codes "int8") || is_word w (codes "int8_t")
+
+unfoldable pub is_u8 : List ℕ → Bool
+is_u8 w = is_word w (codes "uchar") || is_word w (codes "unsigned char") || is_word w (codes "uint8") || is_word w (codes "uint8_t")
+
+unfoldable pub is_i16 : List ℕ → Bool
+is_i16 w =
+    is_word w (codes "short") || is_word w (codes "short int") || is_word w (codes "signed short")
+    || is_word w (codes "signed short int") || is_word w (codes "int16") || is_word w (codes "int16_t")
+
+unfoldable pub is_u16 : List ℕ → Bool
+is_u16 w =
+    is_word w (codes "ushort") || is_word w (codes "unsigned short") || is_word w (codes "unsigned short int")
+    || is_word w (codes "uint16") || is_word w (codes "uint16_t")
+
+unfoldable pub is_i32 : List ℕ → Bool
+is_i32 w = is_word w (codes "int") || is_word w (codes "signed int") || is_word w (codes "int32") || is_word w (codes "int32_t")
+
+unfoldable pub is_u32 : List ℕ → Bool
+is_u32 w = is_word w (codes "uint") || is_word w (codes "unsigned int") || is_word w (codes "uint32") || is_word w (codes "uint32_t")
+
+-- the kind of a type's name
+abbrev pub kind_named : List ℕ → Result SampleKind NrrdFault
+kind_named w =
+    if is_i8 w then Ok I8 else
+    if is_u8 w then Ok U8 else
+    if is_i16 w then Ok I16 else
+    if is_u16 w then Ok U16 else
+    if is_i32 w then Ok I32 else
+    if is_u32 w then Ok U32 else
+    Err UnsupportedKind
+
+-- the encodings that are not read
+unfoldable pub unread_encoding : List ℕ → EncodingWord
+unread_encoding w =
+    if is_word w (codes "gz") || is_word w (codes "gzip") then Gzip else
+    if is_word w (codes "bz2") || is_word w (codes "bzip2") then Bzip2 else
+    Unknown
+
+-- the encoding of a name
+unfoldable pub encoding_named : List ℕ → Result Encoding NrrdFault
+encoding_named w =
+    if is_word w (codes "raw") then Ok Raw else
+    if is_word w (codes "txt") || is_word w (codes "text") || is_word w (codes "ascii") then Ok Text else
+    if is_word w (codes "hex") then Ok Hex else
+    Err (UnsupportedEncoding (unread_encoding w))
+
+-- a skip of 0
+abbrev pub skip_number : Field → Option ℤ → Result ⊤ NrrdFault
+skip_number f None = Err (BadValue f)
+skip_number f (Some (pos zero)) = Ok tt
+skip_number f (Some z) = Err (SkipUnsupported f)
+
+-- a skip that is there must be 0
+abbrev pub no_skip : Option (List ℕ) → Field → Result ⊤ NrrdFault
+no_skip None f = Ok tt
+no_skip (Some text) f = skip_number f (number_of text)
+
+-- three numbers of three words
+abbrev pub three_numbers : Option (List ℕ × List ℕ × List ℕ) → Option Grid
+three_numbers None = None
+three_numbers (Some words) =
+    option_and_then (λ nx. option_and_then (λ ny. option_and_then (λ nz.
+    Some (record { nx = nx; ny = ny; nz = nz })) (whole_of words.2)) (whole_of words.1)) (whole_of words.0)
+
+-- the sizes within the limits
+abbrev pub size_checked : Result Grid SizeFault → Result Grid NrrdFault
+size_checked (Ok e) = Ok e
+size_checked (Err fault) = Err (Size fault)
+
+-- three numbers, within the limits
+abbrev pub grid_checked : Option Grid → Result Grid NrrdFault
+grid_checked None = Err (BadValue Sizes)
+grid_checked (Some e) = size_checked (sized e)
+
+-- the value of sizes, fastest axis first
+unfoldable pub grid_of : List ℕ → Result Grid NrrdFault
+grid_of text = grid_checked (three_numbers (three_in (words_of text)))
+
+-- whether the high bytes come first, by its word
+unfoldable pub order_named : List ℕ → Result Bool NrrdFault
+order_named w = if is_word w (codes "little") then Ok false else if is_word w (codes "big") then Ok true else Err (BadValue Endian)
+
+-- the order must be given
+abbrev pub order_given : Option (List ℕ) → Result Bool NrrdFault
+order_given None = Err NoEndian
+order_given (Some w) = order_named w
+
+-- whether the high bytes come first, which is asked of samples that have an order alone
+abbrev pub big_first : Bool → Option (List ℕ) → Result Bool NrrdFault
+big_first ordered value = if ordered then order_given value else Ok false
+
+-- the layout of the samples, or the first refusal
+unfoldable pub layout_of : Fields → Result Layout NrrdFault
+layout_of h = do
+  dimension ← needed h.dimension Dimension
+  kind ← needed h.kind Kind
+  sizes ← needed h.sizes Sizes
+  encoding ← needed h.encoding fields.Encoding
+  axes ← three_axes (whole_of dimension)
+  kind ← kind_named kind
+  encoding ← encoding_named encoding
+  lines ← no_skip h.line_skip LineSkip
+  bytes ← no_skip h.byte_skip ByteSkip
+  grid ← grid_of sizes
+  big ← big_first (has_order encoding kind) h.endian
+  Ok (record { sizes = grid; kind = kind; encoding = encoding; big = big })

@@ -1,0 +1,5 @@
+pub mod Checks
+pub mod Encodings
+pub mod Fields
+pub mod HeaderLines
+pub mod Scanning

@@ -1,0 +1,44 @@
+//! What the fields of a header say of the samples.
+ghost use Rattle.std.specs.Prelude.{◌≡◌};
+ghost use Rattle.nrrd_header.specs.Scanning.{seen_fields};
+ghost use Rattle.nrrd_header.specs.Checks.{layout_of};
+
+use crate::checks::{ask_dimension, ask_skip, big_first, encoding_of, kind_of, needed, sizes_of};
+use crate::encoding::Encoding;
+use crate::header::Header;
+use iso_base::{SampleKind, Sizes};
+use refusals::{Field, NrrdFault};
+
+/// How the samples are laid out.
+#[derive(Clone, Copy)]
+pub struct Layout {
+    pub sizes: Sizes,
+    pub kind: SampleKind,
+    pub encoding: Encoding,
+    /// Whether the high byte of a sample comes first.
+    pub big: bool,
+}
+
+/// What the fields say of the samples.
+#[tactic(auto, unfolding(crate::specs::Checks::layout_of))]
+pub fn read_layout(header: &Header<'_>) -> Result<Layout, NrrdFault>
+    ensures { result ≡ layout_of (seen_fields header.now) }
+{
+    let dimension = needed(header.dimension, Field::Dimension)?;
+    let kind = needed(header.kind, Field::Kind)?;
+    let sizes = needed(header.sizes, Field::Sizes)?;
+    let encoding = needed(header.encoding, Field::Encoding)?;
+    ask_dimension(dimension)?;
+    let kind = kind_of(kind)?;
+    let encoding = encoding_of(encoding)?;
+    ask_skip(header.line_skip, Field::LineSkip)?;
+    ask_skip(header.byte_skip, Field::ByteSkip)?;
+    let sizes = sizes_of(sizes)?;
+    let big = big_first(encoding.has_order(kind), header.endian)?;
+    Ok(Layout {
+        sizes,
+        kind,
+        encoding,
+        big,
+    })
+}

@@ -1,5 +1,0 @@
-pub mod HeaderLaws
-pub mod Folding
-pub mod SampleLaws
-pub mod Parts
-pub mod ReadRuns
