@@ -7,10 +7,11 @@ use crate::asked::{
 };
 use bench_core::{Bench, BenchFault, Capacity, Contours, Part, Report};
 use flat_mesh::{Mesh, extract_flat};
-use iso_base::{Level, Sizes, Thousandth, Written};
+use iso_base::{Level, Sizes, Written};
 use iso_io::MemShelf;
 use mesh_text::TwoWayFormat;
 use nrrd_read::read_volume;
+use number_digits::Thousandth;
 use std::alloc::{AllocError, Global};
 use std::process::Abort;
 use volume_gen::generated;

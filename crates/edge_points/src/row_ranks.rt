@@ -21,9 +21,6 @@ fn add_up(numbers: &mut [u32])
     }
 }
 
-/// So many numbers the room for lists has: all lists of the rows of a volume of 128 points along each axis, unless it is noisy.
-const ROOM: usize = 2_097_152;
-
 /// One number for each row of points along x: first how many crossing edges begin in the row, then, once that is set for
 /// all rows, how many begin in the rows before it. Contracts see the grid and the numbers, row by row.
 ///
@@ -59,15 +56,6 @@ impl RowRanks {
             numbers,
             room: None,
         })
-    }
-
-    /// The same, with room for lists of the rows. A page of it is first touched when a list is put there.
-    pub fn with_room(alloc: Global, sizes: &Sizes) -> Result<RowRanks, Memory>
-        ensures { IfOk result (λ r. r ≡ no_counts sizes.now) }
-    {
-        let mut ranks = RowRanks::new(alloc, sizes)?;
-        ranks.room = Some(vec![in alloc; 0u16; ROOM]?);
-        Ok(ranks)
     }
 
     /// Takes the room for lists out, if there is any. What it holds is open.

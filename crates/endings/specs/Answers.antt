@@ -1,8 +1,8 @@
 -- What is answered where the bytes of a command were not read.
 use Rattle.byte_streams.specs.declared.source.ReadFault.{ReadFault}
 use Rattle.byte_streams.specs.declared.source.ReadFault.TheVariants as reads
-use Rattle.iso_io.specs.declared.shelf.ShelfError.{ShelfError}
-use Rattle.iso_io.specs.declared.shelf.ShelfError.TheVariants as shelves
+use Rattle.refusals.specs.declared.shelf.ShelfError.{ShelfError}
+use Rattle.refusals.specs.declared.shelf.ShelfError.TheVariants as shelves
 use Rattle.endings.specs.declared.answer.Answer.{Answer}
 use Rattle.endings.specs.declared.answer.Answer.TheVariants.{InputFault, InputTooLong, Memory, ShelfFault}
 

@@ -2,9 +2,9 @@
 ghost use Rattle.std.specs.Prelude.{◌≡◌};
 ghost use Rattle.endings.specs.Status.{mesh_status, nrrd_status, number_of, status_of, volume_status};
 
+use byte_streams::ReadFault;
 use iso_base::SizeFault;
-use iso_io::{ReadFault, ShelfError};
-use refusals::{MeshFault, NrrdFault};
+use refusals::{MeshFault, NrrdFault, ShelfError};
 use thiserror::Error;
 
 /// How the program ends. Its number is what the system is told.

@@ -8,8 +8,8 @@ ghost use Rattle.endings.specs.Tries.{Tries};
 use crate::answer::{Answer, VolumeFault};
 use crate::parts::{put_counted, put_counted_twice, put_level_and_pad, put_named};
 use arrayvec::ArrayString;
+use byte_streams::{Sink, write_all_of};
 use iso_base::SizeFault;
-use iso_io::{Sink, write_all_of};
 use refusals::{EncodingWord, Field, MeshFault, NrrdFault};
 
 fn name_of_field(field: Field) -> &'static str

@@ -10,7 +10,7 @@ use Rattle.byte_streams.specs.Seen.{Tape, Puts}
 use Rattle.byte_streams.proofs.Putting.{HasPut, has_none, has_put, has_all, put_failed}
 use Rattle.iso_base.specs.Samples.{IsOfKind}
 use Rattle.iso_base.specs.declared.kind.SampleKind.{SampleKind}
-use Rattle.text_samples.specs.Samples.{sample_bytes}
+use Rattle.iso_base.specs.SampleBytes.{sample_bytes}
 use Rattle.nrrd.specs.Writing.{samples_text}
 use Rattle.inner_volume.specs.Rows.{AreSamples}
 use Rattle.inner_volume.proofs.InnerSamples.{row_taken}

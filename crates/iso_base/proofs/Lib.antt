@@ -2,4 +2,3 @@ pub mod Indices
 pub mod Worked
 pub mod VolumeLaws
 pub mod Levels
-pub mod Digits

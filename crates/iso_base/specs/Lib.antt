@@ -1,6 +1,7 @@
 pub mod Padding
 pub mod Points
 pub mod Samples
+pub mod SampleBytes
 pub mod Shifted
 pub mod Sizing
 pub mod Stored

@@ -8,11 +8,11 @@ use crate::point::{Point, index, point_of};
 use crate::sizes::Sizes;
 
 /// The name of a lattice edge: three times the index of its lower point, and its axis.
-#[derive(Clone, Copy, Debug, PartialEq, Eq)]
+#[derive(Clone, Copy, PartialEq, Eq)]
 pub struct EdgeName(pub u32);
 
 /// The name of a cell: the index of its lowest point.
-#[derive(Clone, Copy, Debug, PartialEq, Eq)]
+#[derive(Clone, Copy, PartialEq, Eq)]
 pub struct CellName(pub u32);
 
 /// The name of the lattice edge from a point along an axis: 0 is x, 1 is y, 2 is z.

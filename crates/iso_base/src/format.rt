@@ -1,7 +1,7 @@
 //! The formats in which the mesh of a window is written.
 
 /// A format in which the mesh of a window is written.
-#[derive(Clone, Copy, Debug, PartialEq, Eq)]
+#[derive(Clone, Copy, PartialEq, Eq)]
 pub enum MeshFormat {
     /// ASCII PLY 1.0, whose faces count vertices from 0.
     Ply,

@@ -11,7 +11,7 @@ const LIMIT: u128 = 8_589_934_592_000;
 
 /// A level, in thousandths of the unit of samples: a whole number of absolute value below 2^33 times 1,000.
 /// Contracts see it as that number.
-#[derive(Clone, Copy, Debug, PartialEq, Eq)]
+#[derive(Clone, Copy, PartialEq, Eq)]
 pub struct Level(i64);
 
 impl Model for Level {

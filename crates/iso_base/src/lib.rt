@@ -1,14 +1,12 @@
-//! What every crate speaks of: sizes, points, names of lattice edges, levels, samples, triangle lists,
-//! printed numbers, the counter of cases, and the answers that several crates share.
+//! What every crate speaks of: sizes, points, names of lattice edges, levels, samples, triangle lists, the counter of cases,
+//! and the answers that several crates share.
 #![tactic(auto)]
 
-mod decimal;
 mod edge;
 mod fault;
 mod format;
 mod kind;
 mod level;
-mod number;
 mod point;
 mod sizes;
 mod steps;
@@ -16,13 +14,11 @@ mod triangles;
 mod verdict;
 mod voxels;
 
-pub use decimal::{Thousandth, put_decimal, put_level};
 pub use edge::{CellName, EdgeName, edge_name, edge_of};
 pub use fault::{BenchFault, Memory, Written};
 pub use format::MeshFormat;
 pub use kind::SampleKind;
 pub use level::Level;
-pub use number::put_number;
 pub use point::{Point, index, is_inside, point_of};
 pub use sizes::{SizeFault, Sizes};
 pub use steps::Steps;

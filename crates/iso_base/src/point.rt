@@ -8,7 +8,7 @@ ghost use Rattle.iso_base.specs.Points.{IsPoint, point_at, index_of, is_point};
 use crate::sizes::Sizes;
 
 /// A point of a grid: how many samples it lies from the first one along x, y and z.
-#[derive(Clone, Copy, Debug, PartialEq, Eq)]
+#[derive(Clone, Copy, PartialEq, Eq)]
 pub struct Point {
     pub x: u32,
     pub y: u32,

@@ -23,7 +23,7 @@ pub enum SizeFault {
 
 /// The sizes of a grid, in samples along x, y and z: 2 to 1,026 each, with a product of at most 160,000,000.
 /// Contracts see them as a grid.
-#[derive(Clone, Copy, Debug, PartialEq, Eq)]
+#[derive(Clone, Copy)]
 pub struct Sizes {
     nx: u32,
     ny: u32,

@@ -7,7 +7,7 @@ use std::marker::Model;
 
 /// Triangles over vertices by number, each corner below the number of vertices.
 /// A triangle is its three corners in order; contracts see the count and the list of triangles.
-#[derive(Debug, Drop)]
+#[derive(Drop)]
 pub struct TriangleList {
     vertex_count: u32,
     triangles: Vec<[u32; 3]>,

@@ -10,7 +10,7 @@ use crate::sizes::Sizes;
 use std::marker::Model;
 
 /// What a volume file gives: its sizes, the kind of its samples, and one sample of that kind for each point, by index.
-#[derive(Debug, Drop)]
+#[derive(Drop)]
 pub struct VoxelData {
     sizes: Sizes,
     kind: SampleKind,

@@ -4,8 +4,8 @@ use Rattle.std.specs.Prelude.{Result, IsErrOf}
 use Rattle.byte_streams.specs.Causes.{Rose}
 use Rattle.byte_streams.specs.Causes.{one_more}
 use Rattle.iso_io.specs.Shelves.{is_failed}
-use Rattle.iso_io.specs.declared.shelf.ShelfError.{ShelfError}
-use Rattle.iso_io.specs.declared.shelf.ShelfError.TheVariants.{Failed}
+use Rattle.refusals.specs.declared.shelf.ShelfError.{ShelfError}
+use Rattle.refusals.specs.declared.shelf.ShelfError.TheVariants.{Failed}
 
 -- nothing is said of the bytes of a shelf that tells none
 pub untold : {T E : Type 0} (r : Result T E) → IfOk r (λ _. Unit {0})

@@ -6,8 +6,8 @@ use Rattle.std.specs.Borrow.{GName}
 use Rattle.byte_streams.specs.Causes.{HasCause}
 use Rattle.byte_streams.specs.Files.{Files}
 use Rattle.byte_streams.specs.Seen.{Tape}
-use Rattle.iso_io.specs.declared.shelf.ShelfError.{ShelfError}
-use Rattle.iso_io.specs.declared.shelf.ShelfError.TheVariants.{Failed}
+use Rattle.refusals.specs.declared.shelf.ShelfError.{ShelfError}
+use Rattle.refusals.specs.declared.shelf.ShelfError.TheVariants.{Failed}
 
 -- a shelf: its files, where they are told, and how often it failed
 pub record Store : Type 0 where

@@ -4,9 +4,10 @@ ghost use Rattle.std.specs.Prelude.{◌≡◌, ◌≤◌, length, IfOk};
 ghost use Rattle.byte_streams.specs.Causes.{Rose};
 ghost use Rattle.byte_streams.specs.Causes.{one_more};
 
-use crate::shelf::{Shelf, ShelfError};
+use crate::shelf::Shelf;
 use arrayvec::ArrayString;
 use byte_streams::{Failed, ReadFault, StdSink, StdSource, read_all_of, write_all_of};
+use refusals::ShelfError;
 use std::alloc::Global;
 use std::fs::{File, OpenOptions};
 use std::marker::Model;

@@ -18,5 +18,6 @@ pub use byte_streams::{
 pub use file_shelf::FileShelf;
 pub use file_text::{FileText, write_file};
 pub use memory_shelf::MemShelf;
-pub use shelf::{Shelf, ShelfError};
+pub use refusals::ShelfError;
+pub use shelf::Shelf;
 pub use shelf_file::ShelfFile;

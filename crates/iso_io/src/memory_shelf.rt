@@ -9,9 +9,10 @@ ghost use Rattle.byte_streams.specs.Causes.{one_more};
 ghost use Rattle.iso_io.specs.Memory.{KeptFiles, empty_shelf, stored};
 
 use crate::places::Places;
-use crate::shelf::{Shelf, ShelfError};
+use crate::shelf::Shelf;
 use byte_streams::Failed;
 use iso_base::Memory;
+use refusals::ShelfError;
 use std::alloc::Global;
 use std::marker::Model;
 

@@ -5,7 +5,7 @@ ghost use Rattle.arrayvec.specs.ArrayString.{array_string_len};
 ghost use Rattle.mesh_text.specs.Lines.{ply_head, ply_head_bytes, points_head, points_head_bytes};
 
 use arrayvec::ArrayString;
-use iso_base::put_number;
+use number_digits::put_number;
 
 #[tactic(auto, unfolding(crate::specs::Lines::points_head_bytes))]
 fn points_head_parts(vertices: u32) -> ArrayString<160>

@@ -10,7 +10,7 @@ use Rattle.iso_base.specs.declared.kind.SampleKind.TheVariants.{I8, U8, I16, U16
 use Rattle.iso_base.specs.Samples.{IsOfKind}
 use Rattle.std.proofs.lemmas.Int.{ints}
 use Rattle.std.specs.Int.{w64}
-use Rattle.text_samples.specs.Samples.{sample_bytes}
+use Rattle.iso_base.specs.SampleBytes.{sample_bytes}
 use Rattle.text_samples.proofs.BytesAgain.{length_sample}
 use Rattle.nrrd.specs.Writing.{samples_text}
 

@@ -5,7 +5,7 @@ use Rattle.iso_defs.specs.Grid.{Grid}
 use Rattle.iso_base.specs.Volume.{Voxels}
 use Rattle.iso_base.specs.declared.kind.SampleKind.{SampleKind}
 use Rattle.iso_base.specs.declared.kind.SampleKind.TheVariants.{I8, U8, I16, U16, I32, U32}
-pub use Rattle.text_samples.specs.Samples.{samples_text}
+pub use Rattle.iso_base.specs.SampleBytes.{samples_text}
 use Rattle.nrrd_text.specs.Writing.{hex_line, text_line}
 use Rattle.nrrd_header.specs.declared.encoding.Encoding.{Encoding}
 use Rattle.nrrd_header.specs.declared.encoding.Encoding.TheVariants.{Raw, Text, Hex}

@@ -9,8 +9,9 @@ ghost use Rattle.nrrd.specs.Writing.{coded_by, coded_head_text, encoding_text, h
 use arrayvec::ArrayString;
 use byte_streams::{Failed, Sink, write_all_of};
 use byteorder::{ByteOrder, LittleEndian};
-use iso_base::{SampleKind, Sizes, put_number};
+use iso_base::{SampleKind, Sizes};
 use nrrd_read::Encoding;
+use number_digits::put_number;
 use samples::{Packed, sample_at};
 
 /// The name of a kind in print.

@@ -17,7 +17,7 @@ use Rattle.nrrd_header.specs.declared.encoding.Encoding.TheVariants.{Raw, Text, 
 use Rattle.nrrd_header.specs.declared.layout.Layout.{Layout}
 use Rattle.text_samples.specs.declared.fault.SampleFault.{SampleFault}
 use Rattle.text_samples.specs.declared.fault.SampleFault.TheVariants.{Short}
-use Rattle.text_samples.specs.Samples.{samples_in}
+use Rattle.iso_base.specs.SampleBytes.{samples_in}
 use Rattle.text_samples.specs.Text.{text_samples}
 use Rattle.text_samples.specs.Hex.{hex_samples}
 

@@ -3,7 +3,7 @@ use Rattle.std.proofs.Common.{◌≡◌, ◌≢◌, ℕ, ◌/◌, ◌%◌, List,
 use Rattle.iso_base.specs.Samples.{width_of}
 use Rattle.iso_base.specs.declared.kind.SampleKind.{SampleKind}
 use Rattle.iso_base.specs.declared.kind.SampleKind.TheVariants.{I8, U8, I16, U16, I32, U32}
-use Rattle.text_samples.specs.Samples.{bits_of}
+use Rattle.iso_base.specs.SampleBytes.{bits_of}
 use Rattle.nrrd_text.specs.Writing.{byte_digits, sample_digits}
 
 digits_of_two : (kind : SampleKind) (v : ℤ) (n : ℕ) → width_of kind ≡ 2 → n ≡ bits_of kind v → byte_digits (n % 256) ++ byte_digits (n / 256 % 256) ≡ sample_digits kind v

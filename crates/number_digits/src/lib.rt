@@ -1,10 +1,15 @@
-//! Digits of numbers, written into texts: each call gives the place behind what it wrote, and takes no memory.
+//! Numbers as text: appended to short texts, and their digits written into longer ones, where each call gives the place
+//! behind what it wrote. No call takes memory.
 #![tactic(auto)]
 
 mod bytes;
 mod counted;
+mod decimal;
 mod digits;
+mod number;
 
 pub use bytes::{put_array, put_byte};
 pub use counted::{Counted, count_short};
+pub use decimal::{Thousandth, put_decimal, put_level};
 pub use digits::Digits;
+pub use number::put_number;

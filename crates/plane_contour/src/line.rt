@@ -3,11 +3,12 @@
 ghost use Rattle.std.specs.Prelude.{◌≡◌, All};
 ghost use Rattle.plane_contour.specs.Points.{IsNear};
 
-use iso_base::{EdgeName, Thousandth};
+use iso_base::EdgeName;
+use number_digits::Thousandth;
 use std::marker::Model;
 
 /// One contour line: a closed one, or a path from border to border. Contracts see whether it is a cycle, and its points.
-#[derive(Debug, Drop)]
+#[derive(Drop)]
 pub struct Line {
     cycle: bool,
     points: Vec<(EdgeName, Thousandth, Thousandth)>,
@@ -51,7 +52,7 @@ impl Line {
 }
 
 /// The contour lines of a plane, in the order of their least names. Contracts see the list of lines.
-#[derive(Debug, Drop)]
+#[derive(Drop)]
 pub struct Contours {
     lines: Vec<Line>,
 }

@@ -8,7 +8,7 @@ use Rattle.byteorder.specs.Numbers.{big_from-lt, little_from-lt}
 use Rattle.iso_base.specs.Samples.{width_of, IsOfKind}
 use Rattle.iso_base.specs.declared.kind.SampleKind.{SampleKind}
 use Rattle.iso_base.specs.declared.kind.SampleKind.TheVariants.{I8, U8, I16, U16, I32, U32}
-use Rattle.text_samples.specs.Samples.{number_in, as_kind, sample_of, samples_in}
+use Rattle.iso_base.specs.SampleBytes.{number_in, as_kind, sample_of, samples_in}
 use Rattle.text_lines.proofs.Places.{decide}
 
 abbrev pub IsBytes : List ℕ → Type 0

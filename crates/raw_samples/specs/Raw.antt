@@ -4,7 +4,7 @@ use Rattle.iso_defs.specs.Grid.{Grid, point_count}
 use Rattle.iso_base.specs.Samples.{width_of}
 use Rattle.iso_base.specs.Volume.{IsVoxels, Voxels}
 use Rattle.iso_base.specs.declared.kind.SampleKind.{SampleKind}
-use Rattle.text_samples.specs.Samples.{samples_in}
+use Rattle.iso_base.specs.SampleBytes.{samples_in}
 
 -- the volume whose samples the bytes begin with
 abbrev pub voxels_in : Grid → SampleKind → Bool → List ℕ → Voxels

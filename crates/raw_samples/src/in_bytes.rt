@@ -2,7 +2,7 @@
 ghost use Rattle.std.specs.Prelude.{◌≡◌, ℤ, ◌+◌, ◌*◌, ◌<◌, ◌≤◌, ◌^◌, All, cond, int_le, length, map};
 ghost use Rattle.std.specs.List.{range_with_len};
 ghost use Rattle.iso_base.specs.Samples.{width_of};
-ghost use Rattle.text_samples.specs.Samples.{sample_of, samples_in};
+ghost use Rattle.iso_base.specs.SampleBytes.{sample_of, samples_in};
 ghost use Rattle.samples.specs.Signs.{IsBound, sign_of};
 
 use crate::lies::Lies;
@@ -21,7 +21,7 @@ pub struct InBytes<'a, K: Lies> {
 impl<'a, K: Lies> Model for InBytes<'a, K> {
     ghost use Rattle.std.specs.Prelude.{List, ℤ};
     ghost use Rattle.iso_base.specs.Samples.{width_of};
-    ghost use Rattle.text_samples.specs.Samples.{samples_in};
+    ghost use Rattle.iso_base.specs.SampleBytes.{samples_in};
     ghost use Rattle.raw_samples.specs.Raw.{BeginWith};
 
     ghost Value = { List ℤ };

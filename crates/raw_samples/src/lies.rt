@@ -3,7 +3,7 @@ ghost use Rattle.std.specs.Prelude.{◌≡◌, ◌+◌, ◌*◌, ◌≤◌, Bool
 ghost use Rattle.iso_base.specs.Samples.{width_of};
 ghost use Rattle.iso_base.specs.declared.kind.SampleKind.{SampleKind};
 ghost use Rattle.iso_base.specs.declared.kind.SampleKind.TheVariants as kinds;
-ghost use Rattle.text_samples.specs.Samples.{sample_of};
+ghost use Rattle.iso_base.specs.SampleBytes.{sample_of};
 
 use byteorder::{BigEndian, ByteOrder, LittleEndian};
 use samples::Packed;

@@ -8,7 +8,7 @@ use Rattle.std.proofs.Math.Nat.{mul-suc}
 use Rattle.byteorder.specs.Numbers.{length-bytes_low_first, little_number-reads_back}
 use Rattle.iso_base.specs.Samples.{IsOfKind, width_of}
 use Rattle.iso_base.specs.declared.kind.SampleKind.{SampleKind}
-use Rattle.text_samples.specs.Samples.{as_kind, bits_of, number_in, sample_bytes, sample_of, samples_in, samples_text}
+use Rattle.iso_base.specs.SampleBytes.{as_kind, bits_of, number_in, sample_bytes, sample_of, samples_in, samples_text}
 use Rattle.text_samples.proofs.KindBits.{bits_fit, kind_bits}
 
 pub length_sample : (kind : SampleKind) (v : ℤ) → length (sample_bytes kind v) ≡ width_of kind

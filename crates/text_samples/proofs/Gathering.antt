@@ -6,7 +6,7 @@ use Rattle.iso_base.specs.Samples.{IsOfKind, width_of}
 use Rattle.iso_base.specs.declared.kind.SampleKind.{SampleKind}
 use Rattle.text_samples.specs.declared.fault.SampleFault.{SampleFault}
 use Rattle.text_samples.specs.Gathered.{IsReadInto}
-use Rattle.text_samples.specs.Samples.{sample_bytes, samples_in, samples_text}
+use Rattle.iso_base.specs.SampleBytes.{sample_bytes, samples_in, samples_text}
 use Rattle.text_samples.proofs.BytesAgain.{length_samples, samples_alone}
 
 -- one more sample is one more run of bytes

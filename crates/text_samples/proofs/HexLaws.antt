@@ -19,7 +19,7 @@ use Rattle.text_samples.specs.Answers.{Fails}
 use Rattle.text_samples.specs.Words.{is_separator}
 use Rattle.text_samples.specs.Hex.{Mark, marks_in, hex_value, digits_said, paired, after_marks, digits_needed, hex_samples}
 use Rattle.text_samples.specs.HexScan.{digit_of, digit_read, byte_read, bytes_read, number_read, sample_read}
-use Rattle.text_samples.specs.Samples.{as_kind, number_in, sample_of, samples_in}
+use Rattle.iso_base.specs.SampleBytes.{as_kind, number_in, sample_of, samples_in}
 
 -- steps that follow one another
 then_then : {A B C : Type 0} (r : Result A SampleFault) (f : A → Result B SampleFault) (g : B → Result C SampleFault)

@@ -5,7 +5,7 @@ use Rattle.std.proofs.lemmas.Int.{ints}
 use Rattle.iso_base.specs.Samples.{IsOfKind, width_of}
 use Rattle.iso_base.specs.declared.kind.SampleKind.{SampleKind}
 use Rattle.iso_base.specs.declared.kind.SampleKind.TheVariants.{I8, U8, I16, U16, I32, U32}
-use Rattle.text_samples.specs.Samples.{as_kind, bits_of}
+use Rattle.iso_base.specs.SampleBytes.{as_kind, bits_of}
 
 -- they fit in its bytes
 pub bits_fit : (kind : SampleKind) (v : ℤ) → IsOfKind kind v → bits_of kind v < 256 ^ width_of kind

@@ -8,7 +8,7 @@ use Rattle.iso_base.specs.declared.kind.SampleKind.{SampleKind}
 use Rattle.text_samples.specs.declared.fault.SampleFault.{SampleFault}
 use Rattle.text_samples.specs.declared.fault.SampleFault.TheVariants.{Bad, Short}
 use Rattle.text_lines.specs.Refusals.{◌>>=◌, all_or_first}
-use Rattle.text_samples.specs.Samples.{samples_in}
+use Rattle.iso_base.specs.SampleBytes.{samples_in}
 use Rattle.text_samples.specs.Words.{is_separator}
 
 -- a byte that is no separator, and the bytes after it

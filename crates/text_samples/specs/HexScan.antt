@@ -7,7 +7,7 @@ use Rattle.text_samples.specs.declared.fault.SampleFault.TheVariants.{Bad, Short
 use Rattle.text_samples.specs.declared.hex.Wanted.{Wanted}
 use Rattle.text_lines.specs.Refusals.{◌>>=◌}
 use Rattle.text_samples.specs.Hex.{Mark, marks_in, hex_value}
-use Rattle.text_samples.specs.Samples.{as_kind, number_in}
+use Rattle.iso_base.specs.SampleBytes.{as_kind, number_in}
 
 -- the digit of the first mark, behind so many digits, and the bytes after it
 abbrev pub digit_of : Wanted → ℕ → List Mark → Result (ℕ × List ℕ) SampleFault

@@ -1,7 +1,7 @@
 //! The bits of samples.
 ghost use Rattle.std.specs.Prelude.{◌≡◌};
 ghost use Rattle.iso_base.specs.Samples.{IsOfKind};
-ghost use Rattle.text_samples.specs.Samples.{bits_of};
+ghost use Rattle.iso_base.specs.SampleBytes.{bits_of};
 
 use iso_base::SampleKind;
 

@@ -2,7 +2,7 @@
 ghost use Rattle.std.specs.Prelude.{◌≡◌, ◌≤◌, ◌++◌, ◌∷◌, [], ℤ, IfOk, List};
 ghost use Rattle.iso_base.specs.Samples.{IsOfKind};
 ghost use Rattle.iso_base.specs.declared.kind.SampleKind.{SampleKind};
-ghost use Rattle.text_samples.specs.Samples.{samples_text};
+ghost use Rattle.iso_base.specs.SampleBytes.{samples_text};
 
 use crate::bits::bits_of;
 use iso_base::SampleKind;

@@ -4,7 +4,7 @@ ghost use Rattle.std.specs.Prelude.{length, Ok, IfOk, IfErr, IfSome, MatchOption
 ghost use Rattle.iso_base.specs.Samples.{IsOfKind, width_of};
 ghost use Rattle.text_samples.specs.Answers.{Fails};
 ghost use Rattle.text_samples.specs.Gathered.{IsReadInto};
-ghost use Rattle.text_samples.specs.Samples.{as_kind, number_in, samples_in};
+ghost use Rattle.iso_base.specs.SampleBytes.{as_kind, number_in, samples_in};
 ghost use Rattle.text_samples.specs.HexScan.{byte_read, digit_read, map_ok, number_read, sample_read};
 ghost use Rattle.text_samples.specs.Hex.{hex_samples, hex_value, marks_in};
 ghost use Rattle.text_samples.specs.declared.hex.Wanted.{Wanted};

@@ -3,7 +3,7 @@ ghost use Rattle.std.specs.Prelude.{◌≡◌, ◌≤◌, ◌+◌, ◌*◌, fals
 ghost use Rattle.iso_base.specs.Samples.{IsOfKind, width_of};
 ghost use Rattle.text_samples.specs.Answers.{Fails};
 ghost use Rattle.text_samples.specs.Gathered.{IsReadInto};
-ghost use Rattle.text_samples.specs.Samples.{samples_in};
+ghost use Rattle.iso_base.specs.SampleBytes.{samples_in};
 ghost use Rattle.text_samples.specs.Text.{sample_said, text_samples};
 
 use crate::fault::SampleFault;

@@ -8,7 +8,7 @@ use Rattle.iso_base.specs.declared.kind.SampleKind.TheVariants.{U8}
 use Rattle.byte_streams.specs.Seen.{Stages, Tape}
 use Rattle.byte_streams.proofs.Staging.{nothing_staged, stages_both, stages_first}
 use Rattle.nrrd.specs.Writing.{samples_text}
-use Rattle.text_samples.specs.Samples.{sample_bytes}
+use Rattle.iso_base.specs.SampleBytes.{sample_bytes}
 
 pub samples_both : (a b : List ℤ) → samples_text U8 (a ++ b) ≡ samples_text U8 a ++ samples_text U8 b
 samples_both a b = flat_map-append (sample_bytes U8) a b

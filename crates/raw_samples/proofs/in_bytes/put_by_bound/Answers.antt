@@ -1,7 +1,7 @@
 use Rattle.std.proofs.Common.{◌≡◌, ◌+◌, ◌∙◌, ap, arith, cond, get_or, int_le, length, set, ℕ, ℤ}
 use Rattle.std.proofs.lemmas.List.Edits.{fill_by_more}
 use Rattle.std.proofs.lemmas.List.FromFn.{fill_by_all}
-use Rattle.text_samples.specs.Samples.{sample_of}
+use Rattle.iso_base.specs.SampleBytes.{sample_of}
 use Rattle.raw_samples.proofs.in_bytes.put_by_bound.Goals as goal
 
 pub loop-k-preserved : goal.loop-k-preserved

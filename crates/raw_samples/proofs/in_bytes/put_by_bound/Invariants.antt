@@ -1,6 +1,6 @@
 use Rattle.std.proofs.Common.{◌≡◌, ℕ, ℤ, ◌+◌, ◌<◌, cond, get_or, int_le}
 use Rattle.samples.specs.Signs.{IsBound}
-use Rattle.text_samples.specs.Samples.{sample_of}
+use Rattle.iso_base.specs.SampleBytes.{sample_of}
 use Rattle.raw_samples.proofs.in_bytes.put_by_bound.Given as goal
 
 abbrev pub invariant-loop-k : goal.invariant-loop-k

@@ -2,7 +2,7 @@ use Rattle.std.proofs.Common.{◌≡◌, ◌+◌, ◌∙◌, ap, int_le, length,
 use Rattle.std.specs.List.{range_with_len}
 use Rattle.std.proofs.lemmas.Int.{to_z-of_z}
 use Rattle.samples.proofs.LeastAbove.{by_least}
-use Rattle.text_samples.specs.Samples.{sample_of}
+use Rattle.iso_base.specs.SampleBytes.{sample_of}
 use Rattle.raw_samples.proofs.in_bytes.put_run_signs.Goals as goal
 
 pub returns-in-Some : goal.returns-in-Some

@@ -1,7 +1,7 @@
 use Rattle.std.proofs.Common.{ℕ, ◌+◌, ◌<◌, ◌∙◌, sym, subst, arith, length, map, pos, ℤ}
 use Rattle.std.proofs.lemmas.List.{length-map}
 use Rattle.std.proofs.lemmas.List.FromFn.{fill_by_all, length-map-range_with_len}
-use Rattle.text_samples.specs.Samples.{sample_of}
+use Rattle.iso_base.specs.SampleBytes.{sample_of}
 use Rattle.raw_samples.proofs.ReadRuns.{one_more, one_of}
 use Rattle.raw_samples.proofs.in_bytes.read_each.Goals as goal
 

@@ -1,6 +1,6 @@
 use Rattle.std.proofs.Common.{◌≡◌, ℕ, ◌+◌, ◌<◌, length}
 use Rattle.iso_base.specs.Volume.{sample}
-use Rattle.text_samples.specs.Samples.{sample_of}
+use Rattle.iso_base.specs.SampleBytes.{sample_of}
 use Rattle.raw_samples.proofs.in_bytes.read_known.Given as goal
 
 -- so many numbers, of which the first are the samples

@@ -1,6 +1,6 @@
 use Rattle.std.proofs.Common.{refl, arith}
 use Rattle.iso_defs.specs.Grid.{point_count}
-use Rattle.text_samples.specs.Samples.{samples_in}
+use Rattle.iso_base.specs.SampleBytes.{samples_in}
 use Rattle.raw_samples.proofs.SampleLaws.{each_in_kind, length_samples}
 use Rattle.raw_samples.proofs.raw.RawVolume.new.Goals as goal
 

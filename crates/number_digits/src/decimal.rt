@@ -9,7 +9,7 @@ use arrayvec::ArrayString;
 use itoa::Buffer;
 
 /// A number of thousandths of a voxel.
-#[derive(Clone, Copy, Debug, PartialEq, Eq)]
+#[derive(Clone, Copy, PartialEq, Eq)]
 pub struct Thousandth(pub i64);
 
 fn put_digit(digit: u64, into: &mut ArrayString<24>)
@@ -55,7 +55,7 @@ fn put_thousandths(n: u64, into: &mut ArrayString<24>)
 
 /// Appends the number with three decimals: a sign where it is negative, the whole part, a point and three digits.
 /// These are 16 bytes at most.
-#[tactic(auto, using(crate::proofs::Digits::short_whole_part))]
+#[tactic(auto, using(crate::proofs::WholePart::short_whole_part))]
 pub fn put_decimal(value: Thousandth, into: &mut ArrayString<24>)
     requires bound { unsigned_abs value.0 < 2 ^ 44 }
     requires room { array_string_len into.old + 16 ≤ 24 }
@@ -70,7 +70,7 @@ pub fn put_decimal(value: Thousandth, into: &mut ArrayString<24>)
     }
 }
 
-#[tactic(auto, using(crate::proofs::Digits::whole_part))]
+#[tactic(auto, using(crate::proofs::WholePart::whole_part))]
 fn put_level_size(n: u64, into: &mut ArrayString<24>)
     requires room { array_string_len into.old + 21 ≤ 24 }
     ensures text { into.new.bytes ≡ into.old.bytes ++ level_size_text n }
