@@ -1,9 +1,8 @@
 -- The decision by products of 64 bits, where the values are short.
-use Rattle.std.proofs.Common.{◌≡◌, ◌∙◌, ℕ, ◌+◌, ◌<◌, ◌^◌, take, inl, inr, bit_or, Bool, true, false, ◌&&◌, ◌||◌, cond, ℤ, pos, negsuc, ◌*ℤ◌, List, length, refl, sym, ap, ap₂, subst, w64, to_z, of_z, arith, unsigned_abs, get_or, lit<, FitsSigned}
+use Rattle.std.proofs.Common.{not, ◌≡◌, ◌∙◌, ℕ, ◌+◌, ◌<◌, ◌^◌, take, inl, inr, bit_or, Bool, true, false, ◌&&◌, ◌||◌, cond, ℤ, pos, negsuc, ◌*ℤ◌, List, length, refl, sym, ap, ap₂, subst, w64, to_z, of_z, arith, unsigned_abs, get_or, lit<, FitsSigned}
 use Rattle.std.specs.Prelude.{int_le, int_lt, nat_lt}
 use Rattle.std.specs.List.{All, list_all}
-use Rattle.std.proofs.Math.Dec.{leb-zero}
-use Rattle.std.proofs.lemmas.Bool.{cases_lt, le-ltb, lt-ltb, ltb-true}
+use Rattle.std.proofs.lemmas.Bool.{cases_lt, le-leb, le-ltb, leb-false, lt-ltb, ltb-true}
 use Rattle.std.proofs.lemmas.Nat.{le_or_l, le_or_r, or_lt}
 use Rattle.std.proofs.lemmas.List.Folds.{list_all_more}
 use Rattle.std.proofs.lemmas.List.Sums.{AllPass-from_list_all}
@@ -52,15 +51,26 @@ product_fits x y h g = fits_signed_mul w64 x y (2 ^ 31) (2 ^ 31) (omega arith) (
 
 -- the code's choice by the first value
 abbrev choice : ℤ → Bool → Bool → Bool
-choice a more less = (int_le (pos 0) a && more) || (int_lt a (pos 0) && less)
+choice a more less = cond (int_lt a (pos 0)) (not more) more || (more && less)
 
-or_false : (b : Bool) → (b || false) ≡ b
-or_false true = refl
-or_false false = refl
+above : (more less : Bool) → (more || (more && less)) ≡ more
+above true less = refl
+above false less = refl
 
-choice_is : (a : ℤ) (more less : Bool) → choice a more less ≡ cond (is_above a) more less
-choice_is (pos n) more less = ap₂ (λ p q. (p && more) || (q && less)) (leb-zero n) (le-ltb n 0 (omega arith)) ∙ or_false more
-choice_is (negsuc n) more less = refl
+below_level : (more less : Bool) → (more ≡ false → less ≡ true) → (not more || (more && less)) ≡ less
+below_level true less h = refl
+below_level false less h = sym (h refl)
+
+-- one of two numbers is at most the other
+pub one_way : (a b : ℤ) → int_le a b ≡ false → int_le b a ≡ true
+one_way (pos m) (pos n) h = let less : n < m = leb-false m n h in le-leb n m (omega arith)
+one_way (pos m) (negsuc n) h = refl
+one_way (negsuc m) (pos n) h = cc
+one_way (negsuc m) (negsuc n) h = let less : m < n = leb-false n m h in le-leb m n (omega arith)
+
+choice_is : (a : ℤ) (more less : Bool) → (more ≡ false → less ≡ true) → choice a more less ≡ cond (is_above a) more less
+choice_is (pos n) more less h = ap (λ b. cond b (not more) more || (more && less)) (le-ltb n 0 (omega arith)) ∙ above more less
+choice_is (negsuc n) more less h = below_level more less h
 
 -- a value of a face as the code reads it
 abbrev read : List ℤ → ℕ → ℤ
@@ -97,3 +107,4 @@ module _ (xs : List ℤ) (four : length xs ≡ 4) (short : All (λ v. unsigned_a
       ap (λ a. choice a (int_le (product xs 1 3) (product xs 0 2)) (int_le (product xs 0 2) (product xs 1 3))) (read_is 0 (lit< tt))
       ∙ ap₂ (λ even odd. choice (get_or xs 0 (pos 0)) (int_le odd even) (int_le even odd)) (exact 0 2 (lit< tt) (lit< tt)) (exact 1 3 (lit< tt) (lit< tt))
       ∙ choice_is (get_or xs 0 (pos 0)) _ _
+      (one_way (get_or xs 1 (pos 0) *ℤ get_or xs 3 (pos 0)) (get_or xs 0 (pos 0) *ℤ get_or xs 2 (pos 0)))

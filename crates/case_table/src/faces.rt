@@ -1,6 +1,6 @@
 //! The ambiguous faces of a cell, and which of them are joined.
 
-ghost use Rattle.std.specs.Prelude.{◌≡◌, nat_lt, ℕ, ◌+◌, ◌*◌, ◌/◌, ◌%◌, ◌^◌, ◌<◌, ◌≤◌, ◌==◌, ◌&&◌, IsTrue, if◌then◌else◌, slice_index, unsigned_abs};
+ghost use Rattle.std.specs.Prelude.{◌≡◌, nat_lt, ℕ, ◌+◌, ◌*◌, ◌/◌, ◌%◌, ◌^◌, ◌<◌, ◌≤◌, ◌==◌, ◌&&◌, IsTrue, if◌then◌else◌, not, slice_index, unsigned_abs};
 ghost use Rattle.std.specs.List.{All, list_all};
 ghost use Rattle.iso_defs.specs.Face.{is_ambiguous};
 ghost use Rattle.iso_defs.specs.Cell.{joined_of, signs_of};
@@ -69,28 +69,34 @@ fn are_short(values: &[i64; 8]) -> bool
     size < 1 << 31
 }
 
-/// The same digit where the values are short, by products of 64 bits. No processor can foretell which faces of a dense
-/// volume are ambiguous or joined, so this has no branch: `&` and `|` read both of their sides.
+/// An answer, or the other one where it is turned round.
 #[inline(always)]
-fn short_digit(ambiguous: bool, cycle: [i64; 4]) -> u8
-    requires known { ambiguous ≡ is_ambiguous (signs_of cycle) }
-    requires short { All (λ v. unsigned_abs v < 2 ^ 31) cycle }
-    ensures value { result ≡ (if is_ambiguous (signs_of cycle) && cycle_joined cycle then 1 else 0) }
+fn turned(answer: bool, is_turned: bool) -> bool
+    ensures { result ≡ (if is_turned then not answer else answer) }
+{
+    answer != is_turned
+}
+
+/// 1 where a face with these shifted values in cycle order is joined if it is ambiguous, else 0. The values are short, so their
+/// products fit 64 bits. No processor can foretell which faces of a dense volume are ambiguous or joined, so this has no branch: `&`
+/// and `|` read both of their sides.
+#[inline(always)]
+fn short_digit(cycle: [i64; 4]) -> u8
+    requires { All (λ v. unsigned_abs v < 2 ^ 31) cycle }
+    ensures value { result ≡ (if cycle_joined cycle then 1 else 0) }
     ensures bound { result ≤ 1 }
 {
     let even = cycle[0] * cycle[2];
     let odd = cycle[1] * cycle[3];
-    let is_joined = ((cycle[0] >= 0) & (odd <= even)) | ((cycle[0] < 0) & (even <= odd));
-    u8::from(ambiguous & is_joined)
+    // The first value turns the comparison round; equal products join the face either way.
+    let (is_less, is_more) = (odd <= even, even <= odd);
+    u8::from(turned(is_less, cycle[0] < 0) | (is_less & is_more))
 }
 
-/// One digit of the joined set: that of a face, by its corner cycle.
-macro_rules! digit {
-    ($digit:ident, $faces:ident, $values:ident, $face:literal, $a:literal, $b:literal, $c:literal, $d:literal) => {
-        $digit(
-            has_face($faces, $face),
-            [$values[$a], $values[$b], $values[$c], $values[$d]],
-        )
+/// The values of a face, by its corner cycle.
+macro_rules! cycle {
+    ($values:ident, $a:literal, $b:literal, $c:literal, $d:literal) => {
+        [$values[$a], $values[$b], $values[$c], $values[$d]]
     };
 }
 
@@ -100,29 +106,29 @@ fn joined_long(values: &[i64; 8], faces: u8) -> u8
     requires small { All (λ v. unsigned_abs v < 2 ^ 44) values.now }
     ensures { result ≡ number_of_bits (joined_of values.now) }
 {
-    let d0 = digit!(joined_digit, faces, values, 0, 0, 4, 6, 2);
-    let d1 = digit!(joined_digit, faces, values, 1, 1, 3, 7, 5);
-    let d2 = digit!(joined_digit, faces, values, 2, 0, 1, 5, 4);
-    let d3 = digit!(joined_digit, faces, values, 3, 2, 6, 7, 3);
-    let d4 = digit!(joined_digit, faces, values, 4, 0, 2, 3, 1);
-    let d5 = digit!(joined_digit, faces, values, 5, 4, 5, 7, 6);
+    let d0 = joined_digit(has_face(faces, 0), cycle!(values, 0, 4, 6, 2));
+    let d1 = joined_digit(has_face(faces, 1), cycle!(values, 1, 3, 7, 5));
+    let d2 = joined_digit(has_face(faces, 2), cycle!(values, 0, 1, 5, 4));
+    let d3 = joined_digit(has_face(faces, 3), cycle!(values, 2, 6, 7, 3));
+    let d4 = joined_digit(has_face(faces, 4), cycle!(values, 0, 2, 3, 1));
+    let d5 = joined_digit(has_face(faces, 5), cycle!(values, 4, 5, 7, 6));
     d0 + 2 * (d1 + 2 * (d2 + 2 * (d3 + 2 * (d4 + 2 * d5))))
 }
 
-/// The same where the values are short: each face is decided, without a branch.
+/// The same where the values are short: each face is decided, without a branch, and those that are not ambiguous are left out.
 #[inline(always)]
 fn joined_short(values: &[i64; 8], faces: u8) -> u8
     requires known { bits_of 6 faces ≡ ambiguous_flags (signs_of values.now) }
     requires short { All (λ v. unsigned_abs v < 2 ^ 31) values.now }
     ensures { result ≡ number_of_bits (joined_of values.now) }
 {
-    let d0 = digit!(short_digit, faces, values, 0, 0, 4, 6, 2);
-    let d1 = digit!(short_digit, faces, values, 1, 1, 3, 7, 5);
-    let d2 = digit!(short_digit, faces, values, 2, 0, 1, 5, 4);
-    let d3 = digit!(short_digit, faces, values, 3, 2, 6, 7, 3);
-    let d4 = digit!(short_digit, faces, values, 4, 0, 2, 3, 1);
-    let d5 = digit!(short_digit, faces, values, 5, 4, 5, 7, 6);
-    d0 + 2 * (d1 + 2 * (d2 + 2 * (d3 + 2 * (d4 + 2 * d5))))
+    let d0 = short_digit(cycle!(values, 0, 4, 6, 2));
+    let d1 = short_digit(cycle!(values, 1, 3, 7, 5));
+    let d2 = short_digit(cycle!(values, 0, 1, 5, 4));
+    let d3 = short_digit(cycle!(values, 2, 6, 7, 3));
+    let d4 = short_digit(cycle!(values, 0, 2, 3, 1));
+    let d5 = short_digit(cycle!(values, 4, 5, 7, 6));
+    faces & (d0 + 2 * (d1 + 2 * (d2 + 2 * (d3 + 2 * (d4 + 2 * d5)))))
 }
 
 /// The joined faces, where the ambiguous ones are known.
