@@ -88,7 +88,7 @@ impl Bench {
             ⊎ ((fault ≡ BeginFault.Memory) × (begin_fault volume.pad level ≡ None))) }
     {
         // A level is refused before memory is asked for.
-        if let Some(fault) = refused(volume.pad(), level) {
+        if let Some(fault) = refusal_of(volume.pad(), level) {
             return Err(fault);
         }
         let store = BrickStore::of(alloc, volume)?;
@@ -108,7 +108,7 @@ impl Bench {
         ensures fault { IfErr result (λ fault. (begin_fault store.pad level ≡ Some fault)
             ⊎ ((fault ≡ BeginFault.Memory) × (begin_fault store.pad level ≡ None))) }
     {
-        if let Some(fault) = refused(store.pad(), level) {
+        if let Some(fault) = refusal_of(store.pad(), level) {
             return Err(fault);
         }
         let tree = SpanTree::of(alloc, &store)?;
@@ -221,7 +221,7 @@ impl Bench {
         // Reading the sizes brings in what is true of every volume.
         let _ = self.store.sizes();
         let old = self.level;
-        let new = checked(self.store.pad(), value)?;
+        let new = check_level(self.store.pad(), value)?;
         self.make(Change::LevelWas { old, new });
         Ok(())
     }
@@ -531,7 +531,7 @@ fn value_fault(kind: SampleKind) -> BenchFault
 }
 
 /// Why a bench is not opened on a volume with this pad at a level.
-fn refused(pad: Option<i64>, level: Level) -> Option<BeginFault>
+fn refusal_of(pad: Option<i64>, level: Level) -> Option<BeginFault>
     requires { IfSome pad IsSample }
     ensures fault { result ≡ begin_fault pad level }
     ensures above { IfNone result (IsAbovePad pad level) }
@@ -562,7 +562,7 @@ fn not_above(pad: Option<i64>, level: Level) -> Option<BenchFault>
 }
 
 /// A level of so many thousandths, within the limit and above the pad.
-fn checked(pad: Option<i64>, value: i128) -> Result<Level, BenchFault>
+fn check_level(pad: Option<i64>, value: i128) -> Result<Level, BenchFault>
     requires { IfSome pad IsSample }
     ensures level { result ≡ checked_level pad value }
     ensures above { IfOk result (IsAbovePad pad) }

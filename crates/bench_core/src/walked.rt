@@ -17,7 +17,7 @@ use measure::Measures;
 use mesh_cache::MeshCache;
 use mesh_measures::parts_without_border;
 use mesh_report::Report;
-use part_walk::{measured, numbered};
+use part_walk::{part_measures, part_numbers};
 use span_tree::SpanTree;
 use std::alloc::Global;
 use std::marker::Brand;
@@ -43,7 +43,7 @@ fn counted_numbers<L: Ledger>(
     let (book, share) = blank.open::<L>();
     let mut rows = KeptRows::new(store, cache, level);
     let mut steps = Steps::new(book, share);
-    numbered(alloc, store, tree, level, &mut rows, &mut steps)
+    part_numbers(alloc, store, tree, level, &mut rows, &mut steps)
 }
 
 /// The numbers of the mesh of a volume at a level, and of each of its components.
@@ -81,7 +81,7 @@ fn counted_measures<L: Ledger>(
     let (book, share) = blank.open::<L>();
     let mut rows = KeptRows::new(store, cache, level);
     let mut steps = Steps::new(book, share);
-    measured(alloc, store, tree, level, &mut rows, &mut steps)
+    part_measures(alloc, store, tree, level, &mut rows, &mut steps)
 }
 
 /// The measures of the mesh of a volume at a level.

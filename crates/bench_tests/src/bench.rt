@@ -7,14 +7,13 @@ use crate::asked::{
 };
 use bench_core::{Bench, BenchFault, Capacity, Contours, Part, Report};
 use flat_mesh::{Mesh, extract_flat};
-use iso_base::{Level, Sizes, Written};
+use iso_base::{Level, Sizes, Thousandth, Written};
 use iso_io::MemShelf;
 use mesh_text::TwoWayFormat;
 use nrrd_read::read_volume;
-use number_digits::Thousandth;
 use std::alloc::{AllocError, Global};
 use std::process::Abort;
-use volume_gen::generated;
+use volume_gen::generate;
 use voxel_list::VoxelList;
 
 const NO_FACES: &str =
@@ -197,7 +196,7 @@ fn next(state: u64) -> u64 {
 /// The volume of the seed 0.
 fn drawn(alloc: Global, nx: u64, ny: u64, nz: u64) -> Option<VoxelList> {
     let sizes = Sizes::new(nx, ny, nz).ok()?;
-    Some(VoxelList::of(generated(alloc, 0, &sizes).ok()?))
+    Some(VoxelList::of(generate(alloc, 0, &sizes).ok()?))
 }
 
 /// Replaces the samples of four points along each axis by 0 or 1, as if by chance.

@@ -11,7 +11,7 @@ use std::alloc::Global;
 use std::marker::Brand;
 use std::process::Abort;
 use std::sync::ledger::{Blank, Ledger};
-use volume_gen::generated;
+use volume_gen::generate;
 use voxel_list::VoxelList;
 
 /// One cell, whose lowest face is ambiguous at level 5: its products are 4 and 5 less its third sample.
@@ -195,7 +195,7 @@ fn scattered(alloc: Global) -> Result<BrickStore, Memory> {
     let Ok(sizes) = Sizes::new(18, 10, 11) else {
         return Err(Memory);
     };
-    let list = VoxelList::of(generated(alloc, 0, &sizes)?);
+    let list = VoxelList::of(generate(alloc, 0, &sizes)?);
     let mut store = BrickStore::of(alloc, list)?;
     scatter(&mut store);
     Ok(store)

@@ -3,14 +3,14 @@ use arrayvec::ArrayString;
 use iso_base::{Memory, Sizes, VoxelData};
 use std::alloc::Global;
 use std::process::Abort;
-use volume_gen::{SoakLines, generated};
+use volume_gen::{SoakLines, generate};
 
 /// The samples of these sizes and this seed.
 fn volume(alloc: Global, sizes: [u64; 3], seed: u64) -> Result<VoxelData, Memory> {
     let Ok(sizes) = Sizes::new(sizes[0], sizes[1], sizes[2]) else {
         return Err(Memory);
     };
-    generated(alloc, seed, &sizes)
+    generate(alloc, seed, &sizes)
 }
 
 #[test]

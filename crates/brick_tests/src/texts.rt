@@ -1,9 +1,8 @@
 //! Meshes in memory as texts, line by line: what the texts of walks are compared with.
 
 use flat_mesh::Mesh;
-use iso_base::Written;
+use iso_base::{Thousandth, Written};
 use mesh_text::TwoWayFormat;
-use number_digits::Thousandth;
 use std::alloc::{AllocError, Global};
 
 /// A mesh as a text.

@@ -27,7 +27,7 @@ use std::marker::Brand;
 use std::sync::ledger::{Blank, Ledger};
 use stitch::{write_obj, write_ply};
 use stitch_rows::{CellRows, Counts};
-use volume_gen::generated;
+use volume_gen::generate;
 use voxel_list::VoxelList;
 
 /// More bytes than a text of these tests has.
@@ -291,7 +291,7 @@ fn set_byte(volume: &mut VoxelList, p: Point, value: u8) {
 /// A volume of these sizes, where they are sizes.
 pub fn patterned(alloc: Global, pattern: Pattern, [nx, ny, nz]: [u32; 3]) -> Option<VoxelList> {
     let sizes = Sizes::new(u64::from(nx), u64::from(ny), u64::from(nz)).ok()?;
-    let mut volume = VoxelList::of(generated(alloc, 0, &sizes).ok()?);
+    let mut volume = VoxelList::of(generate(alloc, 0, &sizes).ok()?);
     for z in 0..nz {
         for y in 0..ny {
             for x in 0..nx {

@@ -52,7 +52,7 @@ impl MemSink {
           faults = 0;
         }) }
     {
-        MemSink::reserved(alloc, room, None, failing)
+        MemSink::with_room(alloc, room, None, failing)
     }
 
     /// As `new`, but a write takes only the first `piece` bytes of a longer piece, and fails for want of room exactly
@@ -73,10 +73,10 @@ impl MemSink {
           faults = 0;
         }) }
     {
-        MemSink::reserved(alloc, room, Some(piece), failing)
+        MemSink::with_room(alloc, room, Some(piece), failing)
     }
 
-    fn reserved(
+    fn with_room(
         alloc: Global,
         room: u32,
         piece: Option<u32>,

@@ -51,7 +51,7 @@ impl From<AllocError> for ReadFault {
 const CHUNK: usize = 65_536;
 
 // Apart, so that callers see the length alone.
-fn zeroed(alloc: Global, len: usize) -> Result<Vec<u8>, AllocError>
+fn zeros(alloc: Global, len: usize) -> Result<Vec<u8>, AllocError>
     ensures { IfOk result (λ v. vec_len v ≡ len) }
 {
     vec![in alloc; 0u8; len]
@@ -123,6 +123,6 @@ pub fn read_all_of<S: Source>(
     ensures failed { IsErrOf result ReadFault.Failed → Rose (S.seen source.old).faults (S.seen source.new).faults }
     ensures later { (S.seen source.old).faults ≤ (S.seen source.new).faults }
 {
-    let mut chunk = zeroed(alloc, CHUNK)?;
+    let mut chunk = zeros(alloc, CHUNK)?;
     read_by(alloc, source, limit, &mut chunk)
 }

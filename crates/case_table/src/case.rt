@@ -10,7 +10,7 @@ ghost use Rattle.case_table.specs.Cases.{are_ambiguous, case_at, case_joined, ca
 ghost use Rattle.case_table.specs.Packing.{packed_set};
 
 use crate::faces::{ambiguous_set, joined_among};
-use crate::rows::{field, packed, sign_field};
+use crate::rows::{field, packed_row, sign_field};
 use corner_signs::sign_byte;
 use iso_base::Steps;
 use std::marker::Model;
@@ -80,7 +80,7 @@ impl CaseRow {
         ensures number { result ≡ number_of_bits (case_signs self) }
         ensures bits { bits_of 8 result ≡ case_signs self }
     {
-        sign_field(packed(self.0))
+        sign_field(packed_row(self.0))
     }
 }
 
@@ -160,7 +160,7 @@ pub fn successors(row: CaseRow) -> [u8; 12]
     ensures next { (a b : ℕ) → a < 12 → b < 12 → (slice_index result a == b) ≡ has_pair (case_pairs row) a b }
     ensures none { (a : ℕ) → a < 12 → IsTrue (nat_lt (slice_index result a) 12 || (slice_index result a == 15)) }
 {
-    let fields = packed(row.0);
+    let fields = packed_row(row.0);
     let mut ends = [15; 12];
     for edge in 0..12 {
         ends[edge] = field(fields, edge);

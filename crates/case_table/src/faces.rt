@@ -71,7 +71,7 @@ fn are_short(values: &[i64; 8]) -> bool
 
 /// An answer, or the other one where it is turned round.
 #[inline(always)]
-fn turned(answer: bool, is_turned: bool) -> bool
+fn turn_round(answer: bool, is_turned: bool) -> bool
     ensures { result ≡ (if is_turned then not answer else answer) }
 {
     answer != is_turned
@@ -90,7 +90,7 @@ fn short_digit(cycle: [i64; 4]) -> u8
     let odd = cycle[1] * cycle[3];
     // The first value turns the comparison round; equal products join the face either way.
     let (is_less, is_more) = (odd <= even, even <= odd);
-    u8::from(turned(is_less, cycle[0] < 0) | (is_less & is_more))
+    u8::from(turn_round(is_less, cycle[0] < 0) | (is_less & is_more))
 }
 
 /// The values of a face, by its corner cycle.

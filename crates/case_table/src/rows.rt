@@ -664,7 +664,7 @@ const ROWS: [u64; 656] = [
 ];
 
 /// The row of a case.
-pub(crate) fn packed(number: u16) -> u64
+pub(crate) fn packed_row(number: u16) -> u64
     requires { number < 656 }
     ensures value { result ≡ slice_index ROWS number }
     ensures bound { result < 2 ^ 56 }

@@ -21,7 +21,7 @@ use script::{Command, Reply, read_line};
 use session::{Response, put_response, run_command};
 use std::alloc::Global;
 use std::sync::ledger::Ledger;
-use volume_gen::{SoakLines, generated};
+use volume_gen::{SoakLines, generate};
 use voxel_list::VoxelList;
 
 /// How a line ended.
@@ -146,7 +146,7 @@ fn open(alloc: Global, seed: u64) -> Result<Bench, Memory>
     ensures opened { IfOk result (λ b. b ≡ first_bench (soak_volume seed) soak_level soak_limits) }
     ensures sound { IfOk result (λ b. IsState b.state) }
 {
-    let volume = generated(alloc, seed, &sizes())?;
+    let volume = generate(alloc, seed, &sizes())?;
     match Bench::begin(alloc, VoxelList::of(volume), level(), capacity()) {
         Ok(bench) => Ok(bench),
         Err(BeginFault::Memory) => Err(Memory),

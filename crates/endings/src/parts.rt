@@ -5,7 +5,8 @@ ghost use Rattle.arrayvec.specs.ArrayString.{array_string_len};
 ghost use Rattle.iso_defs.specs.Texts.{counted, counted_twice, level_and_pad};
 
 use arrayvec::ArrayString;
-use number_digits::{put_level, put_number};
+use iso_base::put_level;
+use number_digits::put_number;
 
 /// Appends words and a number.
 pub fn put_counted(words: &str, n: u64, into: &mut ArrayString<128>)

@@ -1,7 +1,8 @@
-//! What every crate speaks of: sizes, points, names of lattice edges, levels, samples, triangle lists, the counter of cases,
-//! and the answers that several crates share.
+//! What every crate speaks of: sizes, points, names of lattice edges, levels, samples, triangle lists, decimals, the counter
+//! of cases, and the answers that several crates share.
 #![tactic(auto)]
 
+mod decimal;
 mod edge;
 mod fault;
 mod format;
@@ -14,6 +15,7 @@ mod triangles;
 mod verdict;
 mod voxels;
 
+pub use decimal::{Thousandth, put_decimal, put_level};
 pub use edge::{CellName, EdgeName, edge_name, edge_of};
 pub use fault::{BenchFault, Memory, Written};
 pub use format::MeshFormat;

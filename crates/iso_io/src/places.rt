@@ -34,7 +34,7 @@ impl Model for Places {
 }
 
 /// So many places of `room` bytes each.
-fn reserved(alloc: Global, files: u32, room: u32) -> Result<Vec<Place>, Memory>
+fn reserve_places(alloc: Global, files: u32, room: u32) -> Result<Vec<Place>, Memory>
     ensures count { IfOk result (λ all. length all.items ≡ files) }
     ensures rooms { IfOk result (λ all. AllOfRoom room all.items) }
 {
@@ -62,7 +62,7 @@ impl Places {
     pub(crate) fn new(alloc: Global, files: u32, room: u32) -> Result<Places, Memory>
         ensures { IfOk result (λ p. p ≡ record { files = no_files; free = files; room = room }) }
     {
-        let all = reserved(alloc, files, room)?;
+        let all = reserve_places(alloc, files, room)?;
         Ok(Places { all, used: 0, room })
     }
 

@@ -10,7 +10,7 @@ ghost use Rattle.mesh_report.specs.Places.{AreDifferent, ArePlaces};
 
 use crate::share::{Measures, Share};
 use iso_base::{Memory, TriangleList};
-use mesh_report::{Part, Survey, surveyed};
+use mesh_report::{Part, Survey, survey_of};
 use std::alloc::Global;
 
 /// The signed volume, the area and the border of each component of a list of triangles, whose vertices have these positions.
@@ -29,8 +29,8 @@ pub fn measure(alloc: Global, mesh: &TriangleList, at: &[[i64; 3]]) -> Result<Me
     ensures volumes { IfOk result (λ m. VolumesStay mesh.now.vertex_count (triangles_of mesh.now.triangles)
         (position at.now) m) }
 {
-    let Survey { report, components } = surveyed(alloc, mesh)?;
-    let mut shares = begun_all(alloc, report.parts())?;
+    let Survey { report, components } = survey_of(alloc, mesh)?;
+    let mut shares = begin_all(alloc, report.parts())?;
     let places = places_of(alloc, mesh.vertex_count(), shares.as_slice())?;
     add_all(
         shares.as_mut_slice(),
@@ -43,7 +43,7 @@ pub fn measure(alloc: Global, mesh: &TriangleList, at: &[[i64; 3]]) -> Result<Me
 }
 
 /// The shares of these parts, before any triangle.
-fn begun_all(alloc: Global, parts: &[Part]) -> Result<Vec<Share>, Memory>
+fn begin_all(alloc: Global, parts: &[Part]) -> Result<Vec<Share>, Memory>
     ensures { IfOk result (λ ss. ss.items ≡ map unmeasured parts.now) }
 {
     Ok(parts.iter().map(Share::of).collect(alloc)?)

@@ -7,9 +7,8 @@ ghost use Rattle.mesh_lines.specs.Lines.{origin_coordinate, vertex_line};
 ghost use Rattle.mesh_lines.specs.declared.style.Origin.TheVariants.{Window};
 ghost use Rattle.mesh_lines.specs.Triangles.{first_of, letter_of};
 
-use iso_base::{MeshFormat, Point};
+use iso_base::{MeshFormat, Point, Thousandth};
 use mesh_text::{Counter, Lines, Number};
-use number_digits::Thousandth;
 
 /// A pad's layer along an axis, in thousandths.
 const LAYER: i64 = 1000;

@@ -42,7 +42,7 @@ pub fn counts_of(
 {
     let vertices = mesh.vertex_count() as usize;
     let mut places = vec![in alloc; 0u32; vertices]?;
-    let mut each = begun_all(alloc, mesh, rings, names, places.as_mut_slice())?;
+    let mut each = begin_all(alloc, mesh, rings, names, places.as_mut_slice())?;
     let mut marks = vec![in alloc; Met::Never; vertices]?;
     let total = count_all(
         each.as_mut_slice(),
@@ -56,7 +56,7 @@ pub fn counts_of(
 }
 
 /// The tally of each component, before any vertex is counted, and at its smallest vertex the place of it.
-fn begun_all(
+fn begin_all(
     alloc: Global,
     mesh: &TriangleList,
     rings: &Rings,

@@ -23,7 +23,7 @@ pub fn report(alloc: Global, mesh: &TriangleList) -> Result<Report, Memory>
     requires different { All (λ t. HasThreeCorners (triangle_of t)) mesh.now.triangles }
     ensures { IfOk result (λ r. r ≡ summary_of mesh.now.vertex_count (triangles_of mesh.now.triangles)) }
 {
-    Ok(surveyed(alloc, mesh)?.report)
+    Ok(survey_of(alloc, mesh)?.report)
 }
 
 /// For each vertex its component, which is the least vertex to which edges lead from it: for a vertex that no triangle uses, itself.
@@ -40,7 +40,7 @@ pub fn parts_of(alloc: Global, mesh: &TriangleList) -> Result<Vec<u32>, Memory>
 }
 
 /// The report and the component of each vertex.
-pub fn surveyed(alloc: Global, mesh: &TriangleList) -> Result<Survey, Memory>
+pub fn survey_of(alloc: Global, mesh: &TriangleList) -> Result<Survey, Memory>
     requires count { length mesh.now.triangles < 2 ^ 31 }
     requires different { All (λ t. HasThreeCorners (triangle_of t)) mesh.now.triangles }
     ensures report { IfOk result (λ s. s.report ≡ summary_of mesh.now.vertex_count (triangles_of mesh.now.triangles)) }

@@ -2,7 +2,7 @@
 use Rattle.std.specs.Prelude.{ℕ, ◌+◌, List, ◌∷◌, ◌++◌, codes, decimal, ℤ, pos, slice_index, slice_index_or}
 use Rattle.iso_defs.specs.Bytes.{space, lower_v}
 use Rattle.iso_defs.specs.Texts.{line, decimal_text, vertex_head, face_head}
-use Rattle.number_digits.specs.declared.decimal.Thousandth.{Thousandth}
+use Rattle.iso_base.specs.declared.decimal.Thousandth.{Thousandth}
 use Rattle.mesh_text.specs.Numbers.{numbers_line}
 
 -- the coordinate along an axis

@@ -5,7 +5,8 @@ ghost use Rattle.iso_defs.specs.Bytes.{space, minus};
 ghost use Rattle.iso_defs.specs.Texts.{decimal_text, thousandths, three_digits, line};
 ghost use Rattle.mesh_text.specs.Lines.{along, coordinates_text};
 
-use number_digits::{Digits, Thousandth, put_byte};
+use iso_base::Thousandth;
+use number_digits::{Digits, put_byte};
 
 #[inline(always)]
 fn put_thousandths<D: Digits>(digits: &D, n: u64, room: &mut [u8], at: usize) -> usize

@@ -11,7 +11,8 @@ use crate::number::{Number, put_line};
 use crate::obj::write_obj_vertex;
 use crate::piece::Piece;
 use crate::ply::write_ply_vertex;
-use number_digits::{Thousandth, put_byte};
+use iso_base::Thousandth;
+use number_digits::put_byte;
 use std::marker::Model;
 
 /// The bytes of some lines.

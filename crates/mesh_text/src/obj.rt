@@ -4,7 +4,8 @@ ghost use Rattle.std.specs.Prelude.{◌≡◌, ◌+◌, ◌<◌, ◌≤◌, ◌^
 ghost use Rattle.mesh_text.specs.Lines.{along, obj_vertex_line};
 
 use crate::digits::{put_letter, put_vertex};
-use number_digits::{Digits, Thousandth};
+use iso_base::Thousandth;
+use number_digits::Digits;
 
 /// Writes the line of a vertex from a place on, and says where it ends.
 #[inline(always)]

@@ -11,7 +11,7 @@ use refusals::{EncodingWord, Field, NrrdFault};
 use text_lines::{number, same_word, three_words, whole};
 
 /// The value of a field that must be there.
-pub fn needed<'a>(value: Option<&'a [u8]>, field: Field) -> Result<&'a [u8], NrrdFault>
+pub fn ask_value<'a>(value: Option<&'a [u8]>, field: Field) -> Result<&'a [u8], NrrdFault>
     ensures { map_ok (λ x. x.now) result ≡ checks.needed (option_map (λ x. x.now) value.entry) field }
 {
     match value {

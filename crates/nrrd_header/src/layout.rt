@@ -3,7 +3,9 @@ ghost use Rattle.std.specs.Prelude.{◌≡◌};
 ghost use Rattle.nrrd_header.specs.Scanning.{seen_fields};
 ghost use Rattle.nrrd_header.specs.Checks.{layout_of};
 
-use crate::checks::{ask_dimension, ask_skip, big_first, encoding_of, kind_of, needed, sizes_of};
+use crate::checks::{
+    ask_dimension, ask_skip, ask_value, big_first, encoding_of, kind_of, sizes_of,
+};
 use crate::encoding::Encoding;
 use crate::header::Header;
 use iso_base::{SampleKind, Sizes};
@@ -24,10 +26,10 @@ pub struct Layout {
 pub fn read_layout(header: &Header<'_>) -> Result<Layout, NrrdFault>
     ensures { result ≡ layout_of (seen_fields header.now) }
 {
-    let dimension = needed(header.dimension, Field::Dimension)?;
-    let kind = needed(header.kind, Field::Kind)?;
-    let sizes = needed(header.sizes, Field::Sizes)?;
-    let encoding = needed(header.encoding, Field::Encoding)?;
+    let dimension = ask_value(header.dimension, Field::Dimension)?;
+    let kind = ask_value(header.kind, Field::Kind)?;
+    let sizes = ask_value(header.sizes, Field::Sizes)?;
+    let encoding = ask_value(header.encoding, Field::Encoding)?;
     ask_dimension(dimension)?;
     let kind = kind_of(kind)?;
     let encoding = encoding_of(encoding)?;

@@ -131,7 +131,7 @@ pub enum FileVolume<'a> {
 }
 
 /// The volume of a layout in the bytes of its samples, and the number of bytes after them.
-fn measured(alloc: Global, layout: Layout, body: &[u8]) -> Result<(FileVolume<'_>, u64), NrrdFault>
+fn read_body(alloc: Global, layout: Layout, body: &[u8]) -> Result<(FileVolume<'_>, u64), NrrdFault>
     ensures { Answers (map_ok seen_volume result) (measured layout body.now) }
 {
     match layout.encoding {
@@ -165,11 +165,11 @@ pub fn read_file_volume(alloc: Global, bytes: &[u8]) -> Result<(FileVolume<'_>, 
 {
     let (header, body) = split(bytes)?;
     let layout = read_layout(&header)?;
-    measured(alloc, layout, body)
+    read_body(alloc, layout, body)
 }
 
 /// The volume with its samples in a list.
-fn listed(alloc: Global, volume: &RawVolume<'_>) -> Result<VoxelData, AllocError>
+fn voxels_of_raw(alloc: Global, volume: &RawVolume<'_>) -> Result<VoxelData, AllocError>
     ensures { IfOk result (λ v. v ≡ volume.now) }
 {
     let sizes = volume.sizes();
@@ -178,12 +178,12 @@ fn listed(alloc: Global, volume: &RawVolume<'_>) -> Result<VoxelData, AllocError
 }
 
 /// The volume of a file with its samples in a list, wherever they lie.
-fn loaded(alloc: Global, volume: &FileVolume<'_>) -> Result<VoxelData, AllocError>
+fn voxels_of(alloc: Global, volume: &FileVolume<'_>) -> Result<VoxelData, AllocError>
     ensures { IfOk result (λ v. v ≡ file_voxels volume.now) }
 {
     match volume {
-        FileVolume::Raw(raw) => listed(alloc, raw),
-        FileVolume::Read(read) => listed(alloc, &read.raw()),
+        FileVolume::Raw(raw) => voxels_of_raw(alloc, raw),
+        FileVolume::Read(read) => voxels_of_raw(alloc, &read.raw()),
     }
 }
 
@@ -194,6 +194,6 @@ pub fn read_volume(alloc: Global, bytes: &[u8]) -> Result<(VoxelData, u64), Nrrd
     ensures { Answers result (nrrd_of bytes.now) }
 {
     let (volume, surplus) = read_file_volume(alloc, bytes)?;
-    let volume = loaded(alloc, &volume)?;
+    let volume = voxels_of(alloc, &volume)?;
     Ok((volume, surplus))
 }

@@ -4,12 +4,10 @@
 
 mod bytes;
 mod counted;
-mod decimal;
 mod digits;
 mod number;
 
 pub use bytes::{put_array, put_byte};
 pub use counted::{Counted, count_short};
-pub use decimal::{Thousandth, put_decimal, put_level};
 pub use digits::Digits;
 pub use number::put_number;

@@ -26,7 +26,7 @@ pub struct Component<T> {
 
 impl<T: Tally> Component<T> {
     /// Without edges and loops, but with a smallest vertex.
-    fn begun(least: u32) -> Component<T>
+    fn begin(least: u32) -> Component<T>
         ensures least { result.least ≡ least }
         ensures empty { IsEmpty T.value T.fits result }
     {
@@ -73,7 +73,7 @@ fn begin_all<T: Tally>(
         let name = joined[label as usize] as usize;
         if places[name] == NONE {
             places[name] = components.len() as u32;
-            components.push(Component::begun(least))?;
+            components.push(Component::begin(least))?;
         }
     }
     Ok(components)

@@ -16,5 +16,5 @@ mod sweep;
 mod tally;
 mod walked;
 
-pub use numbers::numbered;
-pub use sweep::measured;
+pub use numbers::part_numbers;
+pub use sweep::part_measures;

@@ -13,7 +13,7 @@ ghost use Rattle.part_walk.specs.declared.tally.Counts.{Counts as CountsOf};
 
 use crate::components::{Component, components};
 use crate::rows::walk;
-use crate::tally::{Counts, added};
+use crate::tally::{Counts, sum_of};
 use brick_store::BrickStore;
 use indexmap::IndexMap;
 use iso_base::{Level, Memory, Steps};
@@ -59,7 +59,7 @@ fn parts_of(alloc: Global, components: &[Component<Counts>]) -> Result<IndexMap<
 }
 
 /// The numbers of the mesh of a volume at a level, and of each of its components.
-pub fn numbered<R: CellRows, L: Ledger>(
+pub fn part_numbers<R: CellRows, L: Ledger>(
     alloc: Global,
     store: &BrickStore,
     tree: &SpanTree,
@@ -76,7 +76,7 @@ pub fn numbered<R: CellRows, L: Ledger>(
     // Reading the sizes brings in what is true of every volume.
     let _ = store.sizes();
     let walked = walk::<Counts, R, L>(alloc, store, tree, level, rows, steps)?;
-    let all = added(walked.tallies.as_slice());
+    let all = sum_of(walked.tallies.as_slice());
     let total = part_of(0, walked.edges.count, &all);
     let parts = parts_of(alloc, components(alloc, walked)?.as_slice())?;
     Ok(Report::new(total, parts))

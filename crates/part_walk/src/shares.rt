@@ -14,7 +14,7 @@ use std::alloc::Global;
 const LAYER: i128 = 1000;
 
 /// An area as wide as a share has it.
-fn widened(area: &[i64; 3]) -> [i128; 3]
+fn widen(area: &[i64; 3]) -> [i128; 3]
     requires { IsWithin (2 ^ 60) (vector_of area.now) }
     ensures value { result ≡ coordinates (vector_of area.now) }
     ensures within { IsWithin (2 ^ 80) (vector_of result) }
@@ -41,7 +41,7 @@ fn share_of(padded: bool, component: &Component<Swept>) -> Share
     ensures { result ≡ share_at padded component.now }
 {
     let Swept { six, area, border } = component.tally;
-    let area = widened(&area);
+    let area = widen(&area);
     Share {
         least: component.least,
         six: if padded { off_layer(six, &area) } else { six },

@@ -99,7 +99,7 @@ impl Tally for Swept {
 }
 
 /// The measures of the mesh of a volume at a level, at the positions that are printed.
-pub fn measured<R: CellRows, L: Ledger>(
+pub fn part_measures<R: CellRows, L: Ledger>(
     alloc: Global,
     store: &BrickStore,
     tree: &SpanTree,

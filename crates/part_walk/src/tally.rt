@@ -48,7 +48,7 @@ pub trait Tally: Copy + Drop {
 }
 
 /// The sum of tallies, each of which fits so many steps.
-pub fn added<T: Tally>(tallies: &[T]) -> T
+pub fn sum_of<T: Tally>(tallies: &[T]) -> T
     requires room { (n : ℕ → ℕ) × (sum_by n (below (length tallies.now)) < 2 ^ 31) × FitEach T.fits n tallies.now }
     ensures { (i : ℕ) → T.value result i ≡ total (λ t. T.value t i) tallies.now }
 {

@@ -3,7 +3,7 @@ use Rattle.std.specs.Prelude.{ℕ, ◌<◌, ◌^◌, ℤ, pos, unsigned_abs, Boo
 use Rattle.iso_defs.specs.Grid.{Grid}
 use Rattle.iso_defs.specs.Place.{edge_coordinate}
 use Rattle.iso_base.specs.declared.edge.EdgeName.{EdgeName}
-use Rattle.number_digits.specs.declared.decimal.Thousandth.{Thousandth}
+use Rattle.iso_base.specs.declared.decimal.Thousandth.{Thousandth}
 
 -- an edge of a line: its name, and its coordinates along x and y
 abbrev pub Point : Type 0

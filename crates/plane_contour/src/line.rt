@@ -3,8 +3,7 @@
 ghost use Rattle.std.specs.Prelude.{◌≡◌, All};
 ghost use Rattle.plane_contour.specs.Points.{IsNear};
 
-use iso_base::EdgeName;
-use number_digits::Thousandth;
+use iso_base::{EdgeName, Thousandth};
 use std::marker::Model;
 
 /// One contour line: a closed one, or a path from border to border. Contracts see whether it is a cycle, and its points.

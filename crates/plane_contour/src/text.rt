@@ -10,8 +10,8 @@ ghost use Rattle.plane_contour.specs.Texts.{contours_text, head_line, line_text,
 use crate::line::{Contours, Line};
 use arrayvec::ArrayString;
 use byte_streams::{Failed, LINES, Sink, gather, write_all_of};
-use iso_base::EdgeName;
-use number_digits::{Thousandth, put_decimal, put_number};
+use iso_base::{EdgeName, Thousandth, put_decimal};
+use number_digits::put_number;
 
 /// A pad's layer along an axis, in thousandths.
 const LAYER: i64 = 1000;

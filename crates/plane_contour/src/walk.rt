@@ -9,8 +9,7 @@ ghost use Rattle.plane_contour.specs.Points.{IsNear, point_at};
 
 use crate::plane::{Edge, Plane};
 use edge_points::place;
-use iso_base::{EdgeName, Memory, Point, edge_name};
-use number_digits::Thousandth;
+use iso_base::{EdgeName, Memory, Point, Thousandth, edge_name};
 
 impl Plane<'_> {
     /// The name of an edge in the grid.

@@ -7,7 +7,7 @@ ghost use Rattle.samples.specs.Signs.{IsBound, sign_of};
 
 use crate::lies::Lies;
 use iso_base::{Level, Point, Sizes, index};
-use samples::{Packed, Samples, converted, copy_all, sign};
+use samples::{Packed, Samples, convert, copy_all, sign};
 use std::marker::{Model, PhantomData};
 
 /// Samples of one kind and byte order, in bytes: each is read when it is asked for.
@@ -56,7 +56,7 @@ fn read_each<K: Lies, T: Packed>(bytes: &[u8], start: usize, into: &mut [T])
         (range_with_len 0 (length into.old)) }
 {
     for k in 0..into.len() {
-        into[k] = converted(K::read(bytes, start + k));
+        into[k] = convert(K::read(bytes, start + k));
     }
 }
 

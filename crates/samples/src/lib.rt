@@ -6,7 +6,7 @@ mod number;
 mod samples;
 mod signs;
 
-pub use list::{Numbers, converted, copy_all};
+pub use list::{Numbers, convert, copy_all};
 pub use number::{Packed, sample_at};
 pub use samples::{Samples, all_signs, each_corner};
 pub use signs::{put_signs, sample_sign, sign};

@@ -16,7 +16,7 @@ pub struct Numbers<'a, T> {
 
 /// A number in another width.
 #[inline(always)]
-pub fn converted<T: Packed, U: Packed>(number: T) -> U
+pub fn convert<T: Packed, U: Packed>(number: T) -> U
     requires { U.Fits (T.value number) }
     ensures { U.value result ≡ T.value number }
 {
@@ -31,7 +31,7 @@ pub fn copy_all<T: Packed, U: Packed>(numbers: &[T], into: &mut [U])
     ensures { map U.value into.new ≡ map T.value numbers.now }
 {
     for k in 0..numbers.len() {
-        into[k] = converted(numbers[k]);
+        into[k] = convert(numbers[k]);
     }
 }
 

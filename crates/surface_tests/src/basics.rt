@@ -2,8 +2,10 @@
 
 use crate::grids::three_a_side;
 use arrayvec::ArrayString;
-use iso_base::{EdgeName, Level, Point, SizeFault, Sizes, edge_name, edge_of, index, point_of};
-use number_digits::{Thousandth, put_decimal, put_level};
+use iso_base::{
+    EdgeName, Level, Point, SizeFault, Sizes, Thousandth, edge_name, edge_of, index, point_of,
+    put_decimal, put_level,
+};
 use std::process::Abort;
 use std::test::Fail;
 

@@ -6,8 +6,9 @@ ghost use Rattle.iso_defs.specs.Grid.{Grid};
 use crate::grids::{three_a_side, two_a_side};
 use crate::volumes::one_above;
 use flat_mesh::{Mesh, VertexName, extract_flat};
-use iso_base::{CellName, EdgeName, Level, Memory, SampleKind, Sizes, TriangleList, VoxelData};
-use number_digits::Thousandth;
+use iso_base::{
+    CellName, EdgeName, Level, Memory, SampleKind, Sizes, Thousandth, TriangleList, VoxelData,
+};
 use std::alloc::{AllocError, Global};
 use std::process::Abort;
 use std::test::Fail;

@@ -2,9 +2,9 @@
 
 ghost use Rattle.std.specs.Prelude.{◌≡◌, []};
 
+use iso_base::Thousandth;
 use mesh_more::{off_head_text, vtk_faces_text, vtk_head_text};
 use mesh_text::{Lines, ply_head_text, points_head_text};
-use number_digits::Thousandth;
 use std::process::Abort;
 use std::test::Fail;
 

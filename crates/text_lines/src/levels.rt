@@ -46,7 +46,7 @@ fn positive(n: u128) -> i128
     n as i128
 }
 
-fn negated(n: u128) -> i128
+fn negation_of(n: u128) -> i128
     requires { n < 10 ^ 22 }
     ensures { result ≡ neg_ℤ (pos n) }
 {
@@ -59,7 +59,7 @@ pub fn level_number(word: &[u8]) -> Option<i128>
     ensures { result ≡ level_number_of word.now }
 {
     if let [b'-', rest @ ..] = word {
-        return Some(negated(thousandths(rest)?));
+        return Some(negation_of(thousandths(rest)?));
     }
     Some(positive(thousandths(word)?))
 }

@@ -28,7 +28,7 @@ fn positive(n: u64) -> i64
     n as i64
 }
 
-fn negated(n: u64) -> i64
+fn negation_of(n: u64) -> i64
     requires { n < 10 ^ 18 }
     ensures { result ≡ neg_ℤ (pos n) }
 {
@@ -41,7 +41,7 @@ pub fn number(word: &[u8]) -> Option<i64>
     ensures { result ≡ number_of word.now }
 {
     if let [b'-', rest @ ..] = word {
-        return Some(negated(digits(rest)?));
+        return Some(negation_of(digits(rest)?));
     }
     Some(positive(digits(word)?))
 }

@@ -12,7 +12,7 @@ fn is_blank_byte(b: u8) -> bool
 }
 
 /// The text without the blanks at its front.
-fn skipped(text: &[u8]) -> &[u8]
+fn skip_blanks(text: &[u8]) -> &[u8]
     ensures { result.now ≡ skip_blanks text.now }
 {
     let mut rest = text;
@@ -37,7 +37,7 @@ fn cut(text: &[u8]) -> &[u8]
 pub fn without_blanks(text: &[u8]) -> &[u8]
     ensures { result.now ≡ trimmed text.now }
 {
-    cut(skipped(text))
+    cut(skip_blanks(text))
 }
 
 /// Whether a text is this word, whatever the case of the text's ASCII letters. The word is given in small letters.
@@ -69,7 +69,7 @@ fn blank_at(text: &[u8]) -> Option<usize>
 pub fn next_word(text: &[u8]) -> Option<(&[u8], &[u8])>
     ensures { MatchOption result (words_of text.now ≡ []) (λ x. words_of text.now ≡ x.0.now ∷ words_of x.1.now) }
 {
-    let text = skipped(text);
+    let text = skip_blanks(text);
     if text.is_empty() {
         return None;
     }

@@ -161,7 +161,7 @@ fn number_16(rest: &[u8], big: bool, done: u64, wanted: Wanted) -> Result<(u32, 
 
 /// The number in four bytes, the high one first or last.
 #[inline(always)]
-fn joined(big: bool, bytes: [u8; 4]) -> u32
+fn number_of(big: bool, bytes: [u8; 4]) -> u32
     ensures { result ≡ number_in big 4 bytes }
 {
     let [a, b, c, d] = bytes;
@@ -187,7 +187,7 @@ fn number_32(rest: &[u8], big: bool, done: u64, wanted: Wanted) -> Result<(u32, 
     let (c, rest) = byte(rest, done, wanted)?;
     let done = done + 2;
     let (d, rest) = byte(rest, done, wanted)?;
-    Ok((joined(big, [a, b, c, d]), rest))
+    Ok((number_of(big, [a, b, c, d]), rest))
 }
 
 /// The number of a kind in these bits.

@@ -12,7 +12,7 @@ pub fn is_separator(b: u8) -> bool
 
 /// The text without the separators at its front.
 #[inline(always)]
-fn skipped(bytes: &[u8]) -> &[u8]
+fn skip_separators(bytes: &[u8]) -> &[u8]
     ensures { result.now ≡ skip_separators bytes.now }
 {
     let mut rest = bytes;
@@ -39,7 +39,7 @@ pub fn next_word(bytes: &[u8]) -> Option<(&[u8], &[u8])>
     ensures { MatchOption result (words_in bytes.now ≡ [])
         (λ x. words_in bytes.now ≡ record { text = x.0.now; after = x.1.now } ∷ words_in x.1.now) }
 {
-    let bytes = skipped(bytes);
+    let bytes = skip_separators(bytes);
     if bytes.is_empty() {
         return None;
     }

@@ -40,7 +40,7 @@ fn add_row(seed: u64, nx: u32, y: u32, z: u32, samples: &mut Vec<i64>) -> Result
 }
 
 /// The generated volume of a seed and sizes: one sample of kind U8 for all points of each block of eight along each axis.
-pub fn generated(alloc: Global, seed: u64, sizes: &Sizes) -> Result<VoxelData, Memory>
+pub fn generate(alloc: Global, seed: u64, sizes: &Sizes) -> Result<VoxelData, Memory>
     ensures { IfOk result (λ v. v ≡ generated_volume seed sizes.now) }
 {
     let (nx, ny) = (sizes.nx(), sizes.ny());

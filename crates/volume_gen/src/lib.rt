@@ -7,6 +7,6 @@ mod script_lines;
 mod soak;
 mod steps;
 
-pub use blocks::generated;
+pub use blocks::generate;
 pub use rows::{STAGE, put_generated};
 pub use soak::SoakLines;

@@ -20,7 +20,7 @@ pub returns-clause-value : goal.returns-clause-value
 returns-clause-value c =
     let four : length c.args.cycle ≡ 4 = search rules in
     let digit : c.from.result ≡ cond (decided c.args.cycle) 1 0 = elim (cases_Bool (decided c.args.cycle)) [
-      | inl h ↦ rw h (rw (c.turned.ensures, h) at c.from.ensures)
-      | inr h ↦ rw h (rw (c.turned.ensures, h) at c.from.ensures)
+      | inl h ↦ rw h (rw (c.turn_round.ensures, h) at c.from.ensures)
+      | inr h ↦ rw h (rw (c.turn_round.ensures, h) at c.from.ensures)
     ] in
     digit ∙ ap (λ b. cond b 1 0) (decided_is c.args.cycle four c.requires)

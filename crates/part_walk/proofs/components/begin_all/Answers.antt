@@ -30,15 +30,15 @@ loop-label-preserved g c =
     → AreBegun g.T.Tally.value g.T.Tally.fits (λ e. get_or joined (label e) 0) number (take (n + 1) es) ps cs in
     elim c.if-places-name.branch [
       | then-places-name+in_ok-push w ↦ (
-          let items : c.if-places-name.components.items ≡ c.loop-label.components.items ++ w.begun.result ∷ []
-          = ◌∙◌ {c = c.loop-label.components.items ++ w.begun.result ∷ []} (ap (λ v. v.items) w.components-is) w.in_ok-push.ensures.items in
+          let items : c.if-places-name.components.items ≡ c.loop-label.components.items ++ w.begin.result ∷ []
+          = ◌∙◌ {c = c.loop-label.components.items ++ w.begin.result ∷ []} (ap (λ v. v.items) w.components-is) w.in_ok-push.ensures.items in
           let size : w.len.result ≡ length c.loop-label.components.items = omega (arith, w.len.ensures, c.loop-label.components.ok.0) in
           let places : c.if-places-name.places ≡ set c.loop-label.places (get_or joined a 0) (length c.loop-label.components.items) = w.places-is ∙ ap (set c.loop-label.places (get_or joined a 0)) size in
           record {
-            few = omega (arith, i.few, ap length items, length_push c.loop-label.components.items w.begun.result);
+            few = omega (arith, i.few, ap length items, length_push c.loop-label.components.items w.begin.result);
             begun = subst (λ ps. grown ps c.if-places-name.components.items) (sym places) (subst (grown (set c.loop-label.places (get_or joined a 0) (length c.loop-label.components.items))) (sym items)
                 (λ label number es e. next_more g.T.Tally.value g.T.Tally.fits joined c.loop-label.places c.args.order.now c.loop-label.components.items n c.loop-label-test.true inside label number es e (i.begun label number es e)
-                w.begun.result w.if-places-name.true few w.begun.ensures.least w.begun.ensures.empty));
+                w.begin.result w.if-places-name.true few w.begin.ensures.least w.begin.ensures.empty));
           })
       | else-places-name w ↦ record {
         few = omega (arith, i.few, ap (λ v. length v.items) w.components-is);

@@ -5,8 +5,8 @@ use Rattle.iso_base.specs.SampleBytes.{sample_of}
 use Rattle.raw_samples.proofs.ReadRuns.{one_more, one_of}
 use Rattle.raw_samples.proofs.in_bytes.read_each.Goals as goal
 
-pub converted-requires : goal.converted-requires
-converted-requires g c =
+pub convert-requires : goal.convert-requires
+convert-requires g c =
     let f : ℕ → ℤ = λ k. sample_of g.K.Lies.kind g.K.Lies.big c.args.bytes.now (c.args.start + k) in
     let n = length c.args.into.now in
     let low : c.loop-k.k < n = omega (arith, c.loop-k-test.true, c.loop-k.auto.into) in
@@ -15,7 +15,7 @@ converted-requires g c =
 pub loop-k-preserved : goal.loop-k-preserved
 loop-k-preserved g c =
     let f : ℕ → ℤ = λ k. sample_of g.K.Lies.kind g.K.Lies.big c.args.bytes.now (c.args.start + k) in
-    one_more g.T.Packed.value f c.loop-k.into c.loop-k.k c.converted.result (omega (arith, c.loop-k-test.true)) (c.converted.ensures ∙ c.read.ensures) c.loop-k.invariant
+    one_more g.T.Packed.value f c.loop-k.into c.loop-k.k c.convert.result (omega (arith, c.loop-k-test.true)) (c.convert.ensures ∙ c.read.ensures) c.loop-k.invariant
 
 pub returns : goal.returns
 returns g c =

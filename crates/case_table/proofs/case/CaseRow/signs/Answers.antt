@@ -10,7 +10,7 @@ use Rattle.case_table.proofs.case.CaseRow.signs.Goals as goal
 pub returns-clause-number : goal.returns-clause-number
 returns-clause-number c =
     let small : c.args.self < 656 = search rules in
-    c.sign_field.ensures ∙ ap (λ r. r / 2 ^ 48) (c.packed.ensures.value ∙ ap (λ n. get_or ROWS n 0) c.self.view_is) ∙ signs_at c.args.self small
+    c.sign_field.ensures ∙ ap (λ r. r / 2 ^ 48) (c.packed_row.ensures.value ∙ ap (λ n. get_or ROWS n 0) c.self.view_is) ∙ signs_at c.args.self small
 
 pub returns-clause-bits : goal.returns-clause-bits
 returns-clause-bits c =

@@ -1,6 +1,6 @@
 use Rattle.std.proofs.Common.{◌≡◌, ℕ, ◌+◌, ◌*◌, ℤ, pos, true, sym, ap, ◌∙◌, to_z, of_z, w64}
 use Rattle.iso_base.specs.declared.edge.EdgeName.{EdgeName}
-use Rattle.number_digits.specs.declared.decimal.Thousandth.{Thousandth}
+use Rattle.iso_base.specs.declared.decimal.Thousandth.{Thousandth}
 use Rattle.iso_defs.specs.Grid.{edge_lower, edge_upper}
 use Rattle.iso_defs.specs.Place.{place, edge_coordinate}
 use Rattle.iso_defs.specs.Signs.{is_above, differ}

@@ -1,7 +1,7 @@
 use Rattle.std.proofs.Common.{◌≡◌, ◌∙◌, ◌≤◌, ◌^◌, ℤ, pos, ◌∷◌, [], arith, slice_index_or, subst, sym, unsigned_abs}
 use Rattle.std.proofs.lemmas.Int.{ints}
 use Rattle.measure.proofs.Exact.{kept, stored}
-use Rattle.part_walk.proofs.shares.widened.Goals as goal
+use Rattle.part_walk.proofs.shares.widen.Goals as goal
 
 -- a small number is the same in the wider type
 same : (x y : ℤ) → unsigned_abs x ≤ 2 ^ 60 → y ≡ stored x → kept y ≡ x

@@ -3,7 +3,7 @@ use Rattle.std.specs.List.{sum_by}
 use Rattle.iso_defs.specs.Lists.{below}
 use Rattle.measure_laws.specs.Totals.{total}
 use Rattle.part_walk.specs.Sums.{FitEach}
-use Rattle.part_walk.proofs.tally.added.Given as goal
+use Rattle.part_walk.proofs.tally.sum_of.Given as goal
 
 abbrev pub invariant-loop-tally : goal.invariant-loop-tally
 invariant-loop-tally g l = record {

@@ -4,7 +4,7 @@ use Rattle.iso_base.specs.Triangles.{triangles_of}
 use Rattle.mesh_report.specs.Places.{ArePlaces}
 use Rattle.mesh_report.specs.Tallies.{nothing_of}
 use Rattle.mesh_report.proofs.BegunLaws.{components_below}
-use Rattle.mesh_report.proofs.count.begun_all.Given as goal
+use Rattle.mesh_report.proofs.count.begin_all.Given as goal
 
 abbrev pub invariant-loop-v : goal.invariant-loop-v
 invariant-loop-v l =

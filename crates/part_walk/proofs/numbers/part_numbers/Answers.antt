@@ -9,7 +9,7 @@ use Rattle.part_walk.specs.Counts.{counted, fit, number}
 use Rattle.part_walk.specs.Sums.{FitEach}
 use Rattle.part_walk.specs.declared.tally.Counts.{Counts}
 use Rattle.part_walk.proofs.MeshCounts.{added_is, crossings_are, parts_ascend, parts_few, parts_told, tallies_fit, whole_few, whole_is}
-use Rattle.part_walk.proofs.numbers.numbered.Goals as goal
+use Rattle.part_walk.proofs.numbers.part_numbers.Goals as goal
 
 pub parts_of-requires-clause-few : goal.parts_of-requires-clause-few
 parts_of-requires-clause-few g c =
@@ -21,8 +21,8 @@ parts_of-requires-clause-ascending g c =
     let v : Leveled = at_level c.args.store.now c.args.level in
     parts_ascend v c.sizes.ensures.volume.grid c.as_slice-2.result.now (subst (AreComponents number fit counted v) (sym c.as_slice-2.ensures.value) (c.in_ok-components.ensures v c.in_ok-walked.ensures))
 
-pub added-all-requires : goal.added-all-requires
-added-all-requires g c =
+pub sum_of-all-requires : goal.sum_of-all-requires
+sum_of-all-requires g c =
     let v : Leveled = at_level c.args.store.now c.args.level in
     let w = c.in_ok-walked.walked in
     let h = c.in_ok-walked.ensures in
@@ -36,8 +36,8 @@ part_of-total-requires g c =
     let v : Leveled = at_level c.args.store.now c.args.level in
     let w = c.in_ok-walked.walked in
     let h = c.in_ok-walked.ensures in
-    whole_few v c.sizes.ensures.volume.grid c.added-all.result
-    (added_is v c.sizes.ensures.volume.grid number fit counted w.labels w.tallies.items w.edges h c.as_slice.result.now c.as_slice.ensures.value c.added-all.result c.added-all.ensures)
+    whole_few v c.sizes.ensures.volume.grid c.sum_of-all.result
+    (added_is v c.sizes.ensures.volume.grid number fit counted w.labels w.tallies.items w.edges h c.as_slice.result.now c.as_slice.ensures.value c.sum_of-all.result c.sum_of-all.ensures)
     w.edges.count (crossings_are v c.sizes.ensures.volume.grid number fit counted w.labels w.tallies.items w.edges h)
 
 pub returns : goal.returns
@@ -46,8 +46,8 @@ returns g c =
     let w = c.in_ok-walked.walked in
     let h = c.in_ok-walked.ensures in
     let whole
-    = whole_is v c.sizes.ensures.volume.grid c.added-all.result
-    (added_is v c.sizes.ensures.volume.grid number fit counted w.labels w.tallies.items w.edges h c.as_slice.result.now c.as_slice.ensures.value c.added-all.result c.added-all.ensures)
+    = whole_is v c.sizes.ensures.volume.grid c.sum_of-all.result
+    (added_is v c.sizes.ensures.volume.grid number fit counted w.labels w.tallies.items w.edges h c.as_slice.result.now c.as_slice.ensures.value c.sum_of-all.result c.sum_of-all.ensures)
     w.edges.count (crossings_are v c.sizes.ensures.volume.grid number fit counted w.labels w.tallies.items w.edges h) in
     let parts
     = parts_told v c.sizes.ensures.volume.grid c.as_slice-2.result.now (subst (AreComponents number fit counted v) (sym c.as_slice-2.ensures.value) (c.in_ok-components.ensures v h)) in

@@ -1,9 +1,9 @@
 use Rattle.std.proofs.Common.{◌≡◌, length}
-use Rattle.text_samples.specs.Words.{skip_separators}
-use Rattle.text_samples.proofs.words.skipped.Given as goal
+use Rattle.text_lines.specs.Words.{skip_blanks}
+use Rattle.text_lines.proofs.words.skip_blanks.Given as goal
 
 abbrev pub invariant-loop-rest : goal.invariant-loop-rest
-invariant-loop-rest l = skip_separators l.rest ≡ skip_separators l.bytes
+invariant-loop-rest l = skip_blanks l.rest ≡ skip_blanks l.text
 
 abbrev pub decreases-loop-rest : goal.decreases-loop-rest
 decreases-loop-rest l = length l.rest

@@ -4,7 +4,7 @@ use Rattle.std.specs.List.{sum_by}
 use Rattle.iso_defs.specs.Lists.{below}
 use Rattle.measure_laws.specs.Totals.{total}
 use Rattle.part_walk.proofs.SumLaws.{sum_more, sum_within, total_more}
-use Rattle.part_walk.proofs.tally.added.Goals as goal
+use Rattle.part_walk.proofs.tally.sum_of.Goals as goal
 
 pub loop-tally-init : goal.loop-tally-init
 loop-tally-init g c = record { values = λ i. c.none-sum.ensures.values i; fits = λ n h. c.none-sum.ensures.fits }

@@ -5,7 +5,7 @@ use Rattle.part_walk.specs.Components.{AreComponents}
 use Rattle.part_walk.specs.Shares.{CanMove, share_at}
 use Rattle.part_walk.specs.Sweep.{AreSmall, measure_at, measured_of}
 use Rattle.part_walk.proofs.MeasureLaws.{components_move, shares_measured}
-use Rattle.part_walk.proofs.sweep.measured.Goals as goal
+use Rattle.part_walk.proofs.sweep.part_measures.Goals as goal
 
 pub shares_of-requires : goal.shares_of-requires
 shares_of-requires g c =

@@ -8,8 +8,8 @@ use Rattle.mesh_report.specs.Places.{ArePlaces}
 use Rattle.mesh_report.specs.Report.{component}
 use Rattle.mesh_report.specs.Tallies.{nothing_of}
 use Rattle.mesh_report.proofs.BegunLaws.{begun_few, begun_new, begun_same, components_all, components_below, placed_new}
-use Rattle.mesh_report.proofs.count.begun_all.Goals as goal
-use Rattle.mesh_report.proofs.count.begun_all.Goals.{then-is_smallest+in_ok-push, else-is_smallest}
+use Rattle.mesh_report.proofs.count.begin_all.Goals as goal
+use Rattle.mesh_report.proofs.count.begin_all.Goals.{then-is_smallest+in_ok-push, else-is_smallest}
 
 pub overflow_cast-places : goal.overflow_cast-places
 overflow_cast-places c =
