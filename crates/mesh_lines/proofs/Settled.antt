@@ -1,21 +1,8 @@
 -- Whole blocks of what waits are written, and what stands behind them waits on.
-use Rattle.std.proofs.Common.{◌≡◌, ℕ, ◌+◌, ◌-◌, ◌≤◌, List, [], ◌++◌, length, take, drop, Ok, Err, sym, ◌∙◌, ap, arith, append_assoc}
-use Rattle.std.specs.List.{copy_within}
-use Rattle.std.proofs.lemmas.List.{append-nil, drop-take, length-drop, length-take, take-append-drop, take-append-le, take_all}
+use Rattle.std.proofs.Common.{◌≡◌, ℕ, List, [], ◌++◌, take, drop, Ok, Err, sym, ◌∙◌, ap, append_assoc}
+use Rattle.std.proofs.lemmas.List.{append-nil, take-append-drop}
 use Rattle.byte_streams.specs.Seen.{Puts, Stages, Tape}
 use Rattle.byte_streams.specs.declared.Failed.{Failed}
-
--- what stands behind a front is moved to the front
-pub rest_moved : (bytes : List ℕ) (block end : ℕ) → block ≤ end → end ≤ length bytes
-    → take (end - block) (copy_within bytes block end 0) ≡ drop block (take end bytes)
-rest_moved bytes block end order room =
-    let count : ℕ = end - block in
-    let rest : List ℕ = take count (drop block bytes) in
-    let long : length rest ≡ count = (let a = length-take count (drop block bytes) in let b = length-drop block bytes in omega arith) in
-    take-append-le count rest (drop (0 + count) bytes) (omega (arith, long))
-    ∙ (take_all count rest (omega (arith, long))
-    ∙ (sym (drop-take block count bytes)
-    ∙ ap (λ n. drop block (take n bytes)) (let sum : block + count ≡ end = omega arith in sum)))
 
 -- where a block was written, the rest waits
 pub block_written : {T U : Type 0} (old new : Tape) (x : U) (y : T) (before after all part : List ℕ) (block : ℕ) → before ≡ all → after ≡ drop block all → part ≡ take block all

@@ -93,7 +93,7 @@ impl CentreTexts {
     fn gather_centre_apart(&self, x: u32, at: &[u32; 3], lines: &mut Lines)
         requires x { x < self.now.count }
         requires at { All (λ n. n ≤ 1000) at.now }
-        requires room { length lines.old + 64 ≤ 4096 }
+        requires room { length lines.old + 64 ≤ 69632 }
         ensures line { lines.new ≡ lines.old ++ vertex_line self.now.style (0, centre_at self.now x at.now) }
         ensures few { length lines.new ≤ length lines.old + 64 }
     {
@@ -114,7 +114,7 @@ impl CentreTexts {
     pub fn gather_centre(&self, x: u32, at: &[u32; 3], lines: &mut Lines)
         requires x { x < self.now.count }
         requires at { All (λ n. n ≤ 1000) at.now }
-        requires room { length lines.old + 64 ≤ 4096 }
+        requires room { length lines.old + 64 ≤ 69632 }
         ensures line { lines.new ≡ lines.old ++ vertex_line self.now.style (0, centre_at self.now x at.now) }
         ensures few { length lines.new ≤ length lines.old + 64 }
     {

@@ -366,7 +366,7 @@ impl RowTexts {
     /// the edge is the next one.
     fn gather_upper_end(&self, edge: u16, lines: &mut Lines)
         requires edge { edge < 3 * self.now.count }
-        requires room { length lines.old + 64 ≤ 4096 }
+        requires room { length lines.old + 64 ≤ 69632 }
         ensures line { lines.new ≡ lines.old ++ vertex_line self.now.style (0, edge_at self.now edge 1000) }
         ensures few { length lines.new ≤ length lines.old + 64 }
     {
@@ -384,7 +384,7 @@ impl RowTexts {
     fn gather_edge_apart(&self, edge: u16, place: u16, lines: &mut Lines)
         requires edge { edge < 3 * self.now.count }
         requires place { place ≤ 1000 }
-        requires room { length lines.old + 64 ≤ 4096 }
+        requires room { length lines.old + 64 ≤ 69632 }
         ensures line { lines.new ≡ lines.old ++ vertex_line self.now.style (0, edge_at self.now edge place) }
         ensures few { length lines.new ≤ length lines.old + 64 }
     {
@@ -401,7 +401,7 @@ impl RowTexts {
     pub fn gather_edge(&self, edge: u16, place: u16, lines: &mut Lines)
         requires edge { edge < 3 * self.now.count }
         requires place { place ≤ 1000 }
-        requires room { length lines.old + 64 ≤ 4096 }
+        requires room { length lines.old + 64 ≤ 69632 }
         ensures line { lines.new ≡ lines.old ++ vertex_line self.now.style (0, edge_at self.now edge place) }
         ensures few { length lines.new ≤ length lines.old + 64 }
     {

@@ -52,7 +52,7 @@ impl Style {
     #[tactic(auto, unfolding(crate::specs::Lines::vertex_line))]
     fn gather_printed(self, origin: Origin, at: &[u32; 3], lines: &mut Lines)
         requires same { origin ≡ self.origin }
-        requires room { length lines.old + 64 ≤ 4096 }
+        requires room { length lines.old + 64 ≤ 69632 }
         ensures line { lines.new ≡ lines.old ++ vertex_line self (0, triangle_of at.now) }
         ensures few { length lines.new ≤ length lines.old + 64 }
     {
@@ -71,7 +71,7 @@ impl Style {
     #[inline(never)]
     fn gather_in_window(self, low: Point, at: &[u32; 3], lines: &mut Lines)
         requires origin { self.origin ≡ Window low }
-        requires room { length lines.old + 64 ≤ 4096 }
+        requires room { length lines.old + 64 ≤ 69632 }
         ensures line { lines.new ≡ lines.old ++ vertex_line self (0, triangle_of at.now) }
         ensures few { length lines.new ≤ length lines.old + 64 }
     {
@@ -81,7 +81,7 @@ impl Style {
     /// Puts the line of a vertex at a place behind others, under the name 0, since a line has no name in it.
     #[inline(always)]
     pub fn gather_vertex(self, at: &[u32; 3], lines: &mut Lines)
-        requires { length lines.old + 64 ≤ 4096 }
+        requires { length lines.old + 64 ≤ 69632 }
         ensures line { lines.new ≡ lines.old ++ vertex_line self (0, triangle_of at.now) }
         ensures few { length lines.new ≤ length lines.old + 64 }
     {
@@ -130,7 +130,7 @@ impl Style {
         requires first { IsShort a.now }
         requires second { IsShort b.now }
         requires third { IsShort c.now }
-        requires room { length lines.old + 64 ≤ 4096 }
+        requires room { length lines.old + 64 ≤ 69632 }
         ensures line { let letter = letter_of self.format in
             lines.new ≡ lines.old ++ letter_line letter (number_text a.now) (number_text b.now) (number_text c.now) }
         ensures few { length lines.new ≤ length lines.old + 64 }

@@ -1,5 +1,5 @@
 -- Lines of mesh texts.
-use Rattle.std.specs.Prelude.{ℕ, ◌+◌, List, ◌∷◌, ◌++◌, codes, decimal, ℤ, pos, slice_index, slice_index_or}
+use Rattle.std.specs.Prelude.{ℕ, List, ◌∷◌, ◌++◌, codes, decimal, ℤ, pos, slice_index_or}
 use Rattle.iso_defs.specs.Bytes.{space, lower_v}
 use Rattle.iso_defs.specs.Texts.{line, decimal_text, vertex_head, face_head}
 use Rattle.iso_base.specs.declared.decimal.Thousandth.{Thousandth}

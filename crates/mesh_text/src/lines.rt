@@ -1,6 +1,6 @@
 //! Lines that are gathered in a buffer, with the tables that their numbers are made of.
 
-ghost use Rattle.std.specs.Prelude.{◌≡◌, ◌+◌, ◌<◌, ◌≤◌, ◌^◌, ◌++◌, [], All, length, decimal, unsigned_abs};
+ghost use Rattle.std.specs.Prelude.{◌≡◌, ◌+◌, ◌<◌, ◌≤◌, ◌^◌, ◌++◌, [], All, drop, length, decimal, unsigned_abs};
 ghost use Rattle.mesh_text.specs.Pieces.{parts_line, thirds_line};
 ghost use Rattle.mesh_text.specs.Lines.{along, letter_line, obj_vertex_line, ply_vertex_line};
 ghost use Rattle.mesh_text.specs.Numbers.{IsShort, number_text};
@@ -9,20 +9,17 @@ use crate::digits::put_letter;
 use crate::fours::{Fours, put_last_three};
 use crate::number::{Number, put_line};
 use crate::obj::write_obj_vertex;
-use crate::piece::Piece;
+use crate::piece::{Piece, put_text};
 use crate::ply::write_ply_vertex;
 use iso_base::Thousandth;
 use number_digits::put_byte;
 use std::marker::Model;
 
-/// The bytes of some lines.
-const PAGE: usize = 4096;
+/// The bytes of some lines, 69,632 at most, and behind them room for what a piece moves at once beyond its text.
+const SPACE: usize = 69_664;
 
-/// Behind them stands room for what a piece moves at once beyond its text.
-const SPACE: usize = 4128;
-
-/// Lines one behind another, each written where it stays until all are taken, and a table of digits, four to a number.
-/// Contracts see the bytes of the lines, which are at most 4,096.
+/// Lines one behind another, each written where it stays until it is taken, and a table of digits, four to a number.
+/// Contracts see the bytes of the lines, which are at most 69,632.
 #[derive(Drop)]
 pub struct Lines {
     bytes: [u8; SPACE],
@@ -37,7 +34,7 @@ impl Model for Lines {
 
     ghost view = { λ l. take l.end l.bytes };
 
-    ghost invariant = { λ l. (l.end ≤ 4096) × (length l.bytes ≡ 4128) };
+    ghost invariant = { λ l. (l.end ≤ 69632) × (length l.bytes ≡ 69664) };
 }
 
 impl Lines {
@@ -64,7 +61,7 @@ impl Lines {
     #[inline(always)]
     pub fn len(&self) -> usize
         ensures value { result ≡ length self.now }
-        ensures bound { result ≤ 4096 }
+        ensures bound { result ≤ 69632 }
     {
         self.end
     }
@@ -77,13 +74,30 @@ impl Lines {
         self.end = 0;
     }
 
+    /// Lets the first bytes go: those behind them move to the front.
+    pub fn drop_front(&mut self, count: usize)
+        requires { count ≤ length self.old }
+        ensures { self.new ≡ drop count self.old }
+    {
+        self.bytes.copy_within(count..self.end, 0);
+        self.end -= count;
+    }
+
+    /// Puts bytes behind the others.
+    pub fn push(&mut self, text: &[u8])
+        requires { length self.old + length text.now ≤ 69632 }
+        ensures { self.new ≡ self.old ++ text.now }
+    {
+        self.end = put_text(text, &mut self.bytes, self.end);
+    }
+
     /// Puts the line of a vertex in PLY behind the others.
     #[inline(always)]
     pub fn push_ply_vertex(&mut self, vertex: &[Thousandth; 3])
         requires x { unsigned_abs (along vertex.now 0) < 2 ^ 44 }
         requires y { unsigned_abs (along vertex.now 1) < 2 ^ 44 }
         requires z { unsigned_abs (along vertex.now 2) < 2 ^ 44 }
-        requires room { length self.old + 64 ≤ 4096 }
+        requires room { length self.old + 64 ≤ 69632 }
         ensures line { self.new ≡ self.old ++ ply_vertex_line vertex.now }
         ensures few { length self.new ≤ length self.old + 64 }
     {
@@ -96,7 +110,7 @@ impl Lines {
         requires x { unsigned_abs (along vertex.now 0) < 2 ^ 44 }
         requires y { unsigned_abs (along vertex.now 1) < 2 ^ 44 }
         requires z { unsigned_abs (along vertex.now 2) < 2 ^ 44 }
-        requires room { length self.old + 64 ≤ 4096 }
+        requires room { length self.old + 64 ≤ 69632 }
         ensures line { self.new ≡ self.old ++ obj_vertex_line vertex.now }
         ensures few { length self.new ≤ length self.old + 64 }
     {
@@ -117,7 +131,7 @@ impl Lines {
         requires tail { tail.now.len ≤ 32 }
         requires fits { front.now.len + (middle.now.len + tail.now.len) ≤ 61 }
         requires bound { n < 1000 }
-        requires room { length self.old + 64 ≤ 4096 }
+        requires room { length self.old + 64 ≤ 69632 }
         ensures line { self.new ≡ self.old ++ parts_line front.now middle.now n tail.now }
         ensures few { length self.new ≤ length self.old + 64 }
     {
@@ -134,7 +148,7 @@ impl Lines {
         requires y { y.now.len ≤ 16 }
         requires z { z.now.len ≤ 16 }
         requires rest { All (λ n. n < 1000) at.now }
-        requires room { length self.old + 64 ≤ 4096 }
+        requires room { length self.old + 64 ≤ 69632 }
         ensures line { self.new ≡ self.old ++ thirds_line x.now y.now z.now at.now }
         ensures few { length self.new ≤ length self.old + 64 }
     {
@@ -153,7 +167,7 @@ impl Lines {
         requires first { IsShort a.now }
         requires second { IsShort b.now }
         requires third { IsShort c.now }
-        requires room { length self.old + 64 ≤ 4096 }
+        requires room { length self.old + 64 ≤ 69632 }
         ensures line { self.new
             ≡ self.old ++ letter_line letter (number_text a.now) (number_text b.now) (number_text c.now) }
         ensures few { length self.new ≤ length self.old + 64 }

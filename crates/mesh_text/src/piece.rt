@@ -8,7 +8,7 @@ use number_digits::{Digits, put_array};
 
 /// Writes bytes from a place on.
 #[inline(always)]
-fn put_text(text: &[u8], room: &mut [u8], at: usize) -> usize
+pub(crate) fn put_text(text: &[u8], room: &mut [u8], at: usize) -> usize
     requires space { at + length text.now ≤ length room.old }
     ensures end { result ≡ at + length text.now }
     ensures written { take result room.new ≡ take at room.old ++ text.now }

@@ -1,36 +1,49 @@
-use Rattle.std.proofs.Common.{◌≡◌, ◌+◌, ◌≤◌, ◌∙◌, ℕ, List, ◌++◌, length, take, sym, ap, arith}
-use Rattle.std.proofs.lemmas.List.{append-nil, take-take}
+use Rattle.std.proofs.Common.{◌≡◌, ◌+◌, ◌-◌, sym, ap, length, take, drop, arith}
+use Rattle.std.proofs.lemmas.List.{length-drop, length-take}
 use Rattle.std.proofs.lemmas.Result.{err_from_is_err_and}
+use Rattle.mesh_lines.specs.Blocks.{counted}
 use Rattle.mesh_lines.proofs.Settled.{block_cut, block_written}
 use Rattle.mesh_lines.proofs.block.Block.settle.Goals as goal
+
+pub slice_bounds-write_all_of-end : goal.slice_bounds-write_all_of-end
+slice_bounds-write_all_of-end g c =
+    let page : length c.self.inside.lines - 65536 ≡ c.args.self.now.page = ap (λ b. b.page) c.self.view_is in
+    let count : length c.as_bytes.result.now ≡ length c.self.inside.lines = ap length c.as_bytes.ensures in
+    let front = length-take 65536 c.as_bytes.result.now in
+    omega (arith, c.requires.whole)
 
 pub returns-in_err-write_all_of-clause-put : goal.returns-in_err-write_all_of-clause-put
 returns-in_err-write_all_of-clause-put g c =
     let p = err_from_is_err_and c.from_residual.result c.from_residual.ensures.1 in
-    let room : List ℕ = c.move_lines.new.room in
-    let end : ℕ = c.self.inside.len + c.len.result in
-    let all : List ℕ = take end room in
-    let whole : 65536 ≤ end = omega (arith, c.if-end-lt-BLOCK.false) in
-    let moved : all ≡ take c.self.inside.len c.self.inside.bytes ++ c.self.inside.lines
-    = ap (λ n. take (c.self.inside.len + n) room) c.len.ensures.value ∙ c.move_lines.ensures.moved in
     rw p.1 (record {
-      staged = block_cut _ _ _ _ _ _ all _ 65536 (sym (ap (λ b. b.waiting) c.self.view_is) ∙ sym moved)
-          (sym (take-take 65536 end room whole)) c.in_err-write_all_of.ensures;
+      staged = block_cut _ _ _ _ _ _ c.self.inside.lines _ 65536 (sym (ap (λ b. b.waiting) c.self.view_is))
+          (ap (take 65536) c.as_bytes.ensures) c.in_err-write_all_of.ensures;
       total = tt;
     })
 
 pub returns-clause-put : goal.returns-clause-put
-returns-clause-put g c =
-    let room : List ℕ = c.move_lines.new.room in
-    let end : ℕ = c.self.inside.len + c.len.result in
-    let all : List ℕ = take end room in
-    let whole : 65536 ≤ end = omega (arith, c.if-end-lt-BLOCK.false) in
-    let moved : all ≡ take c.self.inside.len c.self.inside.bytes ++ c.self.inside.lines
-    = ap (λ n. take (c.self.inside.len + n) room) c.len.ensures.value ∙ c.move_lines.ensures.moved in
-    let rest : List ℕ = take c.move_rest-self-inside.result c.move_rest-self-inside.new.bytes in
-    record {
-      staged = block_written _ _ _ _ _ _ all _ 65536 (sym (ap (λ b. b.waiting) c.self.view_is) ∙ sym moved)
-          (ap (λ l. rest ++ l) c.move_lines.ensures.none ∙ (append-nil rest ∙ c.move_rest-self-inside.ensures.rest))
-          (sym (take-take 65536 end room whole)) c.in_ok-write_all_of.ensures;
-      total = omega (arith, c.total-self-inside.ensures, ap length c.move_lines.ensures.none);
-    }
+returns-clause-put g c = record {
+  staged = block_written _ _ _ _ _ _ c.self.inside.lines _ 65536 (sym (ap (λ b. b.waiting) c.self.view_is))
+      c.drop_front.ensures (ap (take 65536) c.as_bytes.ensures) c.in_ok-write_all_of.ensures;
+  total =
+      let page : length c.self.inside.lines - 65536 ≡ c.args.self.now.page = ap (λ b. b.page) c.self.view_is in
+      let total : counted (c.self.inside.written + length c.self.inside.lines) ≡ c.args.self.now.total = ap (λ b. b.total) c.self.view_is in
+      let moved : length c.drop_front.new.self ≡ length (drop 65536 c.self.inside.lines) = ap length c.drop_front.ensures in
+      let rest = length-drop 65536 c.self.inside.lines in
+      omega (arith, c.requires.whole, c.saturating_add-self-inside.ensures);
+}
+
+pub returns-clause-room : goal.returns-clause-room
+returns-clause-room g c =
+    let page : length c.self.inside.lines - 65536 ≡ c.args.self.now.page = ap (λ b. b.page) c.self.view_is in
+    let moved : length c.drop_front.new.self ≡ length (drop 65536 c.self.inside.lines) = ap length c.drop_front.ensures in
+    let rest = length-drop 65536 c.self.inside.lines in
+    omega (arith, c.requires.few)
+
+pub returns-clause-bytes : goal.returns-clause-bytes
+returns-clause-bytes g c =
+    let page : length c.self.inside.lines - 65536 ≡ c.args.self.now.page = ap (λ b. b.page) c.self.view_is in
+    let total : counted (c.self.inside.written + length c.self.inside.lines) ≡ c.args.self.now.total = ap (λ b. b.total) c.self.view_is in
+    let moved : length c.drop_front.new.self ≡ length (drop 65536 c.self.inside.lines) = ap length c.drop_front.ensures in
+    let rest = length-drop 65536 c.self.inside.lines in
+    omega (arith, c.requires.whole, c.saturating_add-self-inside.ensures)
