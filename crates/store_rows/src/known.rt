@@ -146,6 +146,10 @@ impl<'a> KnownRows<'a> {
         // Reading the sizes brings in what is true of every volume at a level.
         let _ = field.sizes();
         let count = self.list_anew(field, y, z);
+        if count == 0 {
+            // A walk does not come back to a row without crossing edges.
+            return count;
+        }
         self.recent.put(key, &self.list[..count]);
         count
     }
