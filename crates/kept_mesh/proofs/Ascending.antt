@@ -1,12 +1,12 @@
 -- Entries stand in ascending order.
-use Rattle.std.proofs.Common.{◌≡◌, ◌∙◌, ℕ, zero, suc, ◌+◌, ◌*◌, ◌<◌, ◌≤◌, Bool, true, false, cond, List, ◌∷◌, length, get_or, sym, ap, subst, arith, ltb}
+use Rattle.std.proofs.Common.{All, ◌≡◌, ◌∙◌, ℕ, zero, suc, ◌+◌, ◌*◌, ◌<◌, ◌≤◌, Bool, true, false, cond, List, ◌∷◌, length, get_or, sym, ap, subst, arith, ltb}
 use Rattle.std.specs.List.Sorted.{IsPartitionedBy}
 use Rattle.std.proofs.lemmas.Bool.{lt-ltb, ltb-true}
+use Rattle.std.proofs.lemmas.List.Elements.{All-cons, All-nil}
 use Rattle.iso_defs.specs.Bricks.{entries}
 use Rattle.brick_mesh.specs.Block.{BrickAt, heights}
 use Rattle.brick_mesh.specs.Entries.{entries_from, entry_of}
 use Rattle.brick_mesh.proofs.Runs.{entries_all, is_active_in}
-use Rattle.kept_mesh.specs.Kept.{AreAscending}
 use Rattle.kept_mesh.proofs.EntryRuns.{none, small, step}
 
 -- a number before greater ones
@@ -48,17 +48,15 @@ module _ (b : BrickAt) where
   pub parted : (least : ℕ) (all : List ℕ) → all ≡ entries b.grid (heights b) b.brick → IsPartitionedBy (λ e. ltb e least) all
   parted least all is = subst (IsPartitionedBy (λ e. ltb e least)) (sym (is ∙ sym (entries_all b))) (parted_from least 0 512)
 
-  -- and their cells ascend
-  cells_from : (first n : ℕ) → AreAscending (entries_from b first n)
-  cells_from first zero = λ i j order low. absurd (let e : length (entries_from b first 0) ≡ 0 = ap length (none b first) in omega arith)
-  cells_from first (suc n) = subst AreAscending (sym (step b first n)) (by_test (cells_from (first + 1) n) (is_active_in b first))
+  -- and all of them are of cells of the brick
+  low_from : (first n : ℕ) → first + n ≤ 512 → All (λ e. e < 524288) (entries_from b first n)
+  low_from first zero room = subst (All (λ e. e < 524288)) (sym (none b first)) (All-nil (λ e. e < 524288))
+  low_from first (suc n) room = subst (All (λ e. e < 524288)) (sym (step b first n)) (by_test (low_from (first + 1) n (omega arith)) (is_active_in b first))
     where
-      by_test : AreAscending (entries_from b (first + 1) n) → (t : Bool) → AreAscending (cond t (entry_of b first ∷ entries_from b (first + 1) n) (entries_from b (first + 1) n))
-      by_test up true zero zero order low = absurd (omega arith)
-      by_test up true zero (suc j) order low = (let later = not_less (first + 1) n j 0 (omega arith) in let s = small b first in omega (arith, later, s))
-      by_test up true (suc i) zero order low = absurd (omega arith)
-      by_test up true (suc i) (suc j) order low = up i j (omega arith) (omega arith)
-      by_test up false i j order low = up i j order low
+      by_test : All (λ e. e < 524288) (entries_from b (first + 1) n)
+          → (t : Bool) → All (λ e. e < 524288) (cond t (entry_of b first ∷ entries_from b (first + 1) n) (entries_from b (first + 1) n))
+      by_test later true = All-cons (λ e. e < 524288) (entry_of b first) (entries_from b (first + 1) n) (omega (arith, small b first, room)) later
+      by_test later false = later
 
-  pub cells_ascend : (all : List ℕ) → all ≡ entries b.grid (heights b) b.brick → AreAscending all
-  cells_ascend all is = subst AreAscending (sym (is ∙ sym (entries_all b))) (cells_from 0 512)
+  pub low_entries : (all : List ℕ) → all ≡ entries b.grid (heights b) b.brick → All (λ e. e < 524288) all
+  low_entries all is = subst (All (λ e. e < 524288)) (sym (is ∙ sym (entries_all b))) (low_from 0 512 (omega arith))

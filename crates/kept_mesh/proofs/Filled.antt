@@ -1,13 +1,11 @@
 -- The rows of a plane of a brick.
-use Rattle.std.proofs.Common.{◌≡◌, ◌∙◌, ℕ, ◌+◌, ◌-◌, ◌*◌, ◌/◌, ◌%◌, ◌<◌, ◌≤◌, ◌&&◌, ℤ, true, cond, List, length, drop, get_or, set, take, refl, sym, ap, subst, arith, inl, inr, zero-add}
-use Rattle.std.proofs.lemmas.Bool.{cases_lt}
-use Rattle.std.proofs.lemmas.List.{ext_get_or, get_or-drop, get_or-set_other, get_or-set_same, get_or-take, length-drop, length-set, length-take}
+use Rattle.std.proofs.Common.{◌≡◌, ◌∙◌, ℕ, ◌+◌, ◌-◌, ◌*◌, ◌/◌, ◌%◌, ◌<◌, ◌≤◌, ◌&&◌, ℤ, true, cond, List, length, drop, get_or, set, take, refl, sym, ap, subst, arith, zero-add}
+use Rattle.std.proofs.lemmas.List.{ext_get_or, get_or-drop, get_or-set_same, get_or-take, length-drop, length-take}
 use Rattle.std.proofs.lemmas.List.FromFn.{get_or-map-range_with_len, length-map-range_with_len}
 use Rattle.iso_defs.specs.Grid.{Grid}
 use Rattle.iso_defs.specs.Cell.{cell_signs}
-use Rattle.iso_defs.specs.Bricks.{brick_cell, brick_count, brick_point, cells_along, entries, in_brick, is_mixed}
+use Rattle.iso_defs.specs.Bricks.{brick_cell, brick_point, cells_along, entries, in_brick, is_mixed}
 use Rattle.iso_base.specs.Shifted.{field}
-use Rattle.iso_base.specs.Sizing.{IsGrid}
 use Rattle.iso_base.specs.Volume.{Volume}
 use Rattle.brick_store.specs.Holding.{points_along}
 use Rattle.brick_mesh.specs.Block.{BrickAt, IsCell, heights}
@@ -17,10 +15,9 @@ use Rattle.brick_mesh.proofs.Spans.{inside, offsets}
 use Rattle.mesh_cache.specs.Cache.{Item}
 use Rattle.mesh_cache.specs.Economy.{is_fresh}
 use Rattle.stitch_rows.specs.Named.{IsCellRow}
-use Rattle.stitch_rows.proofs.Places.{few_bricks}
-use Rattle.kept_mesh.specs.declared.planes.Plane.{Plane}
+use Rattle.kept_mesh.specs.declared.planes.Planes.{Planes}
 use Rattle.kept_mesh.specs.Kept.{last_case, looped_case, looped_cases}
-use Rattle.kept_mesh.specs.Planes.{AreNone, IsHeld, IsPlane, IsPlaneAt}
+use Rattle.kept_mesh.specs.Planes.{AreNone, ArePlanes, HavePlane, IsHeld}
 use Rattle.kept_mesh.proofs.EntryRuns.{case_at, case_of_cell}
 
 -- the first row of cells of a plane in which the brick has a row of cells
@@ -30,6 +27,12 @@ first_there g brick y z row =
     let hz : z < 8 = row.z_low in
     let o = offsets g brick 1 (y + 1) (z + 1) (omega arith) (omega arith) (omega arith) row.there in
     inside g brick 1 1 (z + 1) (record { x-in = o.x-in; y-in = omega (arith, o.y-in); z-in = o.z-in }) (omega arith) (omega arith) (omega arith)
+
+-- and that of a plane before it
+pub before_there : (g : Grid) (brick z first : ℕ) → in_brick g brick 1 1 (z + 1) ≡ true → z < 8 → first ≤ z → in_brick g brick 1 1 (first + 1) ≡ true
+before_there g brick z first there low from =
+    let o = offsets g brick 1 1 (z + 1) (omega arith) (omega arith) (omega (arith, low)) there in
+    inside g brick 1 1 (first + 1) (record { x-in = o.x-in; y-in = o.y-in; z-in = omega (arith, o.z-in, from) }) (omega arith) (omega arith) (omega (arith, low, from))
 
 -- the cell at a place of a row that is there
 cell_there : (b : BrickAt) (y z x cell : ℕ) → IsCellRow b.grid b.brick y z → x + 1 < points_along b.grid b.brick 0 → x < 8 → cell ≡ 64 * z + (8 * y + x) → IsCell b cell
@@ -44,11 +47,12 @@ cell_there b y z x cell row room few is =
           (omega arith) (omega arith) (omega arith);
     }
 
--- the cases of a plane of a brick, by its entries
-module _ (b : BrickAt) (z : ℕ) (all cases : List ℕ) (is : all ≡ entries b.grid (heights b) b.brick) (long : length cases ≡ 64)
-    (each : (k : ℕ) → k < 64 → get_or cases k 0 ≡ last_case 0 all (64 * z + k)) where
-  module _ (y : ℕ) (row : IsCellRow b.grid b.brick y z) where
-    case_here : (x : ℕ) → x + 1 < points_along b.grid b.brick 0 → x < 8 → get_or cases (8 * y + x) 0 ≡ looped_case b.grid (heights b) (brick_point b.grid b.brick x y z)
+-- the cases of some planes of a brick, by its entries
+module _ (b : BrickAt) (first end : ℕ) (all whole cases : List ℕ) (is : all ≡ entries b.grid (heights b) b.brick) (long : length cases ≡ 256)
+    (half : end ≤ first / 4 * 4 + 4) (each : (k : ℕ) → 64 * first ≤ k → k < 64 * end → get_or whole k 0 ≡ last_case 0 all k)
+    (put : (k : ℕ) → k < 256 → get_or cases k 0 ≡ get_or whole (64 * (first / 4 * 4) + k) 0) where
+  module _ (y z : ℕ) (from : first ≤ z) (to : z < end) (row : IsCellRow b.grid b.brick y z) where
+    case_here : (x : ℕ) → x + 1 < points_along b.grid b.brick 0 → x < 8 → get_or cases (8 * (y + 8 * (z % 4)) + x) 0 ≡ looped_case b.grid (heights b) (brick_point b.grid b.brick x y z)
     unfolding looped_case case_of
     case_here x room few =
         let hy : y < 8 = row.y_low in
@@ -63,68 +67,55 @@ module _ (b : BrickAt) (z : ℕ) (all cases : List ℕ) (is : all ≡ entries b.
         let point : brick_cell b.grid b.brick cell ≡ brick_point b.grid b.brick x y z
         = ap (λ i. brick_point b.grid b.brick i (cell / 8 % 8) (cell / 64)) along_x
         ∙ (ap (λ j. brick_point b.grid b.brick x j (cell / 64)) along_y ∙ ap (brick_point b.grid b.brick x y) along_z) in
-        each (8 * y + x) (omega arith)
+        let same : first / 4 ≡ z / 4 = omega (arith, from, to, half) in
+        let at : 64 * (first / 4 * 4) + (8 * (y + 8 * (z % 4)) + x) ≡ cell = omega (arith, same) in
+        put (8 * (y + 8 * (z % 4)) + x) (omega arith)
+        ∙ (ap (λ k. get_or whole k 0) at
+        ∙ (each cell (omega (arith, from)) (omega (arith, to))
         ∙ (case_of_cell b cell 0 all (omega arith) is
         ∙ (ap (λ t. cond t (case_at b cell) 0) mixed
-        ∙ ap (λ q. cond (is_mixed (cell_signs b.grid (heights b) q)) (case_of b.grid (heights b) q) 0) point))
+        ∙ ap (λ q. cond (is_mixed (cell_signs b.grid (heights b) q)) (case_of b.grid (heights b) q) 0) point))))
 
-    pub plane_row : (width : ℕ) → width ≡ points_along b.grid b.brick 0 - 1 → take width (drop (8 * y) cases) ≡ looped_cases b.grid (heights b) b.brick y z
-    plane_row width w =
+    pub planes_row : (width : ℕ) → width ≡ points_along b.grid b.brick 0 - 1 → take width (drop (8 * (y + 8 * (z % 4))) cases) ≡ looped_cases b.grid (heights b) b.brick y z
+    planes_row width w =
         let hy : y < 8 = row.y_low in
+        let hz : z < 8 = row.z_low in
+        let start : ℕ = 8 * (y + 8 * (z % 4)) in
         let few : width ≡ cells_along b.grid b.brick = omega arith in
         let narrow : width ≤ 8 = omega arith in
-        let rest : length (drop (8 * y) cases) ≡ 64 - 8 * y = length-drop (8 * y) cases ∙ ap (λ n. n - 8 * y) long in
-        let count : length (take width (drop (8 * y) cases)) ≡ width = length-take width (drop (8 * y) cases) ∙ (omega (arith, rest)) in
+        let rest : length (drop start cases) ≡ 256 - start = length-drop start cases ∙ ap (λ n. n - start) long in
+        let count : length (take width (drop start cases)) ≡ width = length-take width (drop start cases) ∙ (omega (arith, rest)) in
         let case = λ (x : ℕ). looped_case b.grid (heights b) (brick_point b.grid b.brick x y z) in
-        ext_get_or 0 (take width (drop (8 * y) cases)) (looped_cases b.grid (heights b) b.brick y z)
+        ext_get_or 0 (take width (drop start cases)) (looped_cases b.grid (heights b) b.brick y z)
         (count ∙ (few ∙ sym (length-map-range_with_len case 0 (cells_along b.grid b.brick))))
         (λ x low.
         let within : x < width = omega (arith, count) in
-        get_or-take width (drop (8 * y) cases) x 0 within
-        ∙ (get_or-drop (8 * y) cases x 0
+        get_or-take width (drop start cases) x 0 within
+        ∙ (get_or-drop start cases x 0
         ∙ (case_here x (omega arith) (omega arith)
         ∙ sym (get_or-map-range_with_len case 0 (cells_along b.grid b.brick) x x 0 (omega arith) (zero-add x)))))
 
--- a plane of no brick
-pub none_plane : (v : Volume) (level : ℤ) (items : List Item) (plane : Plane) → IsGrid v.grid → plane.brick ≡ 4294967295 → plane.width ≤ 8 → IsPlane v level items plane
-none_plane v level items plane is none narrow = record {
-  narrow = narrow;
-  fresh = λ known. absurd (omega (arith, known, few_bricks v.grid is, none));
-  rows = λ y row. absurd (omega (arith, row.known, few_bricks v.grid is, none));
+-- no planes
+pub none_planes : (v : Volume) (level : ℤ) (items : List Item) (planes : Planes) → AreNone planes → ArePlanes v level items planes
+none_planes v level items planes are = record {
+  narrow = are.narrow;
+  fresh = λ some. absurd (omega (arith, some, are.none));
+  rows = λ y z from to row. absurd (omega (arith, to, are.none));
 }
 
--- the cases of a row of a plane
-pub row_held : (v : Volume) (level : ℤ) (items : List Item) (brick y z : ℕ) (plane : Plane) → IsPlane v level items plane → IsPlaneAt brick z plane → IsCellRow v.grid brick y z
-    → take plane.width (drop (8 * y) plane.cases) ≡ looped_cases v.grid (field v.samples level) brick y z
-row_held v level items brick y z plane is at row =
-    is.rows y (subst (λ n. IsCellRow v.grid plane.brick y n) (sym at.same_z) (subst (λ n. IsCellRow v.grid n y z) (sym at.same_brick) row))
-    ∙ (ap (λ n. looped_cases v.grid (field v.samples level) n y plane.z) at.same_brick ∙ ap (λ n. looped_cases v.grid (field v.samples level) brick y n) at.same_z)
+module _ (v : Volume) (level : ℤ) (items : List Item) (brick z : ℕ) (planes : Planes) (are : ArePlanes v level items planes) (have : HavePlane brick z planes) where
+  -- the cases of a row of a plane that they have
+  pub row_held : (y : ℕ) → IsCellRow v.grid brick y z → take planes.width (drop (8 * (y + 8 * (z % 4))) planes.cases) ≡ looped_cases v.grid (field v.samples level) brick y z
+  row_held y row =
+      are.rows y z have.from have.to (subst (λ n. IsCellRow v.grid n y z) (sym have.same_brick) row)
+      ∙ ap (λ n. looped_cases v.grid (field v.samples level) n y z) have.same_brick
 
--- its brick is kept
-pub fresh_held : (v : Volume) (level : ℤ) (items : List Item) (brick z : ℕ) (plane : Plane) → IsPlane v level items plane → IsPlaneAt brick z plane → brick < brick_count v.grid
-    → is_fresh brick level items ≡ true
-fresh_held v level items brick z plane is at known =
-    subst (λ n. is_fresh n level items ≡ true) at.same_brick (is.fresh (subst (λ n. n < brick_count v.grid) (sym at.same_brick) known))
+  -- their brick is kept
+  pub fresh_held : is_fresh brick level items ≡ true
+  fresh_held = subst (λ n. is_fresh n level items ≡ true) have.same_brick (are.fresh (omega (arith, have.from, have.to)))
 
--- one plane of no brick more
-pub none_more : (planes : List Plane) (at : ℕ) (plane : Plane) → at < 128 → plane.brick ≡ 4294967295 → plane.width ≤ 8 → AreNone planes at → AreNone (set planes at plane) (at + 1)
-none_more planes at plane low none narrow before = record {
-  long = length-set planes at plane ∙ before.long;
-  brick = λ k d h. elim (cases_lt k at) [
-    | inl earlier ↦ ap (λ (p : Plane). p.brick) (get_or-set_other planes at k plane d (λ e. omega arith)) ∙ before.brick k d earlier
-    | inr here ↦ ap (λ (p : Plane). p.brick) (placed k d (omega arith)) ∙ none
-  ];
-  narrow = λ k d h. elim (cases_lt k at) [
-    | inl earlier ↦ subst (λ (p : Plane). p.width ≤ 8) (sym (get_or-set_other planes at k plane d (λ e. omega arith))) (before.narrow k d earlier)
-    | inr here ↦ subst (λ (p : Plane). p.width ≤ 8) (sym (placed k d (omega arith))) narrow
-  ];
-}
-  where
-    placed : (k : ℕ) (d : Plane) → at ≡ k → get_or (set planes at plane) k d ≡ plane
-    placed k d e = subst (λ n. get_or (set planes at plane) n d ≡ plane) e (get_or-set_same planes at plane d (omega (arith, before.long)))
-
--- a plane that is put in the place of its brick
-pub held_here : (brick z : ℕ) (planes : List Plane) (plane : Plane) → length planes ≡ 128 → plane.brick ≡ brick → plane.z ≡ z → IsHeld brick z (set planes (brick % 128) plane)
-held_here brick z planes plane long b e = record {
-  here = λ none. subst (IsPlaneAt brick z) (sym (get_or-set_same planes (brick % 128) plane none (omega (arith, long)))) (record { same_brick = b; same_z = e });
+-- planes that are put in the place of their brick
+pub held_here : (brick z : ℕ) (held : List Planes) (planes : Planes) → length held ≡ 256 → HavePlane brick z planes → IsHeld brick z (set held (brick % 256) planes)
+held_here brick z held planes long have = record {
+  here = λ other. subst (HavePlane brick z) (sym (get_or-set_same held (brick % 256) planes other (omega (arith, long)))) have;
 }

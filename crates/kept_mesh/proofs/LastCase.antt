@@ -35,17 +35,22 @@ module _ (p : ℕ → Bool) (es : List ℕ) (parted : IsPartitionedBy p es) (n :
       subst (λ e. p e ≡ true) (sym (get_or-drop n es i d))
       (parted (n + i) (n + j) d (omega arith) (omega arith) (subst (λ e. p e ≡ true) (get_or-drop n es j d) is))
 
-module _ (z : ℕ) (es : List ℕ) where
-  -- entries of planes behind this one are of none of its cells
-  pub none_behind : IsPartitionedBy (λ e. ltb e (65536 * z + 65536)) es → (0 < length es → 65536 * z + 65536 ≤ get_or es 0 0)
-      → (other k : ℕ) → k < 64 → last_case other es (64 * z + k) ≡ other
-  none_behind parted first other k low = no_case other es (64 * z + k) (λ j there.
-      let from : 65536 * z + 65536 ≤ get_or es 0 0 = first (omega arith) in
-      let behind : 65536 * z + 65536 ≤ get_or es j 0 = elim (cases_lt (get_or es j 0) (65536 * z + 65536)) [
-        | inl less ↦ absurd (let l = ltb-true _ _ (parted 0 j 0 (omega arith) there (lt-ltb _ _ less)) in omega (arith, l, from))
-        | inr from ↦ from
-      ] in
-      ne_eqb (get_or es j 0 / 1024) (64 * z + k) (omega (arith, behind, low)))
+-- entries of planes behind some are of none of their cells
+pub none_behind : (end : ℕ) (es : List ℕ) → IsPartitionedBy (λ e. ltb e (65536 * end)) es → (0 < length es → 65536 * end ≤ get_or es 0 0)
+    → (other k : ℕ) → k < 64 * end → last_case other es k ≡ other
+none_behind end es parted first other k low = no_case other es k (λ j there.
+    let from : 65536 * end ≤ get_or es 0 0 = first (omega arith) in
+    let behind : 65536 * end ≤ get_or es j 0 = elim (cases_lt (get_or es j 0) (65536 * end)) [
+      | inl less ↦ absurd (let l = ltb-true _ _ (parted 0 j 0 (omega arith) there (lt-ltb _ _ less)) in omega (arith, l, from))
+      | inr from ↦ from
+    ] in
+    ne_eqb (get_or es j 0 / 1024) k (omega (arith, behind, low)))
+
+-- and so are those of planes before them
+pub none_before : (first : ℕ) (es : List ℕ) → ((i : ℕ) → i < length es → get_or es i 0 < 65536 * first)
+    → (other k : ℕ) → 64 * first ≤ k → last_case other es k ≡ other
+none_before first es before other k from = no_case other es k (λ j there.
+    ne_eqb (get_or es j 0 / 1024) k (omega (arith, before j there, from)))
 
 -- one entry of a list more
 pub case_next : (other : ℕ) (es : List ℕ) (at cell : ℕ) → at < length es
@@ -56,13 +61,3 @@ case_next other es at cell low =
 -- a front of a list, and then the rest
 pub case_rest : (other : ℕ) (es : List ℕ) (n cell : ℕ) → last_case (last_case other (take n es) cell) (drop n es) cell ≡ last_case other es cell
 case_rest other es n cell = sym (case_join other (take n es) (drop n es) cell) ∙ ap (λ l. last_case other l cell) (take-append-drop n es)
-
--- entries of planes before a plane, and then the rest
-pub case_later : (z : ℕ) (es : List ℕ) (from : ℕ) → from ≤ length es → ((i : ℕ) → i < from → get_or es i 0 < 65536 * z)
-    → (other k : ℕ) → k < 64 → last_case other (drop from es) (64 * z + k) ≡ last_case other es (64 * z + k)
-case_later z es from within before other k low =
-    let none : last_case other (take from es) (64 * z + k) ≡ other = no_case other (take from es) (64 * z + k) (λ i there.
-    let i_low : i < from = omega (arith, there, length-take from es) in
-    let at : get_or (take from es) i 0 ≡ get_or es i 0 = get_or-take from es i 0 i_low in
-    ne_eqb (get_or (take from es) i 0 / 1024) (64 * z + k) (omega (arith, at, before i i_low, low))) in
-    sym (ap (λ o. last_case o (drop from es) (64 * z + k)) none) ∙ case_rest other es from (64 * z + k)

@@ -1,7 +1,6 @@
 pub mod EntryRuns
 pub mod LastCase
 pub mod Ascending
-pub mod CellRuns
 pub mod Waits
 pub mod Names
 pub mod Filled

@@ -1,5 +1,5 @@
 -- The cases that are named for the cells of a volume by what is kept of its bricks.
-use Rattle.std.specs.Prelude.{◌≡◌, ℕ, ◌+◌, ◌/◌, ◌%◌, ◌<◌, ◌==◌, if◌then◌else◌, List, [], ◌∷◌, length, map, slice_index, ℤ}
+use Rattle.std.specs.Prelude.{ℕ, ◌/◌, ◌%◌, ◌==◌, if◌then◌else◌, List, [], ◌∷◌, map, ℤ}
 use Rattle.iso_defs.specs.Lists.{below}
 use Rattle.iso_defs.specs.Grid.{Grid}
 use Rattle.iso_defs.specs.Cell.{cell_signs}
@@ -34,14 +34,6 @@ named_by k = record {
   counts = λ brick. counts_of_entries (entries k.volume.grid (field k.volume.samples k.level) brick);
   kept = λ brick. is_fresh brick k.level k.cache.items;
 }
-
--- the cells of entries ascend
-abbrev pub AreAscending : List ℕ → Type 0
-AreAscending es = (i j : ℕ) → i < j → j < length es → slice_index es i / 1024 < slice_index es j / 1024
-
--- they stand one after the other
-abbrev pub IsRun : List ℕ → Type 0
-IsRun es = (i : ℕ) → i < length es → slice_index es i / 1024 ≡ slice_index es 0 / 1024 + i
 
 -- the case of the last of some entries that is that of a cell, or another number where none is
 abbrev pub last_case : ℕ → List ℕ → ℕ → ℕ

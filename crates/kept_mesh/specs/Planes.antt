@@ -1,32 +1,31 @@
--- The cases of the cells of a brick that lie in a plane across z.
-use Rattle.std.specs.Prelude.{◌≡◌, ℕ, ◌*◌, ◌%◌, ◌<◌, ◌≤◌, ℤ, List, drop, length, slice_index_or, take, true}
-use Rattle.iso_defs.specs.Bricks.{brick_count}
+-- The cases of the cells of a brick that lie in some planes across z.
+use Rattle.std.specs.Prelude.{◌≡◌, ℕ, ◌+◌, ◌*◌, ◌%◌, ◌<◌, ◌≤◌, ℤ, List, drop, slice_index_or, take, true}
 use Rattle.iso_base.specs.Shifted.{field}
 use Rattle.iso_base.specs.Volume.{Volume}
 use Rattle.mesh_cache.specs.Cache.{Item}
 use Rattle.mesh_cache.specs.Economy.{is_fresh}
 use Rattle.stitch_rows.specs.Named.{IsCellRow}
 use Rattle.kept_mesh.specs.Kept.{looped_cases}
-use Rattle.kept_mesh.specs.declared.planes.Plane.{Plane}
+use Rattle.kept_mesh.specs.declared.planes.Planes.{Planes}
 
--- these are the cases of a plane of a brick, if the volume has such a brick; it is kept at the level then
-pub record IsPlane (v : Volume) (level : ℤ) (items : List Item) (plane : Plane) : Type 0 where
-  pub narrow : plane.width ≤ 8
-  pub fresh : plane.brick < brick_count v.grid → is_fresh plane.brick level items ≡ true
-  pub rows : (y : ℕ) → IsCellRow v.grid plane.brick y plane.z
-      → take plane.width (drop (8 * y) plane.cases) ≡ looped_cases v.grid (field v.samples level) plane.brick y plane.z
+-- these are the cases of some planes of a brick, if there are any; it is kept at the level then
+pub record ArePlanes (v : Volume) (level : ℤ) (items : List Item) (planes : Planes) : Type 0 where
+  pub narrow : planes.width ≤ 8
+  pub fresh : planes.across.first < planes.across.end → is_fresh planes.brick level items ≡ true
+  pub rows : (y z : ℕ) → planes.across.first ≤ z → z < planes.across.end → IsCellRow v.grid planes.brick y z
+      → take planes.width (drop (8 * (y + 8 * (z % 4))) planes.cases) ≡ looped_cases v.grid (field v.samples level) planes.brick y z
 
--- the first of 128 planes are of no brick
-pub record AreNone (planes : List Plane) (count : ℕ) : Type 0 where
-  pub long : length planes ≡ 128
-  pub brick : (k : ℕ) (none : Plane) → k < count → (slice_index_or planes k none).brick ≡ 4294967295
-  pub narrow : (k : ℕ) (none : Plane) → k < count → (slice_index_or planes k none).width ≤ 8
+-- these are none
+pub record AreNone (planes : Planes) : Type 0 where
+  pub none : planes.across.end ≡ 0
+  pub narrow : planes.width ≤ 8
 
--- this is that plane of that brick
-pub record IsPlaneAt (brick z : ℕ) (plane : Plane) : Type 0 where
-  pub same_brick : plane.brick ≡ brick
-  pub same_z : plane.z ≡ z
+-- that plane of that brick is among these
+pub record HavePlane (brick z : ℕ) (planes : Planes) : Type 0 where
+  pub same_brick : planes.brick ≡ brick
+  pub from : planes.across.first ≤ z
+  pub to : z < planes.across.end
 
--- of these planes, the one in the brick's place is that plane of that brick
-pub record IsHeld (brick z : ℕ) (planes : List Plane) : Type 0 where
-  pub here : (none : Plane) → IsPlaneAt brick z (slice_index_or planes (brick % 128) none)
+-- it is among those in the brick's place
+pub record IsHeld (brick z : ℕ) (held : List Planes) : Type 0 where
+  pub here : (other : Planes) → HavePlane brick z (slice_index_or held (brick % 256) other)

@@ -1,82 +1,136 @@
-//! The cases of the cells of a brick that lie in a plane across z.
+//! The cases of the cells of a brick that lie in some planes across z.
 
-ghost use Rattle.std.specs.Prelude.{◌≡◌, ◌+◌, ◌<◌, ◌≤◌, List, true};
+ghost use Rattle.std.specs.Prelude.{◌≡◌, ℕ, ◌+◌, ◌*◌, ◌/◌, ◌<◌, ◌≤◌, All, List, slice_index, true};
 ghost use Rattle.iso_defs.specs.Bricks.{brick_count, entries as entries_of_brick, in_brick};
 ghost use Rattle.iso_base.specs.Shifted.{field};
 ghost use Rattle.mesh_cache.specs.Cache.{Item};
 ghost use Rattle.mesh_cache.specs.Economy.{is_fresh};
-ghost use Rattle.kept_mesh.specs.Planes.{AreNone, IsPlane};
+ghost use Rattle.kept_mesh.specs.Planes.{AreNone, ArePlanes};
 
-use crate::entries::{CELLS, plane_cases};
+use crate::entries::{Across, CELLS, put_across};
 use brick_store::{BrickId, BrickStore};
 use iso_base::Level;
 use page_pool::Entries;
+use stitch_rows::count_along;
 
-/// As many planes are held as bricks stand along x, in all but the widest grid: of the 129 bricks there the first and the last share a
-/// place, which costs time alone. The place of a brick is found without a division so.
-pub const PLANES: u32 = 128;
+/// So many bricks have a place for their cases: all of a layer in a volume of 128 points along x and y. The place of a
+/// brick is found without a division.
+pub const PLACES: u32 = 256;
 
-/// The case numbers of the cells of a kept brick that lie in a plane across z, 0 of those without a crossing edge: which brick and
-/// which plane, how many cells a row has, and the cells of its rows, eight places for each row along y.
+/// Several planes of a brick are held at once where a layer has at most so many bricks. Where there are more, a brick has
+/// lost its place before its next plane is asked for. Of the 289 of a volume of 130 points, which is one of 128 in a pad,
+/// most have a place of their own.
+const MOST: u32 = 320;
+
+/// So many planes of a brick are held at most, half of them: more take more room than they save time.
+const GROUP: u8 = 4;
+
+/// So many cells have these planes.
+const HELD: usize = 64 * GROUP as usize;
+
+/// The case numbers of the cells of a kept brick in some planes across z, 0 of those without a crossing edge: which
+/// brick and which planes, all in one half of it, how many cells a row has, and the cells of the rows of this half,
+/// eight places for each row along y, and eight rows for each plane.
 #[derive(Clone, Copy, Drop)]
-pub struct Plane {
+pub struct Planes {
     pub brick: u32,
-    pub z: u8,
+    pub across: Across,
     pub width: u8,
-    pub cases: [u16; CELLS],
+    pub cases: [u16; HELD],
 }
 
-impl Plane {
-    /// A plane of no brick.
-    fn none() -> Plane
-        ensures brick { result.brick ≡ 4294967295 }
-        ensures narrow { result.width ≤ 8 }
+/// Copies the cases of the planes of a half of a brick, from its first plane on.
+#[inline(always)]
+fn put_half(all: &[u16; CELLS], first: u8, cases: &mut [u16; HELD])
+    requires first { first ≤ 4 }
+    ensures { (k : ℕ) → k < 256 → slice_index cases.new k ≡ slice_index all.now (64 * first + k) }
+{
+    let start = 64 * first as usize;
+    cases.copy_from_slice(&all[start..start + HELD]);
+}
+
+impl Planes {
+    /// No planes.
+    #[inline(always)]
+    fn none() -> Planes
+        ensures { AreNone result }
     {
-        Plane {
-            brick: u32::MAX,
-            z: 0,
+        Planes {
+            brick: 0,
+            across: Across { first: 0, end: 0 },
             width: 0,
-            cases: [0; CELLS],
+            cases: [0; HELD],
         }
     }
-}
 
-/// Planes of no brick.
-pub fn no_planes() -> [Plane; PLANES as usize]
-    ensures { AreNone result 128 }
-{
-    let mut planes = [Plane::none(); PLANES as usize];
-    for at in 0..PLANES as usize {
-        planes[at] = Plane::none();
+    /// Turns to some planes of a brick, by its entries: wherever these are kept at the level.
+    #[inline(always)]
+    pub fn turn_to(
+        &mut self,
+        store: &BrickStore,
+        brick: BrickId,
+        across: Across,
+        level: Level,
+        entries: Entries<'_>,
+    )
+        requires brick { brick.0 < brick_count store.now.grid }
+        requires first { across.first < across.end }
+        requires end { across.end ≤ 8 }
+        requires half { across.end ≤ across.first / 4 * 4 + 4 }
+        requires there { in_brick store.now.grid brick.0 1 1 (across.first + 1) ≡ true }
+        requires entries { entries ≡ entries_of_brick store.now.grid (field store.now.samples level) brick.0 }
+        ensures brick { self.new.brick ≡ brick.0 }
+        ensures across { self.new.across ≡ across }
+        ensures planes { (items : List Item) → is_fresh brick.0 level items ≡ true
+            → ArePlanes store.now level items self.new }
+    {
+        // Reading the sizes brings in what is true of every volume.
+        let _ = store.sizes();
+        // The clauses alone speak of the level.
+        let _ = level;
+        let [along_x, _, _] = store.points_along(brick);
+        self.brick = brick.0;
+        self.across = across;
+        self.width = along_x - 1;
+        let mut all = [0; CELLS];
+        put_across(entries, across, &mut all);
+        put_half(&all, across.first / GROUP * GROUP, &mut self.cases);
     }
-    planes
 }
 
-/// The plane of a brick, from its entries: wherever these are kept at the level.
-pub fn plane_of(
-    store: &BrickStore,
-    brick: BrickId,
-    z: u8,
-    level: Level,
-    entries: Entries<'_>,
-) -> Plane
-    requires brick { brick.0 < brick_count store.now.grid }
-    requires z { z < 8 }
-    requires there { in_brick store.now.grid brick.0 1 1 (z + 1) ≡ true }
-    requires entries { entries ≡ entries_of_brick store.now.grid (field store.now.samples level) brick.0 }
-    ensures brick { result.brick ≡ brick.0 }
-    ensures z { result.z ≡ z }
-    ensures plane { (items : List Item) → is_fresh brick.0 level items ≡ true → IsPlane store.now level items result }
+/// No planes, in each place.
+#[inline(always)]
+pub fn no_planes() -> [Planes; PLACES as usize]
+    ensures { All AreNone result }
 {
-    // Reading the sizes brings in what is true of every volume.
-    let _ = store.sizes();
-    // The clauses alone speak of the level.
-    let _ = level;
-    let [along_x, _, _] = store.points_along(brick);
-    Plane {
-        brick: brick.0,
-        z,
-        width: along_x - 1,
-        cases: plane_cases(entries, z),
+    [Planes::none(); PLACES as usize]
+}
+
+/// Whether a layer has few bricks. This saves work and no result rests on it: the contract leaves both answers free.
+pub fn has_few_bricks(store: &BrickStore) -> bool {
+    let sizes = store.sizes();
+    count_along(sizes.nx()) * count_along(sizes.ny()) <= MOST
+}
+
+/// Which planes of a brick are held when one of them is asked for: those of its half of the brick, or this one.
+#[inline(always)]
+pub fn across_of(z: u8, many: bool) -> Across
+    requires z { z < 8 }
+    ensures first { result.first ≤ z }
+    ensures end { z < result.end }
+    ensures bound { result.end ≤ 8 }
+    ensures half { result.end ≤ result.first / 4 * 4 + 4 }
+{
+    if many {
+        let first = z / GROUP * GROUP;
+        Across {
+            first,
+            end: first + GROUP,
+        }
+    } else {
+        Across {
+            first: z,
+            end: z + 1,
+        }
     }
 }

@@ -1,16 +1,16 @@
 //! The cases of the cells of a volume in bricks: those of a kept brick by its entries, others by its samples.
 
-ghost use Rattle.std.specs.Prelude.{◌≡◌, ◌+◌, ◌*◌, ◌<◌, ◌≤◌, Some, All, drop, length, take, true};
+ghost use Rattle.std.specs.Prelude.{◌≡◌, ◌+◌, ◌*◌, ◌%◌, ◌<◌, ◌≤◌, Some, All, drop, length, take, true};
 ghost use Rattle.std.specs.Bool.{OnTrue};
 ghost use Rattle.iso_defs.specs.Bricks.{brick_count, in_brick};
 ghost use Rattle.mesh_cache.specs.Cache.{kept_at};
 ghost use Rattle.mesh_cache.specs.Economy.{IsRight, is_fresh};
 ghost use Rattle.stitch_rows.specs.Named.{IsCellRow};
 ghost use Rattle.kept_mesh.specs.Kept.{named_by};
-ghost use Rattle.kept_mesh.specs.Planes.{IsHeld, IsPlane, IsPlaneAt};
+ghost use Rattle.kept_mesh.specs.Planes.{ArePlanes, HavePlane, IsHeld};
 
 use crate::counts::{count_anew, count_pages};
-use crate::planes::{PLANES, Plane, no_planes, plane_of};
+use crate::planes::{PLACES, Planes, across_of, has_few_bricks, no_planes};
 use arrayvec::ArrayVec;
 use brick_mesh::extract_row;
 use brick_store::{BrickId, BrickStore};
@@ -21,15 +21,16 @@ use std::simd::prelude::*;
 use std::sync::ledger::Ledger;
 use stitch_rows::{CellRows, Counts};
 
-/// Whether a plane is that plane of that brick.
+/// Whether a plane across z of a brick is among these.
 #[inline(always)]
-fn is_plane(plane: &Plane, brick: BrickId, z: u8) -> bool
-    ensures { OnTrue result (IsPlaneAt brick.0 z plane.now) }
+fn has_plane(planes: &Planes, brick: BrickId, z: u8) -> bool
+    ensures { OnTrue result (HavePlane brick.0 z planes.now) }
 {
-    plane.brick == brick.0 && plane.z == z
+    planes.brick == brick.0 && planes.across.first <= z && z < planes.across.end
 }
 
-/// Makes one of some planes that of a brick, where the cache keeps the brick's entries at a level; says whether it is.
+/// Puts planes of a brick, this one among them, in the brick's place, where the cache keeps the brick's entries at a
+/// level; says whether they are there.
 // Apart, since a row's plane is nearly always at hand.
 #[inline(never)]
 fn hold_anew(
@@ -38,27 +39,28 @@ fn hold_anew(
     level: Level,
     brick: BrickId,
     z: u8,
-    planes: &mut [Plane; PLANES as usize],
+    held: &mut [Planes; PLACES as usize],
 ) -> bool
     requires items { IsRight store.now.grid store.now.samples cache.now.items }
     requires brick { brick.0 < brick_count store.now.grid }
     requires z { z < 8 }
     requires there { in_brick store.now.grid brick.0 1 1 (z + 1) ≡ true }
-    requires planes { All (IsPlane store.now level cache.now.items) planes.old }
-    ensures planes { All (IsPlane store.now level cache.now.items) planes.new }
-    ensures here { OnTrue result (IsHeld brick.0 z planes.new) }
+    requires held { All (ArePlanes store.now level cache.now.items) held.old }
+    ensures held { All (ArePlanes store.now level cache.now.items) held.new }
+    ensures here { OnTrue result (IsHeld brick.0 z held.new) }
     ensures kept { result ≡ is_fresh brick.0 level cache.now.items }
 {
     match cache.kept_entries(brick, level) {
         Some(entries) => {
-            planes[(brick.0 % PLANES) as usize] = plane_of(store, brick, z, level, entries);
+            let across = across_of(z, has_few_bricks(store));
+            held[(brick.0 % PLACES) as usize].turn_to(store, brick, across, level, entries);
             true
         }
         None => false,
     }
 }
 
-/// The same, unless it is that plane already.
+/// The same, unless this plane is there already.
 #[inline(always)]
 fn hold(
     store: &BrickStore,
@@ -66,21 +68,21 @@ fn hold(
     level: Level,
     brick: BrickId,
     z: u8,
-    planes: &mut [Plane; PLANES as usize],
+    held: &mut [Planes; PLACES as usize],
 ) -> bool
     requires items { IsRight store.now.grid store.now.samples cache.now.items }
     requires brick { brick.0 < brick_count store.now.grid }
     requires z { z < 8 }
     requires there { in_brick store.now.grid brick.0 1 1 (z + 1) ≡ true }
-    requires planes { All (IsPlane store.now level cache.now.items) planes.old }
-    ensures planes { All (IsPlane store.now level cache.now.items) planes.new }
-    ensures here { OnTrue result (IsHeld brick.0 z planes.new) }
+    requires held { All (ArePlanes store.now level cache.now.items) held.old }
+    ensures held { All (ArePlanes store.now level cache.now.items) held.new }
+    ensures here { OnTrue result (IsHeld brick.0 z held.new) }
     ensures kept { result ≡ is_fresh brick.0 level cache.now.items }
 {
-    if is_plane(&planes[(brick.0 % PLANES) as usize], brick, z) {
+    if has_plane(&held[(brick.0 % PLACES) as usize], brick, z) {
         return true;
     }
-    hold_anew(store, cache, level, brick, z, planes)
+    hold_anew(store, cache, level, brick, z, held)
 }
 
 /// Replaces the rows by the first cases of a row.
@@ -97,39 +99,41 @@ fn put_cases(row: &[u16], width: u8, rows: &mut ArrayVec<u16, 8>)
     }
 }
 
-/// Replaces the rows by the cases of a row of a plane.
+/// Replaces the rows by the cases of a row of some planes.
 #[inline(always)]
-fn put_row(plane: &Plane, y: u8, rows: &mut ArrayVec<u16, 8>)
+fn put_row(planes: &Planes, y: u8, z: u8, rows: &mut ArrayVec<u16, 8>)
     requires y { y < 8 }
-    requires narrow { plane.now.width ≤ 8 }
-    ensures { rows.new.items ≡ take plane.now.width (drop (8 * y) plane.now.cases) }
+    requires z { z < 8 }
+    requires narrow { planes.now.width ≤ 8 }
+    ensures { rows.new.items ≡ take planes.now.width (drop (8 * (y + 8 * (z % 4))) planes.now.cases) }
 {
-    let start = 8 * y as usize;
-    put_cases(&plane.cases[start..start + 8], plane.width, rows);
+    let start = 8 * (y as usize + 8 * (z % 4) as usize);
+    put_cases(&planes.cases[start..start + 8], planes.width, rows);
 }
 
-/// The cases of the rows of a volume's bricks at a level: of a brick that the cache keeps at the level by its entries. These are
-/// taken from the cache once for all rows of a plane across z, since a walk asks for the rows of neighbours in between.
+/// The cases of the rows of a volume's bricks at a level: of a brick that the cache keeps at the level by its entries.
+/// These are taken from the cache once for all rows of half a brick, or where many bricks of a layer share places, once
+/// for all rows of a plane across z, since a walk asks for the rows of neighbours in between.
 #[derive(Drop)]
 pub struct KeptRows<'a> {
     store: &'a BrickStore,
     cache: &'a MeshCache,
     level: Level,
-    planes: [Plane; PLANES as usize],
+    held: [Planes; PLACES as usize],
 }
 
 impl<'a> Model for KeptRows<'a> {
     ghost use Rattle.std.specs.Prelude.{All};
     ghost use Rattle.mesh_cache.specs.Economy.{IsRight};
     ghost use Rattle.kept_mesh.specs.Kept.{Kept};
-    ghost use Rattle.kept_mesh.specs.Planes.{IsPlane};
+    ghost use Rattle.kept_mesh.specs.Planes.{ArePlanes};
 
     ghost Value = { Kept };
 
     ghost view = { λ r. record { volume = r.store.now; level = r.level; cache = r.cache.now } };
 
     ghost invariant = { λ r. IsRight r.store.now.grid r.store.now.samples r.cache.now.items
-        × All (IsPlane r.store.now r.level r.cache.now.items) r.planes };
+        × All (ArePlanes r.store.now r.level r.cache.now.items) r.held };
 }
 
 impl<'a> KeptRows<'a> {
@@ -138,13 +142,11 @@ impl<'a> KeptRows<'a> {
         requires { IsRight store.now.grid store.now.samples cache.now.items }
         ensures { result ≡ record { volume = store.now; level = level; cache = cache.now } }
     {
-        // Reading the sizes brings in what is true of every volume.
-        let _ = store.sizes();
         KeptRows {
             store,
             cache,
             level,
-            planes: no_planes(),
+            held: no_planes(),
         }
     }
 }
@@ -162,8 +164,8 @@ impl<'a> CellRows for KeptRows<'a> {
         steps: &mut Steps<L>,
     ) {
         let (store, cache, level) = (self.store, self.cache, self.level);
-        if hold(store, cache, level, brick, z, &mut self.planes) {
-            put_row(&self.planes[(brick.0 % PLANES) as usize], y, rows);
+        if hold(store, cache, level, brick, z, &mut self.held) {
+            put_row(&self.held[(brick.0 % PLACES) as usize], y, z, rows);
             return;
         }
         extract_row(store, brick, y, z, level, rows, steps);

@@ -1,4 +1,4 @@
-use Rattle.std.proofs.Common.{◌∙◌, ℕ, ◌+◌, ◌*◌, List, [], ◌∷◌, ap, get_or, arith}
+use Rattle.std.proofs.Common.{◌∙◌, ℕ, List, [], ◌∷◌, ap, get_or, arith}
 use Rattle.std.proofs.lemmas.List.{take_all}
 use Rattle.kept_mesh.specs.Kept.{last_case}
 use Rattle.kept_mesh.proofs.LastCase.{case_next}
@@ -8,13 +8,12 @@ pub loop-entry-preserved : goal.loop-entry-preserved
 loop-entry-preserved c = λ k low.
     let entries : List ℕ = c.args.entries.now in
     let at : ℕ = c.loop-entry.entry-index in
-    let cell : ℕ = 64 * c.args.z + k in
     c.put_case.ensures k low
-    ∙ (ap (λ other. last_case other (get_or entries at 0 ∷ []) cell) (c.loop-entry.invariant k low)
-    ∙ case_next (get_or c.args.cases.now k 0) entries at cell (omega (arith, c.loop-entry-test.true)))
+    ∙ (ap (λ other. last_case other (get_or entries at 0 ∷ []) k) (c.loop-entry.invariant k low)
+    ∙ case_next (get_or c.args.cases.now k 0) entries at k (omega (arith, c.loop-entry-test.true)))
 
 pub returns : goal.returns
 returns c = λ k low.
     let entries : List ℕ = c.args.entries.now in
     c.loop-entry.invariant k low
-    ∙ ap (λ l. last_case (get_or c.args.cases.now k 0) l (64 * c.args.z + k)) (take_all c.loop-entry.entry-index entries c.loop-entry-test.false)
+    ∙ ap (λ l. last_case (get_or c.args.cases.now k 0) l k) (take_all c.loop-entry.entry-index entries c.loop-entry-test.false)
