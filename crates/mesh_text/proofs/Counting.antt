@@ -1,10 +1,11 @@
 -- Numbers with a blank behind them, one after the other.
-use Rattle.std.proofs.Common.{◌≡◌, ℕ, ◌+◌, ◌-◌, ◌*◌, ◌/◌, ◌%◌, ◌<◌, ◌≤◌, ◌^◌, List, [], ◌∷◌, ◌++◌, length, take, set, get_or, decimal, sym, ap, ◌∙◌, append_assoc, arith}
+use Rattle.std.proofs.Common.{◌≡◌, ℕ, ◌+◌, ◌-◌, ◌*◌, ◌/◌, ◌%◌, ◌<◌, ◌≤◌, ◌^◌, List, [], ◌∷◌, ◌++◌, length, take, drop, set, get_or, decimal, refl, sym, ap, ◌∙◌, append_assoc, length-append, arith}
 use Rattle.std.proofs.Math.Seq.{take-append-add}
 use Rattle.std.proofs.lemmas.Fmt.{decimal_step, length-decimal-le}
-use Rattle.std.proofs.lemmas.List.{get_or-set_same, length-set, length-take-le, take-set-le, take-take, take_more_set}
+use Rattle.std.proofs.lemmas.List.{get_or-append_right, get_or-drop, get_or-set_same, length-set, length-take-le, take-set-le, take-take, take_at, take_more_set}
 use Rattle.iso_defs.specs.Texts.{three_digits}
-use Rattle.mesh_text.specs.Numbers.{IsCounter, numbers_line}
+use Rattle.mesh_text.specs.Fours.{rest_text}
+use Rattle.mesh_text.specs.Numbers.{IsCounter, IsFront, numbers_line}
 
 -- digits at the front of an array, the blank behind them, and their number in the last byte
 pub ended_text : (bytes : List ℕ) (end : ℕ) → length bytes ≡ 16 → end ≤ 11
@@ -52,24 +53,43 @@ three_last n lo hi =
     )
 
 -- the digits before the last three are made
-pub counter_made : (thousands rest count : ℕ) (room : List ℕ) → rest < 1000 → thousands ≤ 10 ^ 7 → count ≤ length room → take count room ≡ decimal thousands
-    → IsCounter thousands rest room count
-counter_made thousands rest count room low few within is = record {
-  low = low;
-  front_is = is;
-  few = few;
-  room = omega (arith, sym (length-take-le count room within) ∙ ap length is, length-decimal-le 8 thousands (omega arith) (omega (arith, few)) (omega (arith, few)));
-}
+pub front_made : (thousands count : ℕ) (room : List ℕ) → length room ≡ 16 → thousands ≤ 10 ^ 7 → count ≤ length room → take count room ≡ decimal thousands
+    → IsFront thousands (set room 15 (count + 4)) count
+front_made thousands count room all few within is =
+    let short : count ≤ 8 = omega (arith, sym (length-take-le count room within) ∙ ap length is, length-decimal-le 8 thousands (omega arith) (omega (arith, few)) (omega (arith, few))) in
+    record {
+      front_is = take-set-le count room 15 (count + 4) (omega (arith, short)) ∙ is;
+      few = few;
+      room = short;
+      size = get_or-set_same room 15 (count + 4) 0 (omega (arith, all));
+    }
+
+-- a byte behind the four that are set stays
+last_kept : (front text : List ℕ) (count : ℕ) → length front ≡ 16 → length text ≡ 4 → count ≤ 8
+    → get_or (take count front ++ (text ++ drop (count + 4) front)) 15 0 ≡ get_or front 15 0
+last_kept front text count all four few =
+    get_or-append_right (take count front) (text ++ drop (count + 4) front) count 15 0 (length-take-le count front (omega (arith, all, few))) (omega (arith, few))
+    ∙ (get_or-append_right text (drop (count + 4) front) 4 (15 - count) 0 four (omega (arith, few))
+    ∙ (get_or-drop (count + 4) front (15 - count - 4) 0 ∙ ap (λ i. get_or front i 0) (omega (arith, few))))
 
 -- the text of a number out of these and its last three
-pub counter_text : (thousands rest count : ℕ) (front bytes : List ℕ) → 0 < thousands → IsCounter thousands rest front count → take (count + 3) bytes ≡ take count front ++ three_digits rest
-    → take (count + 3) bytes ++ 32 ∷ [] ≡ decimal (1000 * thousands + rest) ++ 32 ∷ []
-counter_text thousands rest count front bytes some is put =
+pub counter_text : (thousands rest count : ℕ) (front bytes : List ℕ) → length front ≡ 16 → 0 < thousands → IsCounter thousands rest front count
+    → bytes ≡ take count front ++ (rest_text rest ++ drop (count + 4) front) → take (get_or bytes 15 0) bytes ≡ decimal (1000 * thousands + rest) ++ 32 ∷ []
+counter_text thousands rest count front bytes all some is put =
     let n : ℕ = 1000 * thousands + rest in
     let low = is.low in
-    let few = is.few in
+    let few = is.before.few in
+    let room = is.before.room in
+    let digits : List ℕ = take count front ++ rest_text rest in
+    let long : length digits ≡ count + 4 = length-append (take count front) (rest_text rest) ∙ omega (arith, length-take-le count front (omega (arith, all, room))) in
+    let size : get_or bytes 15 0 ≡ count + 4 = ap (λ (l : List ℕ). get_or l 15 0) put ∙ (last_kept front (rest_text rest) count all refl room ∙ is.before.size) in
+    let text : take (count + 4) bytes ≡ digits =
+    ap (take (count + 4)) (put ∙ sym (append_assoc (take count front) (rest_text rest) (drop (count + 4) front))) ∙ take_at digits (drop (count + 4) front) (count + 4) long in
     let above : n / 1000 ≡ thousands = omega (arith, low) in
     let below : n % 1000 ≡ rest = omega (arith, low) in
-    ap (λ (l : List ℕ). l ++ 32 ∷ [])
-    (put ∙ (ap (λ (l : List ℕ). l ++ three_digits rest) is.front_is
-    ∙ sym (three_last n (omega (arith, some)) (omega (arith, low, few)) ∙ (ap (λ m. decimal m ++ three_digits (n % 1000)) above ∙ ap (λ m. decimal thousands ++ three_digits m) below))))
+    let whole : decimal n ≡ decimal thousands ++ three_digits rest =
+    three_last n (omega (arith, some)) (omega (arith, low, few)) ∙ (ap (λ m. decimal m ++ three_digits (n % 1000)) above ∙ ap (λ m. decimal thousands ++ three_digits m) below) in
+    ap (λ k. take k bytes) size
+    ∙ (text
+    ∙ (ap (λ (l : List ℕ). l ++ rest_text rest) is.before.front_is
+    ∙ (sym (append_assoc (decimal thousands) (three_digits rest) (32 ∷ [])) ∙ ap (λ (l : List ℕ). l ++ 32 ∷ []) (sym whole))))

@@ -1,9 +1,10 @@
 -- Numbers out of a table of four digits each.
+use borrow.Rule.Slice.PartMut.{put_mid}
 use Rattle.std.proofs.Common.{◌≡◌, ℕ, ◌+◌, ◌-◌, ◌*◌, ◌/◌, ◌%◌, ◌<◌, ◌≤◌, ◌^◌, List, [], ◌∷◌, ◌++◌, length, take, drop, decimal, refl, sym, ap, subst, ◌∙◌, append_assoc, arith, inl, inr, eq-zero-or-pos, length-append, slice_index, slice_set}
 use Rattle.std.proofs.lemmas.Fmt.{decimal_digit, decimal_step}
 use Rattle.std.proofs.lemmas.List.{take-take, take-append-le, take-append-drop, take_at, drop_at, drop-take, length-take-le, drop-drop, get_or-set_same, get_or-set_other}
 use Rattle.iso_defs.specs.Texts.{three_digits}
-use Rattle.mesh_text.specs.Fours.{AreFours, four_digits}
+use Rattle.mesh_text.specs.Fours.{AreFours, AreRests, four_digits, rest_text}
 use Rattle.number_digits.proofs.Counts.{one_digit, two_digits, three_digits_of, four_digits_of}
 
 -- a number of more than four digits ends with the four of its rest
@@ -99,22 +100,31 @@ three_written t old new n at h low le w =
     let end : drop 1 (four_digits n) ≡ three_digits n = ap (λ (d : ℕ). (48 + d) ∷ (48 + n / 10 % 10) ∷ (48 + n % 10) ∷ []) e in
     end_written t old new (three_digits n) n at 3 h (omega arith) end refl (omega arith) le w
 
--- the fours of one more number
-pub fours_more : (old new : List ℕ) (n : ℕ) → 4 * n ≤ length old → take (4 * n + 4) new ≡ take (4 * n) old ++ four_digits n
-    → ((j : ℕ) → j < n → take 4 (drop (4 * j) old) ≡ four_digits j) → (j : ℕ) → j < n + 1 → take 4 (drop (4 * j) new) ≡ four_digits j
-fours_more old new n le w each j low =
+-- the four bytes of one more number
+pub table_more : (text : ℕ → List ℕ) (old new : List ℕ) (n : ℕ) → 4 * n ≤ length old → take (4 * n + 4) new ≡ take (4 * n) old ++ text n
+    → ((j : ℕ) → j < n → take 4 (drop (4 * j) old) ≡ text j) → (j : ℕ) → j < n + 1 → take 4 (drop (4 * j) new) ≡ text j
+table_more text old new n le w each j low =
     elim (eq-zero-or-pos (n - j)) [
       | inl z ↦ let e : j ≡ n = omega (arith, low) in
-          subst (λ (k : ℕ). take 4 (drop (4 * k) new) ≡ four_digits k) (sym e)
-          (sym (drop-take (4 * n) 4 new) ∙ (ap (drop (4 * n)) w ∙ drop_at (take (4 * n) old) (four_digits n) (4 * n) (length-take-le (4 * n) old le)))
+          subst (λ (k : ℕ). take 4 (drop (4 * k) new) ≡ text k) (sym e)
+          (sym (drop-take (4 * n) 4 new) ∙ (ap (drop (4 * n)) w ∙ drop_at (take (4 * n) old) (text n) (4 * n) (length-take-le (4 * n) old le)))
       | inr g ↦
           let same : take (4 * j + 4) new ≡ take (4 * j + 4) old =
           sym (take-take (4 * j + 4) (4 * n + 4) new (omega arith))
           ∙ (ap (take (4 * j + 4)) w
-          ∙ (take-append-le (4 * j + 4) (take (4 * n) old) (four_digits n) (omega (arith, length-take-le (4 * n) old le))
+          ∙ (take-append-le (4 * j + 4) (take (4 * n) old) (text n) (omega (arith, length-take-le (4 * n) old le))
           ∙ take-take (4 * j + 4) (4 * n) old (omega arith))) in
           sym (drop-take (4 * j) 4 new) ∙ (ap (drop (4 * j)) same ∙ (drop-take (4 * j) 4 old ∙ each j (omega arith)))
     ]
+
+-- a number's last three digits and a blank, put over four bytes
+pub rest_put : (table old new : List ℕ) (n at : ℕ) → AreRests table → n < 1000 → new ≡ take 4 (drop (4 * n) table)
+    → put_mid at (at + 4 - at) old new ≡ take at old ++ (rest_text n ++ drop (at + 4) old)
+rest_put table old new n at h low put =
+    let four : at + 4 - at ≡ 4 = omega arith in
+    let is : new ≡ rest_text n = put ∙ h.each n low in
+    ap (λ k. put_mid at k old new) four
+    ∙ (ap (λ (l : List ℕ). take at old ++ (l ++ drop 4 (drop at old))) is ∙ ap (λ (l : List ℕ). take at old ++ (rest_text n ++ l)) (drop-drop 4 at old))
 
 -- a number's front, and the four digits of its rest behind it
 pub long_written : (front middle whole : List ℕ) (n : ℕ) → 10000 ≤ n → n < 2 ^ 64 → middle ≡ front ++ decimal (n / 10000) → whole ≡ middle ++ four_digits (n % 10000)

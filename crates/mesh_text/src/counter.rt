@@ -2,14 +2,27 @@
 
 ghost use Rattle.std.specs.Prelude.{◌≡◌, ◌+◌, ◌*◌, ◌≤◌, ◌<◌, ◌^◌, ◌∷◌, ◌++◌, [], take, length, decimal};
 ghost use Rattle.iso_defs.specs.Bytes.{space};
-ghost use Rattle.mesh_text.specs.Numbers.{number_text};
+ghost use Rattle.mesh_text.specs.Numbers.{IsFront, number_text};
 
-use crate::fours::{Fours, put_last_three};
-use crate::number::{Number, ROOM};
+use crate::fours::{Fours, set_rest};
+use crate::number::{LENGTH, Number, ROOM};
 use number_digits::Digits;
 use std::marker::Model;
 
-/// Counts up in text: the digits before the last three are kept for a thousand numbers. Contracts see the next number.
+/// Sets the digits before the last three of a number and, in the last byte, how long its text is: three digits and a blank
+/// more. Gives how many they are.
+#[inline(always)]
+fn set_front(thousands: u64, front: &mut [u8; ROOM], digits: &Fours) -> usize
+    requires { thousands ≤ 10 ^ 7 }
+    ensures { IsFront thousands front.new result }
+{
+    let count = digits.put_number(thousands, front, 0);
+    front[LENGTH] = count as u8 + 4;
+    count
+}
+
+/// Counts up in text: the digits before the last three are kept for a thousand numbers, as a text that lacks only these and
+/// the blank. Contracts see the next number.
 #[derive(Drop)]
 pub struct Counter {
     thousands: u64,
@@ -37,7 +50,7 @@ impl Counter {
     {
         let thousands = first / 1000;
         let mut front = [0; ROOM];
-        let count = digits.put_number(thousands, &mut front, 0);
+        let count = set_front(thousands, &mut front, digits);
         Counter {
             thousands,
             rest: first % 1000,
@@ -57,8 +70,7 @@ impl Counter {
             return;
         }
         number.bytes = self.front;
-        let end = put_last_three(digits, self.rest, &mut number.bytes, self.count);
-        number.end_at(end);
+        set_rest(digits, self.rest, &mut number.bytes, self.count);
     }
 
     /// Counts on by one.
@@ -71,7 +83,7 @@ impl Counter {
         if self.rest == 1000 {
             self.thousands += 1;
             self.rest = 0;
-            self.count = digits.put_number(self.thousands, &mut self.front, 0);
+            self.count = set_front(self.thousands, &mut self.front, digits);
         }
     }
 

@@ -6,7 +6,7 @@ ghost use Rattle.iso_defs.specs.Texts.{decimal_text, thousandths, three_digits, 
 ghost use Rattle.mesh_text.specs.Lines.{along, coordinates_text};
 
 use iso_base::Thousandth;
-use number_digits::{Digits, put_byte};
+use number_digits::{Digits, put_array, put_byte};
 
 #[inline(always)]
 fn put_thousandths<D: Digits>(digits: &D, n: u64, room: &mut [u8], at: usize) -> usize
@@ -116,6 +116,6 @@ pub fn put_letter(letter: u8, room: &mut [u8], at: usize) -> usize
     ensures end { result ≡ at + 2 }
     ensures written { take result room.new ≡ take at room.old ++ letter ∷ space ∷ [] }
 {
-    let at = put_byte(letter, room, at);
-    put_byte(b' ', room, at)
+    put_array(&[letter, b' '], room, at);
+    at + 2
 }

@@ -2,8 +2,9 @@
 
 ghost use Rattle.std.specs.Prelude.{◌≡◌, ◌+◌, ◌*◌, ◌≤◌, ◌<◌, ◌^◌, ◌++◌, take, drop, length, decimal};
 ghost use Rattle.iso_defs.specs.Texts.{three_digits};
-ghost use Rattle.mesh_text.specs.Fours.{AreCounts, AreFours, four_digits};
+ghost use Rattle.mesh_text.specs.Fours.{AreCounts, AreFours, AreRests, four_digits, rest_text};
 
+use crate::number::ROOM;
 use number_digits::{Digits, count_short, put_array, put_byte};
 use std::marker::Model;
 
@@ -13,6 +14,9 @@ const FOURS: usize = 40_004;
 
 /// How many numbers the tables have.
 const NUMBERS: usize = 10_000;
+
+/// The bytes of a table of three digits and a blank a number.
+const RESTS: usize = 4_000;
 
 /// Writes the four digits of a number.
 #[inline(always)]
@@ -39,6 +43,31 @@ fn write_fours(room: &mut [u8])
     }
 }
 
+/// Writes the three digits of a number and a blank.
+#[inline(always)]
+fn put_rest(n: u32, room: &mut [u8], at: usize) -> usize
+    requires bound { n < 1000 }
+    requires space { at + 4 ≤ length room.old }
+    ensures end { result ≡ at + 4 }
+    ensures written { take result room.new ≡ take at room.old ++ rest_text n }
+{
+    let at = put_byte(b'0' + (n / 100) as u8, room, at);
+    let at = put_byte(b'0' + (n / 10 % 10) as u8, room, at);
+    let at = put_byte(b'0' + (n % 10) as u8, room, at);
+    put_byte(b' ', room, at)
+}
+
+/// Writes the table of the last three digits.
+fn write_rests(room: &mut [u8])
+    requires { length room.old ≡ 4000 }
+    ensures { AreRests room.new }
+{
+    let mut at = 0;
+    for n in 0..1_000 {
+        at = put_rest(n, room, at);
+    }
+}
+
 /// Writes how many digits each number below 10,000 has.
 fn write_counts(counts: &mut [u8])
     requires { length counts.old ≡ 10000 }
@@ -49,6 +78,15 @@ fn write_counts(counts: &mut [u8])
     }
 }
 
+/// Four bytes of a table, from a place on.
+#[inline(always)]
+fn four_from(table: &[u8], from: usize) -> &[u8; 4]
+    requires { from + 4 ≤ length table.now }
+    ensures { result.now ≡ take 4 (drop from table.now) }
+{
+    table[from..].first_chunk::<4>().unwrap()
+}
+
 /// Writes four bytes.
 #[inline(always)]
 fn put_four_bytes(bytes: &[u8], from: usize, room: &mut [u8], at: usize)
@@ -56,7 +94,7 @@ fn put_four_bytes(bytes: &[u8], from: usize, room: &mut [u8], at: usize)
     requires space { at + 4 ≤ length room.old }
     ensures { take (at + 4) room.new ≡ take at room.old ++ take 4 (drop from bytes.now) }
 {
-    put_array(bytes[from..].first_chunk::<4>().unwrap(), room, at);
+    put_array(four_from(bytes, from), room, at);
 }
 
 /// Writes the four digits of a number, out of the table.
@@ -153,23 +191,44 @@ pub(crate) fn put_last_three(fours: &Fours, n: u64, room: &mut [u8], at: usize) 
     at + 3
 }
 
+/// Sets four bytes at once.
+#[inline(always)]
+fn set_all(bytes: &[u8; 4], room: &mut [u8])
+    requires { length room.old ≡ 4 }
+    ensures { room.new ≡ bytes.now }
+{
+    *room.as_mut_array::<4>().unwrap() = *bytes;
+}
+
+/// Puts the last three digits of a number and a blank over bytes, from a place on. The bytes behind them stay.
+#[inline(always)]
+pub(crate) fn set_rest(fours: &Fours, n: u64, bytes: &mut [u8; ROOM], at: usize)
+    requires bound { n < 1000 }
+    requires space { at + 4 ≤ 16 }
+    ensures { bytes.new ≡ take at bytes.old ++ (rest_text n ++ drop (at + 4) bytes.old) }
+{
+    let rest = four_from(&fours.rests, 4 * n as usize);
+    set_all(rest, &mut bytes[at..at + 4]);
+}
+
 /// The digits of each number below 10,000, four to a number, and how many it has: numbers are written four digits at a
-/// time.
+/// time. And those of each below 1,000 as a longer number ends with them, three and a blank.
 #[derive(Drop)]
 pub struct Fours {
     bytes: [u8; FOURS],
     counts: [u8; NUMBERS],
+    rests: [u8; RESTS],
 }
 
 impl Model for Fours {
     ghost use Rattle.std.specs.Prelude.{ℕ, List};
-    ghost use Rattle.mesh_text.specs.Fours.{AreCounts, AreFours};
+    ghost use Rattle.mesh_text.specs.Fours.{AreCounts, AreFours, AreRests};
 
     ghost Value = { List ℕ };
 
     ghost view = { λ f. f.bytes };
 
-    ghost invariant = { λ f. AreFours f.bytes × AreCounts f.counts };
+    ghost invariant = { λ f. AreFours f.bytes × (AreCounts f.counts × AreRests f.rests) };
 }
 
 impl Fours {
@@ -179,7 +238,13 @@ impl Fours {
         write_fours(&mut bytes);
         let mut counts = [0; NUMBERS];
         write_counts(&mut counts);
-        Fours { bytes, counts }
+        let mut rests = [0; RESTS];
+        write_rests(&mut rests);
+        Fours {
+            bytes,
+            counts,
+            rests,
+        }
     }
 }
 

@@ -10,7 +10,7 @@ use number_digits::{Digits, put_array, put_byte};
 pub(crate) const ROOM: usize = 16;
 
 /// The place of the byte that says how long a text is.
-const LENGTH: usize = 15;
+pub(crate) const LENGTH: usize = 15;
 
 /// The digits of a number and a blank behind them, to be put into lines more than once. The last byte says how many they are.
 #[derive(Clone, Copy)]

@@ -1,5 +1,6 @@
 use Rattle.std.proofs.Common.{rules, ◌*◌, ◌≤◌, length, arith}
-use Rattle.mesh_text.proofs.Tables.{fours_more}
+use Rattle.mesh_text.proofs.Tables.{table_more}
+use Rattle.mesh_text.specs.Fours.{four_digits}
 use Rattle.mesh_text.proofs.fours.write_fours.Goals as goal
 
 pub loop-n-preserved : goal.loop-n-preserved
@@ -7,4 +8,4 @@ loop-n-preserved c =
     let room : 4 * c.loop-n.n ≤ length c.loop-n.room = search rules in
     let at = c.loop-n.invariant.0 in
     let written = rw (c.put_four_digits-at.ensures.end, at) at c.put_four_digits-at.ensures.written in
-    (omega (arith, c.put_four_digits-at.ensures.end, at), fours_more c.loop-n.room c.put_four_digits-at.new.room c.loop-n.n room written c.loop-n.invariant.1)
+    (omega (arith, c.put_four_digits-at.ensures.end, at), table_more four_digits c.loop-n.room c.put_four_digits-at.new.room c.loop-n.n room written c.loop-n.invariant.1)
