@@ -1,3 +1,4 @@
+pub mod NextWholes
 pub mod RowLines
 pub mod Settled
 pub mod Texts

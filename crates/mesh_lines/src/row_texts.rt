@@ -103,6 +103,29 @@ fn behind_blank(origin: Origin, axis: usize, whole: u32, digits: &Fours) -> Piec
     piece
 }
 
+/// The text of the next coordinate, out of that of a coordinate: where it ends in no nine, only its last digit is another.
+fn behind_next(
+    piece: &Piece<16>,
+    origin: Origin,
+    axis: usize,
+    whole: u32,
+    digits: &Fours,
+) -> Piece<16>
+    requires piece { IsPiece piece.now (space ∷ whole_text origin axis whole) 12 }
+    requires axis { axis < 3 }
+    requires whole { whole ≤ 1026 }
+    ensures { IsPiece result (space ∷ whole_text origin axis (whole + 1)) 12 }
+{
+    let _ = whole_size(origin, axis, whole);
+    let last = piece.len - 2;
+    if is_layer(origin, whole) || piece.bytes[last] == b'9' {
+        return behind_blank(origin, axis, whole + 1, digits);
+    }
+    let mut next = *piece;
+    next.bytes[last] += 1;
+    next
+}
+
 /// The texts of a coordinate of a row of points, and of the one behind it.
 pub(crate) fn wholes_of(origin: Origin, axis: usize, whole: u32, digits: &Fours) -> [Piece<16>; 2]
     requires axis { axis < 3 }
@@ -136,7 +159,7 @@ pub(crate) fn turn_wholes(
         return;
     }
     let lower = wholes[1];
-    *wholes = [lower, behind_blank(origin, axis, to + 1, digits)];
+    *wholes = [lower, behind_next(&lower, origin, axis, to, digits)];
 }
 
 /// Puts the text of a coordinate behind another: the bytes that it has at most are moved at once.
