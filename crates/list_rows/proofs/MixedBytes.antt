@@ -1,5 +1,5 @@
 -- Bytes that are looked at 64 at a time.
-use Rattle.std.proofs.Common.{◌≡◌, ℕ, zero, suc, ◌+◌, ◌-◌, ◌%◌, ◌^◌, ◌<◌, ◌≤◌, ◌∙◌, Bool, true, false, ◌||◌, List, cond, eqb, ltb, length, get_or, refl, sym, ap, ap₂, arith, inl, inr}
+use Rattle.std.proofs.Common.{◌≡◌, ℕ, zero, suc, ◌+◌, ◌-◌, ◌*◌, ◌%◌, ◌^◌, ◌<◌, ◌≤◌, ◌∙◌, Bool, true, false, ◌||◌, List, cond, eqb, ltb, length, get_or, refl, sym, ap, ap₂, arith, inl, inr}
 use Rattle.std.specs.Int.{bit_at}
 use Rattle.std.specs.Simd.Lanes.{chunk, mask_l, top, zip2}
 use Rattle.std.proofs.Common.{map, replicate, w8}
@@ -63,3 +63,14 @@ each_of_many bytes from byte k within low all =
     let one : cond {A = ℕ} (get_or same k false) 1 0 ≡ 1 = sym (bit_mask_l same k) ∙ (ap (λ n. bit_at n k) ones ∙ bit_at_ones 64 k low) in
     sym (get_or-chunk from 64 bytes k 0 low)
     ∙ eqb-true (get_or part k 0) byte (sym (get_or-map (λ x. eqb x byte) part k 0 false (omega (arith, part_len))) ∙ is_one (get_or same k false) one)
+
+-- the first bytes and 64 more that are all one byte
+pub one_run_more : (bytes : List ℕ) (run byte : ℕ) → ((k : ℕ) → k < 64 * run → get_or bytes k 0 ≡ byte)
+    → ((k : ℕ) → k < 64 → get_or bytes (64 * run + k) 0 ≡ byte) → (k : ℕ) → k < 64 * (run + 1) → get_or bytes k 0 ≡ byte
+one_run_more bytes run byte before more k low = elim (cases_lt k (64 * run)) [
+  | inl earlier ↦ before k earlier
+  | inr late ↦ (
+      let j : ℕ = k - 64 * run in
+      let place : 64 * run + j ≡ k = omega arith in
+      ap (λ x. get_or bytes x 0) (sym place) ∙ more j (omega arith))
+]

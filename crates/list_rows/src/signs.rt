@@ -123,6 +123,47 @@ pub fn are_all(bytes: &[u8], byte: u8) -> bool
     are_from(bytes, 64 * runs, byte)
 }
 
+/// Whether the 64 bytes of each of these rows of signs from a place on are this one. `false` is free, as above.
+#[inline(always)]
+fn are_many_alike(signs: RowSigns, from: usize, sign: u8) -> bool
+    requires here { from + 64 ≤ length signs.here.now }
+    requires up { from + 64 ≤ length signs.up.now }
+    requires far { from + 64 ≤ length signs.far.now }
+    requires both { from + 64 ≤ length signs.both.now }
+    ensures here { IsTrue result → (k : ℕ) → k < 64 → slice_index signs.entry.here.now (from + k) ≡ sign }
+    ensures up { IsTrue result → (k : ℕ) → k < 64 → slice_index signs.entry.up.now (from + k) ≡ sign }
+    ensures far { IsTrue result → (k : ℕ) → k < 64 → slice_index signs.entry.far.now (from + k) ≡ sign }
+    ensures both { IsTrue result → (k : ℕ) → k < 64 → slice_index signs.entry.both.now (from + k) ≡ sign }
+{
+    are_many(signs.here, from, sign)
+        && are_many(signs.up, from, sign)
+        && are_many(signs.far, from, sign)
+        && are_many(signs.both, from, sign)
+}
+
+/// Whether each of the signs of these rows is this one. `false` is free, as above.
+#[inline(always)]
+fn are_rows_alike(signs: RowSigns, sign: u8) -> bool
+    requires up { length signs.up.now ≡ length signs.here.now }
+    requires far { length signs.far.now ≡ length signs.here.now }
+    requires both { length signs.both.now ≡ length signs.here.now }
+    ensures here { IsTrue result → (x : ℕ) → x < length signs.entry.here.now → slice_index signs.entry.here.now x ≡ sign }
+    ensures up { IsTrue result → (x : ℕ) → x < length signs.entry.up.now → slice_index signs.entry.up.now x ≡ sign }
+    ensures far { IsTrue result → (x : ℕ) → x < length signs.entry.far.now → slice_index signs.entry.far.now x ≡ sign }
+    ensures both { IsTrue result → (x : ℕ) → x < length signs.entry.both.now → slice_index signs.entry.both.now x ≡ sign }
+{
+    let runs = signs.here.len() / 64;
+    for run in 0..runs {
+        if !are_many_alike(signs, 64 * run, sign) {
+            return false;
+        }
+    }
+    are_from(signs.here, 64 * runs, sign)
+        && are_from(signs.up, 64 * runs, sign)
+        && are_from(signs.far, 64 * runs, sign)
+        && are_from(signs.both, 64 * runs, sign)
+}
+
 /// Whether all points round a row of cells are above, or none is: no crossing edge begins in the row of points then, and the
 /// cells have no loops. `false` is free, as above.
 pub fn are_alike<H: Heights>(field: &H, signs: RowSigns, y: u32, z: u32) -> bool
@@ -133,13 +174,5 @@ pub fn are_alike<H: Heights>(field: &H, signs: RowSigns, y: u32, z: u32) -> bool
     ensures none { IsTrue result → HasNoLoops (H.leveled field.now) y z }
 {
     let _ = (field.sizes(), y, z);
-    let sign = signs.here[0];
-    if !are_all(signs.here, sign)
-        || !are_all(signs.up, sign)
-        || !are_all(signs.far, sign)
-        || !are_all(signs.both, sign)
-    {
-        return false;
-    }
-    true
+    are_rows_alike(signs, signs.here[0])
 }
