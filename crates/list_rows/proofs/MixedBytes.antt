@@ -1,11 +1,10 @@
 -- Bytes that are looked at 64 at a time.
-use Rattle.std.proofs.Common.{◌≡◌, ℕ, zero, suc, ◌+◌, ◌-◌, ◌*◌, ◌%◌, ◌^◌, ◌<◌, ◌≤◌, ◌∙◌, Bool, true, false, ◌||◌, List, cond, eqb, ltb, length, get_or, refl, sym, ap, ap₂, arith, inl, inr}
+use Rattle.std.proofs.Common.{◌≡◌, ℕ, zero, suc, ◌+◌, ◌-◌, ◌*◌, ◌%◌, ◌^◌, ◌<◌, ◌≤◌, ◌∙◌, Bool, true, false, ◌||◌, not, List, cond, eqb, ltb, length, get_or, refl, sym, ap, ap₂, arith, inl, inr}
 use Rattle.std.specs.Int.{bit_at}
 use Rattle.std.specs.Simd.Lanes.{chunk, mask_l, top, zip2}
 use Rattle.std.proofs.Common.{map, replicate, w8}
-use Rattle.std.proofs.lemmas.List.{get_or-map, get_or-replicate}
-use Rattle.std.proofs.lemmas.Simd.{bit_mask_l, bitmask_splat, get_or-chunk, get_or-zip2, length-chunk, length-zip2, mask_l-mod, tops_compared}
-use Rattle.std.proofs.lemmas.Nat.Bits.{bit_at_ones}
+use Rattle.std.proofs.lemmas.List.{get_or-replicate}
+use Rattle.std.proofs.lemmas.Simd.{bit_mask_l, bitmask_splat, get_or-chunk, get_or-zip2, length-chunk, length-zip2, mask_l-mod, none_from_empty_mask, tops_compared}
 use Rattle.std.proofs.lemmas.Bool.{cases_lt, eqb-true, lt-ltb, ne_eqb}
 
 -- whether a byte is neither 0 nor 255
@@ -48,21 +47,25 @@ bits_of_many bytes from k within low small =
     ∙ (ap (λ b. cond {A = ℕ} b 1 0) (get_or-zip2 ltb ones next k 0 0 false low (omega (arith, next_len)) ∙ ap₂ ltb one here)
     ∙ mixed_by_one (get_or bytes (from + k) 0) small)))
 
--- 64 bytes that are all one byte
-is_one : (b : Bool) → cond {A = ℕ} b 1 0 ≡ 1 → b ≡ true
-is_one true h = refl
-is_one false h = absurd (omega (arith, h))
+-- a truth value from its opposite
+pub not_twice : (b : Bool) → not (not b) ≡ true → b ≡ true
+not_twice true h = refl
+not_twice false h = absurd (omega (arith, ap (λ b. cond {A = ℕ} b 1 0) h))
 
+is_same : (b : Bool) → not b ≡ false → b ≡ true
+is_same true h = refl
+is_same false h = absurd (omega (arith, ap (λ b. cond {A = ℕ} b 1 0) h))
+
+-- 64 bytes that are all one byte
 pub each_of_many : (bytes : List ℕ) (from byte k : ℕ) → from + 64 ≤ length bytes → k < 64
-    → mask_l (map (top 7) (zip2 (λ a b. cond (eqb a b) 255 0) (chunk from 64 bytes) (replicate 64 byte))) % 2 ^ 64 ≡ 2 ^ 64 - 1 → get_or bytes (from + k) 0 ≡ byte
-each_of_many bytes from byte k within low all =
+    → mask_l (map (top 7) (zip2 (λ a b. cond (not (eqb a b)) 255 0) (chunk from 64 bytes) (replicate 64 byte))) % 2 ^ 64 ≡ 0 → get_or bytes (from + k) 0 ≡ byte
+each_of_many bytes from byte k within low none =
     let part : List ℕ = chunk from 64 bytes in
-    let part_len : length part ≡ 64 = length-chunk from 64 bytes within in
-    let same : List Bool = map (λ x. eqb x byte) part in
-    let ones : mask_l same ≡ 2 ^ 64 - 1 = sym (bitmask_splat w8 eqb part 64 byte part_len (omega arith)) ∙ all in
-    let one : cond {A = ℕ} (get_or same k false) 1 0 ≡ 1 = sym (bit_mask_l same k) ∙ (ap (λ n. bit_at n k) ones ∙ bit_at_ones 64 k low) in
-    sym (get_or-chunk from 64 bytes k 0 low)
-    ∙ eqb-true (get_or part k 0) byte (sym (get_or-map (λ x. eqb x byte) part k 0 false (omega (arith, part_len))) ∙ is_one (get_or same k false) one)
+    let others : mask_l (map (λ x. not (eqb x byte)) part) ≡ 0
+    = sym (bitmask_splat w8 (λ a b. not (eqb a b)) part 64 byte (length-chunk from 64 bytes within) (omega arith)) ∙ none in
+    let here : not (eqb (get_or bytes (from + k) 0) byte) ≡ false
+    = none_from_empty_mask (λ x. not (eqb x byte)) bytes from 64 0 within others (from + k) (omega arith) (omega arith) in
+    eqb-true (get_or bytes (from + k) 0) byte (is_same (eqb (get_or bytes (from + k) 0) byte) here)
 
 -- the first bytes and 64 more that are all one byte
 pub one_run_more : (bytes : List ℕ) (run byte : ℕ) → ((k : ℕ) → k < 64 * run → get_or bytes k 0 ≡ byte)

@@ -91,8 +91,9 @@ fn are_many(bytes: &[u8], from: usize, byte: u8) -> bool
     requires { from + 64 ≤ length bytes.now }
     ensures { IsTrue result → (k : ℕ) → k < 64 → slice_index bytes.now (from + k) ≡ byte }
 {
+    // That none is another one takes fewer steps to ask than that each is this one.
     let many = u8x64::from_slice(&bytes[from..]);
-    many.simd_eq(u8x64::splat(byte)).all()
+    !many.simd_ne(u8x64::splat(byte)).any()
 }
 
 /// Whether the bytes from a place on are this one. `false` is free, as above.
