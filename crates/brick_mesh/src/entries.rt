@@ -150,7 +150,7 @@ fn add_there<T: Packed, L: Ledger>(
 }
 
 /// Puts the entries of a plane of cells across z behind those of the planes before it. The cells are gone through by the bits of
-/// a mask, since a processor can't foresee which of them have a crossing edge.
+/// a mask, since a processor cannot foresee which of them have a crossing edge.
 fn add_plane<T: Packed, L: Ledger>(
     block: &Block<'_>,
     copies: &[T],

@@ -79,7 +79,7 @@ fn put_clear<H: Heights>(field: &H, low: Point, bytes: &[u8], mixed: u64, cases:
         let signs = bytes[x];
         // With no joined face this is one look into a table.
         cases[x] = row_of(signs, 0).number();
-        // A bit in place of a branch: where cells have ambiguous faces here and there, it can't be foreseen.
+        // A bit in place of a branch: where cells have ambiguous faces here and there, it cannot be foreseen.
         unclear |= u64::from(ambiguous_set(signs) != 0) << place;
         rest ^= 1 << place;
     }
