@@ -194,7 +194,7 @@ fn next(state: u64) -> u64 {
 }
 
 /// The volume of the seed 0.
-fn drawn(alloc: Global, nx: u64, ny: u64, nz: u64) -> Option<VoxelList> {
+fn volume_of_sizes(alloc: Global, nx: u64, ny: u64, nz: u64) -> Option<VoxelList> {
     let sizes = Sizes::new(nx, ny, nz).ok()?;
     Some(VoxelList::of(generate(alloc, 0, &sizes).ok()?))
 }
@@ -211,7 +211,7 @@ fn draw_bits(bench: &mut Bench) {
 
 /// A bench on four points along each axis, whose samples are 0 or 1 as if by chance, at level 0.5.
 pub fn four_a_side(alloc: Global) -> Option<Bench> {
-    let mut bench = begin(alloc, drawn(alloc, 4, 4, 4)?, 500, capacity()?)?;
+    let mut bench = begin(alloc, volume_of_sizes(alloc, 4, 4, 4)?, 500, capacity()?)?;
     draw_bits(&mut bench);
     Some(bench)
 }
@@ -219,7 +219,7 @@ pub fn four_a_side(alloc: Global) -> Option<Bench> {
 /// A bench on 10, 10 and 3 points, which are four bricks, at level 0.5.
 fn four_bricks(alloc: Global, bricks: u32, pages: u32) -> Option<Bench> {
     let capacity = Capacity::new(bricks, pages)?;
-    begin(alloc, drawn(alloc, 10, 10, 3)?, 500, capacity)
+    begin(alloc, volume_of_sizes(alloc, 10, 10, 3)?, 500, capacity)
 }
 
 /// Replaces so many samples by 0 or 1, told by a seed.

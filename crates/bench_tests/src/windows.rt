@@ -203,7 +203,12 @@ fn gather(
     Ok(())
 }
 
-fn gathered(alloc: Global, whole: &str, low: [u32; 3], high: [u32; 3]) -> Result<Part, AllocError> {
+fn gather_part(
+    alloc: Global,
+    whole: &str,
+    low: [u32; 3],
+    high: [u32; 3],
+) -> Result<Part, AllocError> {
     let mut part = Part {
         lines: String::new(alloc),
         numbers: Vec::new(alloc),
@@ -226,7 +231,7 @@ fn part_of(
     low: [u32; 3],
     high: [u32; 3],
 ) -> Result<String, AllocError> {
-    text_of(alloc, &gathered(alloc, whole, low, high)?)
+    text_of(alloc, &gather_part(alloc, whole, low, high)?)
 }
 
 /// Opposite corners of a box.

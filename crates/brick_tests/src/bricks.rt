@@ -3,7 +3,7 @@ ghost use Rattle.std.specs.Prelude.{◌≡◌, ◌<◌, true, map};
 ghost use Rattle.iso_defs.specs.Grid.{is_cell, point_count};
 ghost use Rattle.brick_store.specs.Copies.{AreAllCopies};
 
-use crate::stores::{MIDDLE, dotted, zeros};
+use crate::stores::{MIDDLE, store_of_dots, zeros};
 use arrayvec::ArrayVec;
 use brick_store::{BrickId, BrickStore};
 use iso_base::{CellName, Point, SampleKind};
@@ -89,7 +89,7 @@ fn check_samples(rt: &impl Abort, store: &BrickStore)
 
 #[test]
 fn a_sample_in_all_bricks(rt: HostRuntime) {
-    let store = dotted(rt.alloc()).expect(&rt, "memory suffices");
+    let store = store_of_dots(rt.alloc()).expect(&rt, "memory suffices");
     check_samples(&rt, &store);
     check_cells(&rt, &store);
 }
@@ -141,7 +141,7 @@ fn check_row(rt: &impl Abort, store: &BrickStore)
 
 #[test]
 fn copies_of_a_sample(rt: HostRuntime) {
-    let store = dotted(rt.alloc()).expect(&rt, "memory suffices");
+    let store = store_of_dots(rt.alloc()).expect(&rt, "memory suffices");
     check_part(&rt, &store);
     check_part_copy(&rt, &store);
     check_row(&rt, &store);
@@ -164,7 +164,7 @@ fn check_list(rt: &impl Abort, list: &VoxelList)
 
 #[test]
 fn bricks_as_one_list(rt: HostRuntime) {
-    let store = dotted(rt.alloc()).expect(&rt, "memory suffices");
+    let store = store_of_dots(rt.alloc()).expect(&rt, "memory suffices");
     let list = store.flat(rt.alloc()).expect(&rt, "memory suffices");
     check_list(&rt, &list);
     assert_eq!(rt; store.sizes().count(), 4913);

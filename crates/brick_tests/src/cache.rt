@@ -15,7 +15,12 @@ fn cache_of(alloc: Global, bricks: u32, pages: u32) -> Result<MeshCache, Memory>
 }
 
 /// What becomes of entries of a brick, if none are kept of it at the level.
-fn offered(cache: &mut MeshCache, brick: u32, level: Level, entries: &[u32]) -> Option<Offer> {
+fn offer_entries(
+    cache: &mut MeshCache,
+    brick: u32,
+    level: Level,
+    entries: &[u32],
+) -> Option<Offer> {
     let brick = BrickId(brick);
     if cache.kept(brick, level).is_some() || entries.len() > 512 {
         return None;
@@ -28,7 +33,7 @@ type Offered = (u32, i128, &'static [u32], Offer);
 
 fn check_offers(rt: &impl Abort, cache: &mut MeshCache, offers: &[Offered]) {
     for (brick, level, entries, becomes) in offers {
-        let offer = offered(cache, *brick, level_of(rt, *level), entries);
+        let offer = offer_entries(cache, *brick, level_of(rt, *level), entries);
         assert_eq!(rt; offer, Some(*becomes), "{brick} at {level}");
     }
 }
@@ -110,7 +115,7 @@ fn check_entries(rt: &impl Abort, cache: &MeshCache) {
 }
 
 fn check_handed_out(rt: &impl Abort, cache: &mut MeshCache) {
-    let offer = offered(cache, 7, level_of(rt, 5_000), &forty());
+    let offer = offer_entries(cache, 7, level_of(rt, 5_000), &forty());
     assert_eq!(rt; offer, Some(Offer::Kept));
     check_entries(rt, cache);
     cache.drop_brick(BrickId(7));
@@ -137,7 +142,7 @@ fn check_lent(rt: &impl Abort, cache: &MeshCache) {
 #[test]
 fn entries_are_lent_at_their_level(rt: HostRuntime) {
     let mut cache = cache_of(rt.alloc(), 2, 16).expect(&rt, "memory suffices");
-    let offer = offered(&mut cache, 7, level_of(&rt, 5_000), &forty());
+    let offer = offer_entries(&mut cache, 7, level_of(&rt, 5_000), &forty());
     assert_eq!(rt; offer, Some(Offer::Kept));
     check_lent(&rt, &cache);
 }

@@ -46,7 +46,7 @@ fn extract<L: Ledger>(
 }
 
 /// The same, with a counter of its own.
-fn extracted(
+fn extract_all(
     store: &BrickStore,
     level: Level,
     entries: &mut ArrayVec<u32, 512>,
@@ -63,7 +63,7 @@ fn check_cell(rt: &impl Abort, store: &BrickStore, level: i128, found: &[u32], c
 {
     let (mut entries, mut rows) = (ArrayVec::new(), ArrayVec::new());
     entries.push(7);
-    extracted(store, level_of(rt, level), &mut entries, &mut rows);
+    extract_all(store, level_of(rt, level), &mut entries, &mut rows);
     assert_eq!(rt; entries.as_slice(), found);
     assert_eq!(rt; rows.as_slice(), [case].as_slice());
 }
@@ -106,7 +106,7 @@ fn next(state: u64) -> u64 {
 }
 
 /// Below a bound.
-fn drawn(state: u64, bound: u32) -> u32
+fn draw_below(state: u64, bound: u32) -> u32
     requires { 0 < bound }
     ensures { result < bound }
 {
@@ -128,9 +128,9 @@ fn scatter(store: &mut BrickStore) {
         let y = next(x);
         state = next(y);
         let p = Point {
-            x: drawn(x, sizes.nx()),
-            y: drawn(y, sizes.ny()),
-            z: drawn(state, sizes.nz()),
+            x: draw_below(x, sizes.nx()),
+            y: draw_below(y, sizes.ny()),
+            z: draw_below(state, sizes.nz()),
         };
         let value = i64::from((state >> 56) as u8);
         store.set(p, value);
@@ -191,7 +191,7 @@ const SUMS: [(usize, u64); 12] = [
 ];
 
 /// Twelve bricks behind many edits.
-fn scattered(alloc: Global) -> Result<BrickStore, Memory> {
+fn scattered_store(alloc: Global) -> Result<BrickStore, Memory> {
     let Ok(sizes) = Sizes::new(18, 10, 11) else {
         return Err(Memory);
     };
@@ -203,7 +203,7 @@ fn scattered(alloc: Global) -> Result<BrickStore, Memory> {
 
 #[test]
 fn entries_after_many_edits(rt: HostRuntime) {
-    let store = scattered(rt.alloc()).expect(&rt, "memory suffices");
+    let store = scattered_store(rt.alloc()).expect(&rt, "memory suffices");
     let level = level_of(&rt, 64_500);
     assert!(rt; have_sums::<Brand>(&store, level, &SUMS, Blank::new(1)));
 }

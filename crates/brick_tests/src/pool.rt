@@ -13,7 +13,7 @@ fn entries() -> [u32; 33] {
 }
 
 /// The chain of these entries, for which there is room.
-fn stored(rt: &impl Abort, pool: &mut Pool) -> Chain
+fn store_chain(rt: &impl Abort, pool: &mut Pool) -> Chain
     ensures { Has pool.new result }
 {
     pool.store(&entries()).expect(rt, "there is room")
@@ -21,7 +21,7 @@ fn stored(rt: &impl Abort, pool: &mut Pool) -> Chain
 
 /// A list that is too long changes nothing, and a chain that is released gives its pages back.
 fn check_full(rt: &impl Abort, pool: &mut Pool) {
-    let chain = stored(rt, pool);
+    let chain = store_chain(rt, pool);
     assert_eq!(rt; pool.free(), 14);
     let full = pool.store(&[7; 512]).err();
     assert!(rt;
@@ -73,7 +73,7 @@ fn check_entries(rt: &impl Abort, pool: &Pool, chain: &Chain)
 #[test]
 fn a_chain_is_read(rt: HostRuntime) {
     let mut pool = Pool::new(rt.alloc(), 16).expect(&rt, "memory suffices");
-    let chain = stored(&rt, &mut pool);
+    let chain = store_chain(&rt, &mut pool);
     check_entries(&rt, &pool, &chain);
 }
 
@@ -92,7 +92,7 @@ fn check_lent(rt: &impl Abort, pool: &Pool, chain: &Chain)
 #[test]
 fn a_chain_is_lent_page_by_page(rt: HostRuntime) {
     let mut pool = Pool::new(rt.alloc(), 16).expect(&rt, "memory suffices");
-    let chain = stored(&rt, &mut pool);
+    let chain = store_chain(&rt, &mut pool);
     check_lent(&rt, &pool, &chain);
 }
 

@@ -47,7 +47,7 @@ pub fn zeros(alloc: Global) -> Result<BrickStore, Memory>
 }
 
 /// The same with 10 in the middle.
-pub fn dotted(alloc: Global) -> Result<BrickStore, Memory>
+pub fn store_of_dots(alloc: Global) -> Result<BrickStore, Memory>
     ensures { IfOk result (λ b. b.grid ≡ record { nx = 17; ny = 17; nz = 17 }) }
 {
     let mut store = zeros(alloc)?;

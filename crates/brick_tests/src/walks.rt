@@ -289,7 +289,11 @@ fn set_byte(volume: &mut VoxelList, p: Point, value: u8) {
 }
 
 /// A volume of these sizes, where they are sizes.
-pub fn patterned(alloc: Global, pattern: Pattern, [nx, ny, nz]: [u32; 3]) -> Option<VoxelList> {
+pub fn volume_of_pattern(
+    alloc: Global,
+    pattern: Pattern,
+    [nx, ny, nz]: [u32; 3],
+) -> Option<VoxelList> {
     let sizes = Sizes::new(u64::from(nx), u64::from(ny), u64::from(nz)).ok()?;
     let mut volume = VoxelList::of(generate(alloc, 0, &sizes).ok()?);
     for z in 0..nz {
@@ -306,7 +310,7 @@ pub fn patterned(alloc: Global, pattern: Pattern, [nx, ny, nz]: [u32; 3]) -> Opt
 /// How many vertices all ways write for a volume of these sizes at a level in thousandths, where their texts are the same.
 fn vertices(alloc: Global, pattern: Pattern, sizes: [u32; 3], thousandths: i128) -> Option<u32> {
     let level = Level::new(thousandths)?;
-    vertices_of(alloc, patterned(alloc, pattern, sizes)?, level)
+    vertices_of(alloc, volume_of_pattern(alloc, pattern, sizes)?, level)
 }
 
 #[test]
@@ -345,7 +349,7 @@ fn padded_volume(alloc: Global, volume: VoxelList, pad: u8) -> Option<VoxelList>
 
 /// The same as `vertices`, with a pad, at level 128.
 fn padded_vertices(alloc: Global, sizes: [u32; 3], pad: u8) -> Option<u32> {
-    let volume = patterned(alloc, Pattern::Chance, sizes)?;
+    let volume = volume_of_pattern(alloc, Pattern::Chance, sizes)?;
     let level = Level::new(128_000)?;
     vertices_of(alloc, padded_volume(alloc, volume, pad)?, level)
 }

@@ -4,7 +4,7 @@ ghost use Rattle.std.specs.Prelude.{◌≡◌, IfSome, None};
 ghost use Rattle.iso_base.specs.Points.{IsPoint};
 
 use crate::texts::text_of;
-use crate::walks::{Pattern, is_text, listed_text, patterned};
+use crate::walks::{Pattern, is_text, listed_text, volume_of_pattern};
 use brick_store::BrickStore;
 use flat_mesh::Mesh;
 use iso_base::{Level, MeshFormat};
@@ -30,7 +30,7 @@ fn box_of(store: &BrickStore, corners: [i64; 6]) -> Option<FillBox>
 }
 
 /// A box of a volume without a pad as a volume of its own.
-fn copied(alloc: Global, store: &BrickStore, area: &FillBox) -> Result<VoxelList, WindowFault>
+fn copy_box(alloc: Global, store: &BrickStore, area: &FillBox) -> Result<VoxelList, WindowFault>
     requires inside { IsPoint store.now.grid area.now.high }
     requires pad { store.now.pad ≡ None }
 {
@@ -85,9 +85,9 @@ fn is_same_box(alloc: Global, store: &BrickStore, area: &FillBox, level: Level) 
 {
     let samples = match BoxSamples::new(store, area) {
         Ok(samples) => samples,
-        Err(fault) => return Some(copied(alloc, store, area).err() == Some(fault)),
+        Err(fault) => return Some(copy_box(alloc, store, area).err() == Some(fault)),
     };
-    let volume = copied(alloc, store, area).ok()?;
+    let volume = copy_box(alloc, store, area).ok()?;
     let mesh = mesh_of(alloc, store, area, level).ok()?;
     Some(are_samples(&samples, &volume) && is_written(alloc, &samples, &mesh, level)?)
 }
@@ -103,7 +103,11 @@ fn is_same(alloc: Global, store: &BrickStore, corners: [i64; 6], level: Level) -
 
 /// A volume in bricks whose samples are like chance.
 fn bricks(alloc: Global) -> Option<BrickStore> {
-    BrickStore::of(alloc, patterned(alloc, Pattern::Chance, [19, 10, 9])?).ok()
+    BrickStore::of(
+        alloc,
+        volume_of_pattern(alloc, Pattern::Chance, [19, 10, 9])?,
+    )
+    .ok()
 }
 
 #[test]

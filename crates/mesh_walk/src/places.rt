@@ -30,7 +30,7 @@ pub struct CellPlaces<'a> {
 impl<'a> CellPlaces<'a> {
     /// The places on the edges that begin in a row of points, by their weights.
     #[inline(always)]
-    fn weighted(self, fan: &[u16; 40], row: usize) -> u16x8
+    fn weigh_row(self, fan: &[u16; 40], row: usize) -> u16x8
         requires row { row < 4 }
         requires room { slice_index self.rows row + self.at + 8 ≤ 12314 }
         ensures eight { length result ≡ 8 }
@@ -46,15 +46,15 @@ impl<'a> CellPlaces<'a> {
 
     /// Those of the four rows together.
     #[inline(always)]
-    fn summed(self, fan: &[u16; 40]) -> u16x8
+    fn sum_rows(self, fan: &[u16; 40]) -> u16x8
         requires room { (row : ℕ) → row < 4 → slice_index self.rows row + self.at + 8 ≤ 12314 }
         ensures eight { length result ≡ 8 }
         ensures lanes { let places = slot_place self.entry.places.now self.entry.rows self.entry.at in
             let part = λ (i : ℕ). places i * slice_index fan.now i in
             (s : ℕ) → s < 8 → slice_index result s ≡ (part s + part (8 + s) + part (16 + s) + part (24 + s)) % 65536 }
     {
-        let near = self.weighted(fan, 0) + self.weighted(fan, 1);
-        let far = self.weighted(fan, 2) + self.weighted(fan, 3);
+        let near = self.weigh_row(fan, 0) + self.weigh_row(fan, 1);
+        let far = self.weigh_row(fan, 2) + self.weigh_row(fan, 3);
         near + far
     }
 
@@ -66,7 +66,7 @@ impl<'a> CellPlaces<'a> {
         ensures { (axis : ℕ) → axis < 3 → slice_index result axis
             ≡ axis_sum (slot_place self.entry.places.now self.entry.rows self.entry.at) fan.now axis % 65536 }
     {
-        let sums = self.summed(fan);
+        let sums = self.sum_rows(fan);
         let begins = u16x8::from_slice(&fan[32..40]);
         (sums + sums.rotate_elements_left::<3>() + begins).to_array()
     }

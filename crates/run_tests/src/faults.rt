@@ -16,7 +16,7 @@ const REPLIES: &[u8] =
     b"ok\nok vertices 6 faces 8 bytes 326\nok\nok vertices 6 faces 8 bytes 326\nok\nok vertices 6 faces 8 bytes 326\nok\nok vertices 6 faces 8 bytes 326\n";
 
 /// A session at level 5 that keeps the least of its mesh that may be kept.
-pub fn worked<'a>(volume: &'a [u8], script: &'a [u8]) -> Call<'a> {
+pub fn worked_call<'a>(volume: &'a [u8], script: &'a [u8]) -> Call<'a> {
     let mut call = call_of(
         &["session", "--level=5", "--bricks=1", "--pages=16", "v"],
         script,
@@ -33,7 +33,7 @@ fn failing<'a>(
     writes: &'a [u64],
     shelf: &'a [u64],
 ) -> Call<'a> {
-    let mut call = worked(volume, SCRIPT);
+    let mut call = worked_call(volume, SCRIPT);
     call.reads_failing = reads;
     call.writes_failing = writes;
     call.shelf_failing = shelf;
@@ -198,7 +198,7 @@ fn check_pieces(
     read_piece: u32,
     write_piece: u32,
 ) -> Result<(), Fail> {
-    let mut call = worked(volume, SCRIPT);
+    let mut call = worked_call(volume, SCRIPT);
     call.read_piece = read_piece;
     call.write_piece = write_piece;
     check_worked(rt, &outcome_of(alloc, &call)?);

@@ -30,7 +30,7 @@ const LONGEST: u32 = 8_761_578;
 const LAST: usize = 8_288_072;
 
 /// What the script of seed 7 leaves.
-fn soaked(alloc: Global) -> Result<Outcome, Fail> {
+fn soak(alloc: Global) -> Result<Outcome, Fail> {
     let shelf = MemShelf::new(alloc, 1, LONGEST, Vec::new(alloc))?;
     let mut input = MemSource::new(Vec::new(alloc), 1, Vec::new(alloc));
     outcome_on(alloc, &call_of(&["soak", "7"], b""), &mut input, shelf)
@@ -45,7 +45,7 @@ fn check_soaked(rt: &impl Abort, outcome: &Outcome) {
 #[test]
 fn the_script_of_a_seed_twice(rt: HostRuntime) -> Result<(), Fail> {
     for _ in 0..2 {
-        check_soaked(&rt, &soaked(rt.alloc())?);
+        check_soaked(&rt, &soak(rt.alloc())?);
     }
     Ok(())
 }

@@ -44,7 +44,7 @@ const MESH: [&[u8]; 14] = [
 ];
 
 /// Lines of which one is replaced, with bytes behind them.
-fn changed(
+fn change_part(
     alloc: Global,
     lines: &[&[u8]],
     at: usize,
@@ -119,10 +119,10 @@ const VOLUMES: [Change; 12] = [
 fn volumes_are_refused(rt: HostRuntime) -> Result<(), Fail> {
     let alloc = rt.alloc();
     for change in &VOLUMES {
-        let volume = changed(alloc, &HEAD, change.0, change.1, 54)?;
+        let volume = change_part(alloc, &HEAD, change.0, change.1, 54)?;
         check_volume(&rt, alloc, &volume, change.2)?;
     }
-    let cut = changed(alloc, &HEAD[..12], 12, b"", 0)?;
+    let cut = change_part(alloc, &HEAD[..12], 12, b"", 0)?;
     check_volume(&rt, alloc, &cut, b"14 short samples 54 0")?;
     let mut long = Vec::from_slice(alloc, b"NRRD0004\n")?;
     long.resize(9 + 65_536, b'#')?;
@@ -141,13 +141,13 @@ const MESHES: [Change; 5] = [
 fn meshes_are_refused(rt: HostRuntime) -> Result<(), Fail> {
     let alloc = rt.alloc();
     for change in &MESHES {
-        let mesh = changed(alloc, &MESH, change.0, change.1, 0)?;
+        let mesh = change_part(alloc, &MESH, change.0, change.1, 0)?;
         check_mesh(&rt, alloc, "ply", &mesh, change.2)?;
     }
     check_mesh(&rt, alloc, "ply", b"", b"1 not mesh")?;
-    let headless = changed(alloc, &MESH[..8], 14, b"", 0)?;
+    let headless = change_part(alloc, &MESH[..8], 14, b"", 0)?;
     check_mesh(&rt, alloc, "ply", &headless, b"3 bad header 9")?;
-    let short = changed(alloc, &MESH[..9], 14, b"", 0)?;
+    let short = change_part(alloc, &MESH[..9], 14, b"", 0)?;
     check_mesh(&rt, alloc, "ply", &short, b"7 short mesh 5 0")?;
     check_mesh(
         &rt,

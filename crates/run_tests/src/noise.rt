@@ -3,7 +3,7 @@
 ghost use Rattle.std.specs.Prelude.{None};
 
 use crate::calls::{Outcome, call_of, check_output, outcome_of, outcome_over};
-use crate::faults::worked;
+use crate::faults::worked_call;
 use crate::scripts::{SEVENTEEN, zeros};
 use endings::Status;
 use iso_io::{Failed, Source};
@@ -46,7 +46,7 @@ fn noise_is_refused(rt: HostRuntime) -> Result<(), Fail> {
     let zeros = zeros(alloc, SEVENTEEN, 4913)?;
     for seed in 0..32 {
         let script = noise(alloc, seed, 1024)?;
-        check_script(&rt, &outcome_of(alloc, &worked(&zeros, &script))?);
+        check_script(&rt, &outcome_of(alloc, &worked_call(&zeros, &script))?);
         check_volume(&rt, alloc, &noise(alloc, seed, 256)?)?;
     }
     Ok(())

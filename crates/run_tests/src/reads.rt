@@ -3,7 +3,7 @@
 ghost use Rattle.std.specs.Prelude.{None};
 
 use crate::calls::{Call, call_of, outcome_over};
-use crate::faults::worked;
+use crate::faults::worked_call;
 use crate::scripts::{SEVENTEEN, zeros};
 use endings::Status;
 use iso_io::{Failed, Source};
@@ -61,7 +61,7 @@ fn check_reads(
 fn a_script_is_read_no_further_than_its_quit(rt: HostRuntime) -> Result<(), Fail> {
     let alloc = rt.alloc();
     let zeros = zeros(alloc, SEVENTEEN, 4913)?;
-    let call = worked(&zeros, b"");
+    let call = worked_call(&zeros, b"");
     // The second piece has the end of the `quit`.
     let script = b"undo\nquit\nundo\nundo\nundo\n";
     check_reads(&rt, alloc, &call, script, 0, (Status::Done, 2))?;

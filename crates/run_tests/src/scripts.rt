@@ -4,7 +4,7 @@ use crate::calls::{
     Call, End, NO_FILES, Outcome, call_of, check, check_replies, check_session, outcome_of,
     session_of,
 };
-use crate::faults::worked;
+use crate::faults::worked_call;
 use crate::texts::*;
 use endings::Status;
 use std::alloc::{AllocError, Global};
@@ -19,7 +19,7 @@ pub fn zeros(alloc: Global, head: &[u8], count: usize) -> Result<Vec<u8>, AllocE
 }
 
 /// A text so many times.
-fn repeated(alloc: Global, text: &[u8], times: usize) -> Result<Vec<u8>, AllocError> {
+fn repeat_text(alloc: Global, text: &[u8], times: usize) -> Result<Vec<u8>, AllocError> {
     let mut all = Vec::new(alloc);
     for _ in 0..times {
         all.extend_from_slice(text)?;
@@ -74,7 +74,7 @@ fn refresh_turns_change_nothing(rt: HostRuntime) -> Result<(), Fail> {
     let volume = zeros(alloc, SEVENTEEN, 4913)?;
     let call = session_of(&volume, REFRESHED);
     same_meshes(&rt, alloc, &call, &session_of(&volume, NOT_REFRESHED))?;
-    same_meshes(&rt, alloc, &call, &worked(&volume, REFRESHED))
+    same_meshes(&rt, alloc, &call, &worked_call(&volume, REFRESHED))
 }
 
 const LARGE: &[u8] = b"NRRD0004\ntype: uint8\ndimension: 3\nsizes: 128 128 128\nencoding: raw\n\n";
@@ -110,12 +110,12 @@ fn a_change_is_made_again(rt: HostRuntime) -> Result<(), Fail> {
 #[test]
 fn at_most_128_changes_are_undone_and_made_again(rt: HostRuntime) -> Result<(), Fail> {
     let alloc = rt.alloc();
-    let mut script = repeated(alloc, b"set 0 0 0 1\n", 129)?;
-    script.extend_from_slice(&repeated(alloc, b"undo\n", 129)?)?;
-    script.extend_from_slice(&repeated(alloc, b"redo\n", 129)?)?;
-    let mut replies = repeated(alloc, b"ok\n", 257)?;
+    let mut script = repeat_text(alloc, b"set 0 0 0 1\n", 129)?;
+    script.extend_from_slice(&repeat_text(alloc, b"undo\n", 129)?)?;
+    script.extend_from_slice(&repeat_text(alloc, b"redo\n", 129)?)?;
+    let mut replies = repeat_text(alloc, b"ok\n", 257)?;
     replies.extend_from_slice(b"error 7 nothing to undo\n")?;
-    replies.extend_from_slice(&repeated(alloc, b"ok\n", 128)?)?;
+    replies.extend_from_slice(&repeat_text(alloc, b"ok\n", 128)?)?;
     replies.extend_from_slice(b"error 12 nothing to redo\n")?;
     check_session(&rt, alloc, CORNER, &script, &replies, NO_FILES)
 }
@@ -234,7 +234,7 @@ fn refusals_in_a_pad(rt: HostRuntime) -> Result<(), Fail> {
         alloc,
         b"set 2 0 0 1\nset 0 0 0 256\nlevel 8589934592\nlevel 0\nundo\ncontour 2\nsett 0 0 0 1\n",
     )?;
-    script.extend_from_slice(&repeated(alloc, b"x", 4097)?)?;
+    script.extend_from_slice(&repeat_text(alloc, b"x", 4097)?)?;
     script.extend_from_slice(b"\ncontour 0\nlevel 0.5\nlevel -0.5\n")?;
     let mut call = call_of(&["session", "v", "--pad=0", "--level=5"], &script);
     call.volume = CORNER;

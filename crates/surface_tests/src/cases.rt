@@ -8,7 +8,7 @@ use std::marker::Brand;
 use std::sync::ledger::{Blank, Ledger};
 use std::test::Fail;
 
-fn classified<L: Ledger>(values: &[i64; 8], blank: Blank) -> u16
+fn classify_cell<L: Ledger>(values: &[i64; 8], blank: Blank) -> u16
     requires named { blank.name ≡ L.name }
     requires shares { blank.parts ≡ L.parts }
     requires one { blank.parts ≡ 1 }
@@ -23,10 +23,10 @@ fn classified<L: Ledger>(values: &[i64; 8], blank: Blank) -> u16
 fn a_tie_on_the_lowest_face(rt: HostRuntime) -> Result<(), Fail> {
     let tie = [2, -1, -4, 2, -1, -1, -1, -1];
     assert_eq!(rt; joined_faces(&tie), 16);
-    assert_eq!(rt; classified::<Brand>(&tie, Blank::new(1)), 11);
+    assert_eq!(rt; classify_cell::<Brand>(&tie, Blank::new(1)), 11);
     let apart = [2, -1, -5, 2, -1, -1, -1, -1];
     assert_eq!(rt; joined_faces(&apart), 0);
-    assert_eq!(rt; classified::<Brand>(&apart, Blank::new(1)), 10);
+    assert_eq!(rt; classify_cell::<Brand>(&apart, Blank::new(1)), 10);
     Ok(())
 }
 

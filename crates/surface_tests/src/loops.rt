@@ -12,7 +12,7 @@ fn counts(row: CaseRow) -> [u8; 3] {
     ]
 }
 
-fn listed(loops: &CellLoops, i: u8) -> &[u8] {
+fn edges_of_loop(loops: &CellLoops, i: u8) -> &[u8] {
     if i < loops.count() {
         loops.edges(i)
     } else {
@@ -22,7 +22,7 @@ fn listed(loops: &CellLoops, i: u8) -> &[u8] {
 
 /// A loop of a case goes along these edges.
 fn check_loop(rt: &impl Abort, row: CaseRow, i: u8, edges: &[u8]) {
-    assert!(rt; listed(&loops_of(row), i) == edges, "loop {i}");
+    assert!(rt; edges_of_loop(&loops_of(row), i) == edges, "loop {i}");
 }
 
 #[test]

@@ -19,7 +19,7 @@ use std::test::Fail;
 use voxel_list::VoxelList;
 
 /// The share of a part without border, whose least vertex is 0.
-fn closed(six: i128) -> Share {
+fn closed_share(six: i128) -> Share {
     Share {
         least: 0,
         six,
@@ -36,7 +36,7 @@ fn is_small(p: &[i64; 3]) -> bool
         && p[2].unsigned_abs() <= 2_097_152
 }
 
-fn measured(
+fn measure_moved(
     rt: &impl Abort,
     alloc: Global,
     triangles: &[[u32; 3]],
@@ -65,7 +65,7 @@ fn check_measured(
     triangles: &[[u32; 3]],
     shares: &[Share],
 ) -> Result<(), Fail> {
-    let measures = measured(rt, alloc, triangles, &FAR)?;
+    let measures = measure_moved(rt, alloc, triangles, &FAR)?;
     assert!(rt; measures.shares() == shares);
     Ok(())
 }
@@ -79,9 +79,9 @@ fn corners_far_from_the_origin(rt: HostRuntime) -> Result<(), Fail> {
         border: 3,
     };
     let triangles = &[[0, 1, 2], [0, 2, 3], [5, 4, 6], [0, 3, 1], [1, 3, 2]];
-    check_measured(&rt, rt.alloc(), triangles, &[closed(-30), triangle])?;
+    check_measured(&rt, rt.alloc(), triangles, &[closed_share(-30), triangle])?;
     let turned = &[[1, 0, 2], [2, 0, 3], [3, 0, 1], [3, 1, 2]];
-    check_measured(&rt, rt.alloc(), turned, &[closed(30)])
+    check_measured(&rt, rt.alloc(), turned, &[closed_share(30)])
 }
 
 /// Eight samples, with one value for the first and one for the others.
@@ -146,13 +146,21 @@ fn measured_below(alloc: Global) -> Result<Measures, Fail> {
 
 #[test]
 fn one_sample_above(rt: HostRuntime) -> Result<(), Fail> {
-    check_shares(&rt, &measured_above(rt.alloc())?, &[closed(1_000_000_000)]);
+    check_shares(
+        &rt,
+        &measured_above(rt.alloc())?,
+        &[closed_share(1_000_000_000)],
+    );
     Ok(())
 }
 
 #[test]
 fn above_and_below_exchanged(rt: HostRuntime) -> Result<(), Fail> {
-    check_shares(&rt, &measured_below(rt.alloc())?, &[closed(-1_000_000_000)]);
+    check_shares(
+        &rt,
+        &measured_below(rt.alloc())?,
+        &[closed_share(-1_000_000_000)],
+    );
     Ok(())
 }
 
@@ -167,7 +175,7 @@ fn a_block_in_a_pad(rt: HostRuntime) -> Result<(), Fail> {
     check_shares(
         &rt,
         &measured_at_5(rt.alloc(), &volume)?,
-        &[closed(34_000_000_000)],
+        &[closed_share(34_000_000_000)],
     );
     Ok(())
 }
@@ -228,7 +236,7 @@ fn zeros(alloc: Global, sizes: Sizes) -> Result<VoxelList, Memory>
     Ok(VoxelList::of(VoxelData::new(sizes, SampleKind::U8, samples)))
 }
 
-fn shaped(alloc: Global, shape: Shape) -> Result<VoxelList, Fail>
+fn volume_of_shape(alloc: Global, shape: Shape) -> Result<VoxelList, Fail>
     ensures { IfOk result (λ v. v.pad ≡ None) }
 {
     let mut volume = zeros(alloc, grid().ok_or("13, 13 and 7 are sizes")?)?;
@@ -244,7 +252,7 @@ fn voxels_in(volume: &VoxelList) -> usize {
 fn check_volume(rt: &impl Abort, measures: &Measures, voxels: usize) {
     let voxels = voxels as u128;
     for share in measures.shares() {
-        assert!(rt; *share == closed(share.six));
+        assert!(rt; *share == closed_share(share.six));
         let lost = share.six.abs_diff(6_000_000_000 * voxels as i128);
         assert!(rt; lost <= 300_000_000 * voxels);
     }
@@ -253,7 +261,7 @@ fn check_volume(rt: &impl Abort, measures: &Measures, voxels: usize) {
 
 /// In a pad of 0.
 fn expect_volume(rt: &impl Abort, alloc: Global, shape: Shape) -> Result<(), Fail> {
-    let volume = shaped(alloc, shape)?;
+    let volume = volume_of_shape(alloc, shape)?;
     let voxels = voxels_in(&volume);
     let padded = volume.padded(alloc, 0)?;
     check_volume(rt, &measured_at_5(alloc, &padded)?, voxels);

@@ -1,6 +1,6 @@
 use Rattle.std.proofs.Common.{rules, ◌≡◌, ◌+◌, ◌-◌, ◌*◌, ◌%◌, ◌∙◌, ap, arith, get_or, length}
 use Rattle.mesh_walk.proofs.FanSums.{lane_of, lanes_long, slot_is}
-use Rattle.mesh_walk.proofs.places.CellPlaces.weighted.Goals as goal
+use Rattle.mesh_walk.proofs.places.CellPlaces.weigh_row.Goals as goal
 
 pub returns-clause-eight : goal.returns-clause-eight
 returns-clause-eight c =
