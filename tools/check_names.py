@@ -1,7 +1,8 @@
 #!/usr/bin/env python3
-"""Checks the README.md of each crate, and the pages of docs/, against the crates' sources.
+"""Checks the README.md of each crate, and the pages of docs/, against the crates' sources, and the width of their lines.
 
-    python3 tools/check_names.py      ends with 1 if a README.md is missing or too long, or something is named that is not there
+    python3 tools/check_names.py      ends with 1 if a README.md is missing or too long, something is named that is not
+                                      there, or a line of code or of a contract is too wide
 
 A README.md has at most ten lines: its title, what the crate has, and then how that is stated, what is proved and what is not.
 docs/architecture.md links it. What is in its backticks is one of these:
@@ -18,6 +19,8 @@ Of README.md and docs/ the second and third form are looked up, and this one, wh
     `crate/path`: `name`, ..       a file or folder in a crate, and what stands in it
 
 A comment of the code cites a decision by the heading of its entry, as `DECISIONS.md, "Ties"`.
+
+A line of code or of a contract has at most 120 characters; comments, imports and lines with a text in quotes may have more.
 """
 import functools
 import pathlib
@@ -27,11 +30,13 @@ import sys
 TOP = pathlib.Path(__file__).resolve().parent.parent
 CRATES = TOP / "crates"
 MOST_LINES = 10
+MOST_COLUMNS = 120
 PARTS = ["- Stated by ", "- Proved: ", "- Not proved: "]
 NAME = r"`[\w:]+`"
 PATH = re.compile(rf"`(\w+/[\w/.-]+)`(?:: ({NAME}(?:(?:, | and ){NAME})*))?")
 MODULE = re.compile(rf"`(\w+)/(\w+)`(?:: ({NAME}(?:(?:, | and ){NAME})*))?")
 CITED = re.compile(r'DECISIONS\.md, "([^"]+)"')
+FREE = re.compile(r"//|(?:pub |ghost )?use |[^\"]*\"")
 BRACKET = re.compile(rf"\(({NAME}(?:, {NAME})*)\)")
 QUOTED = re.compile(r"`([^`]+)`")
 DECLARED = re.compile(r"\b(?:fn|struct|enum|trait|type|const|macro_rules!) (\w+)")
@@ -201,6 +206,14 @@ def lost_decisions():
                 yield f"{file.relative_to(TOP)}: no decision {cited}"
 
 
+def wide_lines():
+    """The lines of code and of contracts that are too wide."""
+    for file in sorted(CRATES.glob("*/src/**/*.rt")):
+        for number, line in enumerate(file.read_text(encoding="utf-8").splitlines(), 1):
+            if len(line) > MOST_COLUMNS and not FREE.match(line.strip()):
+                yield f"{file.relative_to(TOP)}:{number}: more than {MOST_COLUMNS} characters"
+
+
 def lost_in_readme(crate, page, crates):
     """What is wrong with the README.md of a crate, and what it names and is not there."""
     name = f"crates/{crate}/README.md"
@@ -226,7 +239,7 @@ def main():
     crates = names()
     page = (TOP / "docs" / "architecture.md").read_text(encoding="utf-8")
     wrong = [it for crate in crates for it in lost_in_readme(crate, page, set(crates))]
-    wrong += [*lost_in_pages(set(crates)), *lost_decisions()]
+    wrong += [*lost_in_pages(set(crates)), *lost_decisions(), *wide_lines()]
     print("".join(f"{it}\n" for it in wrong), end="")
     sys.exit(1 if wrong else 0)
 

@@ -1,31 +1,14 @@
 -- Eight bytes as lanes.
-use Rattle.std.proofs.Common.{◌≡◌, ◌∙◌, ℕ, ◌+◌, ◌-◌, ◌*◌, ◌%◌, ◌<◌, ◌≤◌, ◌^◌, All, List, length, get_or, take, drop, replicate, sym, ap, ap₂, arith, zero-add}
-use Rattle.std.specs.Simd.Lanes.{zip2, chunk}
-use Rattle.std.proofs.lemmas.List.{get_or-drop, get_or-take, length-drop, length-take-le}
-use Rattle.std.proofs.lemmas.Simd.{get_or-chunk, get_or-replicate, get_or-zip2, length-chunk, length-zip2}
+use Rattle.std.proofs.Common.{◌≡◌, ◌∙◌, ℕ, ◌+◌, ◌*◌, ◌%◌, ◌<◌, ◌≤◌, ◌^◌, All, List, length, get_or, replicate, sym, ap, ap₂, arith}
+use Rattle.std.specs.Simd.Lanes.{zip2}
+use Rattle.std.proofs.lemmas.Simd.{get_or-replicate, get_or-zip2, length-zip2}
+use Rattle.sign_words.proofs.Lanes.{lane_sum, lanes_from, lanes_from_are, lanes_from_long}
 use Rattle.brick_mesh.specs.Signs.{AreEight, byte_in, pair_in}
 
--- the eight bytes from a place on
-abbrev eight_at : List ℕ → ℕ → List ℕ
-eight_at run at = chunk 0 8 (take (at + 8 - at) (drop at run))
+pub eight_are : (run : List ℕ) (at : ℕ) → at + 8 ≤ length run → AreEight (λ i. get_or run (at + i) 0) (lanes_from 8 run at)
+eight_are run at room = record { count = lanes_from_long 8 run at 0 room; each = lanes_from_are 8 run at 0 room }
 
-eight_long : (run : List ℕ) (at : ℕ) → at + 8 ≤ length run → length (eight_at run at) ≡ 8
-eight_long run at room =
-    let front : length (take (at + 8 - at) (drop at run)) ≡ at + 8 - at = length-take-le (at + 8 - at) (drop at run) (omega (arith, length-drop at run)) in
-    length-chunk 0 8 (take (at + 8 - at) (drop at run)) (omega (arith, front))
-
-pub eight_are : (run : List ℕ) (at : ℕ) → at + 8 ≤ length run → AreEight (λ i. get_or run (at + i) 0) (eight_at run at)
-eight_are run at room = record {
-  count = eight_long run at room;
-  each = λ i low.
-      get_or-chunk 0 8 (take (at + 8 - at) (drop at run)) i 0 low
-      ∙ (ap (λ k. get_or (take (at + 8 - at) (drop at run)) k 0) (zero-add i) ∙ get_or-take (at + 8 - at) (drop at run) i 0 (omega arith) ∙ get_or-drop at run i 0);
-}
-
--- the sum and the product of two lanes
-abbrev pub lane_sum : ℕ → ℕ → ℕ
-lane_sum a b = (a + b) % 2 ^ 8
-
+-- the product of two lanes
 abbrev pub lane_product : ℕ → ℕ → ℕ
 lane_product a b = a * b % 2 ^ 8
 

@@ -12,7 +12,7 @@ ghost use Rattle.brick_store.specs.Copies.{AreCopiesOf};
 ghost use Rattle.brick_store.specs.Holding.{points_along};
 
 use crate::block::Block;
-use crate::lanes::{mixed_at, sign_bytes};
+use crate::lanes::sign_bytes;
 use crate::signs::{PairRows, bytes_among, has_only, is_mixed, pair_rows};
 use arrayvec::ArrayVec;
 use brick_store::{BrickId, BrickStore};
@@ -20,6 +20,7 @@ use case_table::{ambiguous_set, classify_with, joined_faces_of};
 use iso_base::{Level, Steps};
 use packed_samples::PackedRun;
 use samples::Packed;
+use sign_words::mixed_at;
 use std::sync::ledger::Ledger;
 
 /// The joined faces of a cell with this sign byte. Only where a face is ambiguous the values at the corners are looked at.

@@ -1,6 +1,5 @@
 //! The signs of eight neighbours, all at once.
-ghost use Rattle.std.specs.Prelude.{◌≡◌, ℕ, ◌+◌, ◌^◌, ◌<◌, ◌≤◌, ◌==◌, ◌||◌, All, cond, length, slice_index};
-ghost use Rattle.std.specs.Int.{bit_at};
+ghost use Rattle.std.specs.Prelude.{◌≡◌, ℕ, ◌+◌, ◌<◌, ◌≤◌, All, length, slice_index};
 ghost use Rattle.brick_mesh.specs.Signs.{AreEight, byte_in, pair_in};
 
 use std::simd::prelude::*;
@@ -39,18 +38,4 @@ pub(crate) fn sign_bytes(near: &[u8; 8], up: &[u8; 8], far: &[u8; 8], both: &[u8
     let lower = u8x8::from_array(*near) + four * u8x8::from_array(*up);
     let upper = u8x8::from_array(*far) + four * u8x8::from_array(*both);
     (lower + u8x8::splat(16) * upper).to_array()
-}
-
-/// A bit for each of the 64 bytes from a place on, the first one the lowest: whether it is neither 0 nor 255.
-#[inline(always)]
-pub(crate) fn mixed_at(bytes: &[u8], from: usize) -> u64
-    requires { from + 64 ≤ length bytes.now }
-    ensures bits { let byte = λ (k : ℕ). slice_index bytes.now (from + k) in
-        (k : ℕ) → k < 64 → bit_at result k ≡ cond (byte k == 0 || byte k == 255) 0 1 }
-    ensures small { (k : ℕ) → k < 64 → slice_index bytes.now (from + k) < 256 }
-    ensures bound { result < 2 ^ 64 }
-{
-    // One more turns these two into 1 and 0, so that one comparison tells.
-    let next = u8x64::from_slice(&bytes[from..]) + u8x64::splat(1);
-    next.simd_gt(u8x64::splat(1)).to_bitmask()
 }

@@ -1,5 +1,5 @@
 -- What a command does that reads a volume from its input: its refusals, and that it is done where nothing fails.
-use Rattle.std.proofs.Common.{◌≡◌, ℕ, ◌<◌, ◌≤◌, List, length, Some, None, Ok, Err, IfSome, refl, inl, inr, arith}
+use Rattle.std.proofs.Common.{◌≡◌, ℕ, ◌<◌, ◌≤◌, List, length, Some, Ok, Err, IfSome, refl, inl, inr, arith}
 use Rattle.std.specs.Prelude.{Option, Result}
 use Rattle.iso_base.specs.Volume.{Volume}
 use Rattle.byte_streams.specs.Causes.{Rose}

@@ -1,32 +1,15 @@
 -- Sixteen bytes as lanes.
-use Rattle.std.proofs.Common.{◌≡◌, ◌∙◌, ℕ, ◌+◌, ◌-◌, ◌*◌, ◌%◌, ◌<◌, ◌≤◌, ◌^◌, Bool, true, false, cond, eqb, List, map, length, get_or, take, drop, replicate, refl, sym, ap, ap₂, subst, arith, w8, zero-add}
-use Rattle.std.specs.Simd.Lanes.{zip2, sel_l, top, chunk}
-use Rattle.std.proofs.lemmas.List.{get_or-drop, get_or-take, length-drop, length-take-le}
-use Rattle.std.proofs.lemmas.Simd.{get_or-chunk, get_or-replicate, get_or-sel_l, get_or-zip2, length-chunk, length-sel_l, length-zip2, tops_compared}
+use Rattle.std.proofs.Common.{◌≡◌, ◌∙◌, ℕ, ◌+◌, ◌<◌, ◌≤◌, false, cond, eqb, List, map, length, get_or, replicate, sym, ap, ap₂, subst, arith, w8}
+use Rattle.std.specs.Simd.Lanes.{zip2, sel_l, top}
+use Rattle.std.proofs.lemmas.Simd.{get_or-replicate, get_or-sel_l, get_or-zip2, length-sel_l, length-zip2, tops_compared}
+use Rattle.sign_words.proofs.Lanes.{apart_by, lane_sum, lanes_from, lanes_from_are, lanes_from_long, sum_is}
 use Rattle.crossing_edges.specs.Lanes.{AreSixteen}
 use Rattle.crossing_edges.specs.Signs.{flag_of, inner_flag}
 
--- the sixteen bytes from a place on
-abbrev sixteen_at : List ℕ → ℕ → List ℕ
-sixteen_at row at = chunk 0 16 (take (at + 16 - at) (drop at row))
+pub sixteen_are : (row : List ℕ) (at : ℕ) → at + 16 ≤ length row → AreSixteen (λ i. get_or row (at + i) 0) (lanes_from 16 row at)
+sixteen_are row at room = record { count = lanes_from_long 16 row at 0 room; each = lanes_from_are 16 row at 0 room }
 
-sixteen_long : (row : List ℕ) (at : ℕ) → at + 16 ≤ length row → length (sixteen_at row at) ≡ 16
-sixteen_long row at room =
-    let front : length (take (at + 16 - at) (drop at row)) ≡ at + 16 - at = length-take-le (at + 16 - at) (drop at row) (omega (arith, length-drop at row)) in
-    length-chunk 0 16 (take (at + 16 - at) (drop at row)) (omega (arith, front))
-
-pub sixteen_are : (row : List ℕ) (at : ℕ) → at + 16 ≤ length row → AreSixteen (λ i. get_or row (at + i) 0) (sixteen_at row at)
-sixteen_are row at room = record {
-  count = sixteen_long row at room;
-  each = λ i low.
-      get_or-chunk 0 16 (take (at + 16 - at) (drop at row)) i 0 low
-      ∙ (ap (λ k. get_or (take (at + 16 - at) (drop at row)) k 0) (zero-add i) ∙ get_or-take (at + 16 - at) (drop at row) i 0 (omega arith) ∙ get_or-drop at row i 0);
-}
-
--- a number where two lanes differ
-abbrev pub apart_by : ℕ → List ℕ → List ℕ → ℕ → ℕ
-apart_by number a b i = cond (eqb (get_or a i 0) (get_or b i 0)) 0 number
-
+-- a number where two rows of lanes differ
 pub apart_are : (a b : List ℕ) (number : ℕ) → length a ≡ 16 → length b ≡ 16
     → AreSixteen (apart_by number a b) (sel_l (map (top 7) (zip2 (λ a b. cond (eqb a b) 255 0) a b)) (replicate 16 0) (replicate 16 number))
 apart_are a b number la lb =
@@ -38,20 +21,6 @@ apart_are a b number la lb =
           ∙ (ap₂ (cond (get_or (zip2 eqb a b) i false)) (get_or-replicate 16 i 0 0 low) (get_or-replicate 16 i number 0 low)
           ∙ ap (λ m. cond m 0 number) (get_or-zip2 eqb a b i 0 0 false (omega (arith, la)) (omega (arith, lb))));
     })
-
--- the sum of two lanes
-abbrev lane_sum : ℕ → ℕ → ℕ
-lane_sum a b = (a + b) % 2 ^ 8
-
-sum_is : (x y z : Bool) → lane_sum (cond x 0 1) (lane_sum (cond y 0 2) (cond z 0 4)) ≡ cond x 0 1 + (2 * cond y 0 1 + 4 * cond z 0 1)
-sum_is true true true = refl
-sum_is true true false = refl
-sum_is true false true = refl
-sum_is true false false = refl
-sum_is false true true = refl
-sum_is false true false = refl
-sum_is false false true = refl
-sum_is false false false = refl
 
 pub flags_are : (here up far : List ℕ) (at : ℕ) (signs next above behind right up_apart far_apart : List ℕ)
     → AreSixteen (λ i. get_or here (at + i) 0) signs → AreSixteen (λ i. get_or here (at + 1 + i) 0) next

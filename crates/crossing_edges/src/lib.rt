@@ -7,8 +7,10 @@ mod edges;
 mod flags;
 mod lanes;
 mod rows;
+mod slices;
 
 pub use counts::{begin_none, count_all_edges, count_edges};
 pub use edges::{EdgeVertices, edge_vertices, position_on};
-pub use flags::{PointBits, flag_row, point_bits, point_flags, put_flags};
+pub use flags::{PointBits, flag_row, point_bits, put_flags};
 pub use rows::{EdgeRows, RowEdges};
+pub use slices::SliceSigns;

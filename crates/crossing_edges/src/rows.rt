@@ -1,16 +1,19 @@
 //! The crossing edges of the rows of a volume at a level, and where they are crossed.
 ghost use Rattle.std.specs.Prelude.{◌≡◌, ◌+◌, ◌*◌, ◌<◌, ◌≤◌, All, length, map, take, true};
 ghost use Rattle.iso_defs.specs.Grid.{Grid, point_count, stride};
+ghost use Rattle.iso_defs.specs.Rows.{row_count};
 ghost use Rattle.iso_defs.specs.Scratch.{crossing_edges};
 ghost use Rattle.iso_defs.specs.Signs.{is_crossing};
 ghost use Rattle.iso_base.specs.Samples.{IsSample};
 ghost use Rattle.iso_base.specs.Shifted.{field, shifted};
 ghost use Rattle.iso_base.specs.Sizing.{IsGrid};
 ghost use Rattle.crossing_edges.specs.Flags.{edge_place, flags_from, names_in, places_in};
-ghost use Rattle.crossing_edges.specs.Leveled.{heights};
+ghost use Rattle.crossing_edges.specs.Leveled.{IsLeveled, heights};
 ghost use Rattle.crossing_edges.specs.Rows.{AreOffsets};
+ghost use Rattle.crossing_edges.specs.Slices.{AreSliceSigns, HaveSlices};
 
 use crate::counts::count_all_edges;
+use crate::slices::SliceSigns;
 use edge_points::sample_place;
 use iso_base::{Level, Sizes};
 use row_lists::{EDGES, list_edges};
@@ -35,40 +38,36 @@ impl RowEdges {
     }
 }
 
-/// A volume at a level whose crossing edges are listed row by row, by the flags of its points. Contracts see its grid, its samples
-/// and the level.
+/// A volume at a level whose crossing edges are listed row by row, by the flags of the points of each. Contracts see its grid,
+/// its samples and the level.
 #[derive(Drop)]
 pub struct EdgeRows<'a, S: Samples> {
     sizes: Sizes,
     samples: &'a S,
     level: Level,
-    flags: &'a [u8],
 }
 
 impl<'a, S: Samples> Model for EdgeRows<'a, S> {
-    ghost use Rattle.crossing_edges.specs.Leveled.{AreFlagged, Leveled};
+    ghost use Rattle.crossing_edges.specs.Leveled.{IsLeveled, Leveled};
 
     ghost Value = { Leveled };
 
     ghost view = { λ v. record { grid = v.sizes; samples = S.list v.samples.now; level = v.level } };
 
-    ghost invariant = { λ v. AreFlagged (record { grid = v.sizes; samples = S.list v.samples.now; level = v.level })
-        v.flags.now };
+    ghost invariant = { λ v. IsLeveled (record { grid = v.sizes; samples = S.list v.samples.now; level = v.level }) };
 }
 
 impl<'a, S: Samples> EdgeRows<'a, S> {
-    /// The rows of a volume at a level, from its sizes, its samples and the flags of its points.
-    pub fn new(sizes: Sizes, samples: &'a S, level: Level, flags: &'a [u8]) -> EdgeRows<'a, S>
+    /// The rows of a volume at a level, from its sizes and its samples.
+    pub fn new(sizes: Sizes, samples: &'a S, level: Level) -> EdgeRows<'a, S>
         requires count { length (S.list samples.now) ≡ point_count sizes }
         requires samples { All IsSample (S.list samples.now) }
-        requires flags { flags.now ≡ flags_from sizes (field (S.list samples.now) level) 0 (point_count sizes) }
         ensures { result ≡ record { grid = sizes; samples = S.list samples.now; level = level } }
     {
         EdgeRows {
             sizes,
             samples,
             level,
-            flags,
         }
     }
 
@@ -76,7 +75,7 @@ impl<'a, S: Samples> EdgeRows<'a, S> {
     #[inline(always)]
     pub fn sizes(&self) -> Sizes
         ensures value { result ≡ self.now.grid }
-        ensures grid { IsGrid self.now.grid }
+        ensures leveled { IsLeveled self.now }
     {
         self.sizes
     }
@@ -88,14 +87,6 @@ impl<'a, S: Samples> EdgeRows<'a, S> {
         ensures grid { IsGrid self.now.grid }
     {
         self.sizes.nx()
-    }
-
-    /// How many crossing edges there are.
-    pub fn count(&self) -> u32
-        ensures { result ≡ length (crossing_edges self.now.grid (heights self.now)) }
-    {
-        let _ = self.sizes();
-        count_all_edges(self.flags)
     }
 
     /// The sample of a point.
@@ -147,27 +138,47 @@ impl<'a, S: Samples> EdgeRows<'a, S> {
         }
     }
 
-    /// The flags of the points of a row.
-    fn row_flags(&self, row: u32) -> &[u8]
-        requires { row < self.now.grid.ny * self.now.grid.nz }
-        ensures { result.now ≡ flags_from self.now.grid (heights self.now) (self.now.grid.nx * row) self.now.grid.nx }
+    /// Writes the signs of the points of a slice: 1 for each that is above the level, 0 for each other.
+    pub(crate) fn put_slice(&self, z: u32, slice: &mut [u8])
+        requires z { z < self.now.grid.nz }
+        requires count { length slice.old ≡ self.now.grid.nx * self.now.grid.ny }
+        ensures { AreSliceSigns self.now z slice.new }
     {
-        let nx = self.nx();
-        let start = nx * row;
-        &self.flags[start as usize..start as usize + nx as usize]
+        let sizes = self.sizes();
+        self.samples
+            .put_signs(sizes.nx() * sizes.ny() * z, self.level, slice);
+    }
+
+    /// How many crossing edges there are. `signs` and `flags`, as many as points along x, are buffers.
+    pub fn count(&self, signs: &mut SliceSigns, flags: &mut [u8]) -> u32
+        requires signs { HaveSlices self.now.grid signs.old }
+        requires flags { length flags.old ≡ self.now.grid.nx }
+        ensures count { result ≡ length (crossing_edges self.now.grid (heights self.now)) }
+        ensures signs { HaveSlices self.now.grid signs.new }
+    {
+        let sizes = self.sizes();
+        signs.begin(self);
+        let mut count = 0;
+        for row in 0..sizes.ny() * sizes.nz() {
+            signs.put_flags(self, row, flags);
+            count += count_all_edges(flags);
+        }
+        count
     }
 
     /// Lists the crossing edges of a row by their offsets, and where they are crossed, at the front of the room for them, and says
-    /// how many there are.
-    pub fn list_row(&self, row: u32, room: &mut RowEdges) -> usize
-        requires { row < self.now.grid.ny * self.now.grid.nz }
+    /// how many there are. `flags` are those of the points of the row.
+    pub fn list_row(&self, row: u32, flags: &[u8], room: &mut RowEdges) -> usize
+        requires row { row < row_count self.now.grid }
+        requires flags { let g = self.now.grid in
+            flags.now ≡ flags_from g (heights self.now) (g.nx * row) g.nx }
         ensures edges { AreOffsets self.now (self.now.grid.nx * row) self.now.grid.nx (take result room.new.edges) }
         ensures places { take result room.new.places
             ≡ places_in self.now.grid (heights self.now) (3 * (self.now.grid.nx * row)) (3 * self.now.grid.nx) }
         ensures count { result ≤ 3 * self.now.grid.nx }
     {
         let start = self.nx() * row;
-        let count = list_edges(self.row_flags(row), &mut room.edges);
+        let count = list_edges(flags, &mut room.edges);
         self.put_places(start, &room.edges[..count], &mut room.places);
         count
     }

@@ -6,7 +6,7 @@ ghost use Rattle.nrrd_read.specs.Nrrd.{Fails, nrrd_of};
 ghost use Rattle.file_points.specs.Points.{PutsPointsOf, text_of};
 
 use byte_streams::{Failed, Sink};
-use crossing_edges::{EdgeRows, point_flags};
+use crossing_edges::EdgeRows;
 use iso_base::{Level, Memory};
 use nrrd_read::{FileVolume, NrrdFault, RawVolume, read_file_volume};
 use point_write::put_points;
@@ -23,12 +23,12 @@ fn put_points_from<S: Samples, K: Sink>(
     sink: &mut K,
 ) -> Result<Result<(), Failed>, Memory>
     requires { S.list samples.now ≡ volume.now.samples }
-    ensures text { IfOk result (λ written. Puts (K.seen sink.old) (K.seen sink.new) written (text_of volume.now level)) }
+    ensures text { IfOk result (λ written. Puts (K.seen sink.old) (K.seen sink.new) written
+        (text_of volume.now level)) }
     ensures nothing { IfErr result (λ _. K.seen sink.new ≡ K.seen sink.old) }
 {
     let sizes = volume.sizes();
-    let flags = point_flags(alloc, &sizes, samples, level)?;
-    Ok(put_points(sink, &EdgeRows::new(sizes, samples, level, &flags)))
+    put_points(alloc, sink, &EdgeRows::new(sizes, samples, level))
 }
 
 /// Appends that of a volume whose samples lie in bytes.
@@ -38,7 +38,8 @@ fn put_points_of_raw<K: Sink>(
     level: Level,
     sink: &mut K,
 ) -> Result<Result<(), Failed>, Memory>
-    ensures text { IfOk result (λ written. Puts (K.seen sink.old) (K.seen sink.new) written (text_of volume.now level)) }
+    ensures text { IfOk result (λ written. Puts (K.seen sink.old) (K.seen sink.new) written
+        (text_of volume.now level)) }
     ensures nothing { IfErr result (λ _. K.seen sink.new ≡ K.seen sink.old) }
 {
     with_samples!(volume.samples(), samples => put_points_from(alloc, volume, &samples, level, sink))

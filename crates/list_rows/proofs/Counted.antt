@@ -18,7 +18,7 @@ use Rattle.flat_mesh.proofs.CellAdds.{IsQuiet, no_centres, no_triangles}
 use Rattle.flat_mesh.proofs.Quiet.{last_row, last_slice}
 use Rattle.mesh_rows.specs.Counts.{AreCounts, centres_among, triangles_among}
 use Rattle.mesh_rows.specs.declared.counts.Counts.{Counts}
-use Rattle.list_rows.proofs.SpanLaws.{length_more, span_none, span_one, span_quiet}
+use Rattle.mesh_rows.proofs.SpanLaws.{length_more, span_none, span_one, span_quiet}
 use Rattle.list_rows.specs.Cases.{HasNoLoops}
 
 -- cells without loops have no centres and no triangles

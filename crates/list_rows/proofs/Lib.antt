@@ -1,16 +1,14 @@
 pub mod QuietCases
 pub mod Numbered
 pub mod SignRows
-pub mod SpanLaws
 pub mod RowPlaces
 pub mod Corners
 pub mod RowCases
 pub mod Counted
 pub mod Ends
 pub mod PointEnds
-pub mod LowestBit
 pub mod PutCases
-pub mod MixedBytes
+pub mod SameBytes
 pub mod Listed
 pub mod KeptRows
 pub mod Views

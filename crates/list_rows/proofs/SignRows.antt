@@ -11,7 +11,8 @@ use Rattle.crossing_edges.proofs.RowFlags.{row_flags}
 use Rattle.crossing_edges.proofs.SignFlags.{flags_are}
 use Rattle.flat_mesh.specs.Lattice.{IsLeveled, Leveled}
 use Rattle.flat_mesh.specs.Rows.{AreSigns, row_start, sign_bit}
-use Rattle.flat_mesh.proofs.Parts.{part_at, part_length, row_fits, slice_fits}
+use Rattle.crossing_edges.proofs.SliceRows.{slice_in}
+use Rattle.flat_mesh.proofs.Parts.{part_at, part_length, row_fits}
 use Rattle.mesh_rows.specs.Rows.{AreFlags, IsStill}
 use Rattle.list_rows.specs.Cases.{HasNoLoops}
 use Rattle.list_rows.specs.Signs.{AreRowSigns, AreSliceSigns, next_to}
@@ -27,7 +28,7 @@ module _ (v : Leveled) (z : ℕ) (slice : List ℕ) (is : IsLeveled v) (are : Ar
   part = take plane (drop (plane * z) v.samples)
 
   part_long : length part ≡ plane
-  part_long = length-take-le plane (drop (plane * z) v.samples) (omega (arith, length-drop (plane * z) v.samples, is.count, slice_fits v.grid z hz))
+  part_long = length-take-le plane (drop (plane * z) v.samples) (omega (arith, length-drop (plane * z) v.samples, is.count, slice_in v.grid z hz))
 
   pub slice_length : length slice ≡ v.grid.nx * v.grid.ny
   slice_length = ap length are.list ∙ (length-map part (sign_of v.level) ∙ part_long)

@@ -1,24 +1,13 @@
--- The signs of slices of points, and of the rows around a row of cells.
-use Rattle.std.specs.Prelude.{◌≡◌, ℕ, ◌+◌, ◌-◌, ◌*◌, ◌<◌, List, drop, map, min, take}
-use Rattle.crossing_edges.specs.Signs.{sign_of}
+-- The signs of the rows around a row of cells.
+use Rattle.std.specs.Prelude.{◌≡◌, ℕ, ◌<◌, List, length, slice_index}
+pub use Rattle.crossing_edges.specs.Slices.{AreSliceSigns, AreSlices, next_to}
 use Rattle.flat_mesh.specs.Lattice.{Leveled}
 use Rattle.flat_mesh.specs.Rows.{AreSigns}
 use Rattle.list_rows.specs.declared.signs.RowSigns.{RowSigns}
-use Rattle.list_rows.specs.declared.signs.SliceSigns.{SliceSigns}
 
--- the signs of the points of a slice
-pub record AreSliceSigns (v : Leveled) (z : ℕ) (signs : List ℕ) : Type 0 where
-  pub list : signs ≡ map (sign_of v.level)
-      (take (v.grid.nx * v.grid.ny) (drop (v.grid.nx * v.grid.ny * z) v.samples))
-
--- those of a slice and of the next one, if there is one
-pub record AreSlices (v : Leveled) (z : ℕ) (signs : SliceSigns) : Type 0 where
-  pub near : AreSliceSigns v z signs.near.items
-  pub far : z + 1 < v.grid.nz → AreSliceSigns v (z + 1) signs.far.items
-
--- the next coordinate, or the last one again
-abbrev pub next_to : ℕ → ℕ → ℕ
-next_to c size = min (c + 1) (size - 1)
+-- each byte is this one
+abbrev pub AreAllOf : List ℕ → ℕ → Type 0
+AreAllOf bytes byte = (x : ℕ) → x < length bytes → slice_index bytes x ≡ byte
 
 -- the signs of a row of points, and of the next rows along y, along z and along both
 pub record AreRowSigns (v : Leveled) (y z : ℕ) (row : RowSigns) : Type 0 where

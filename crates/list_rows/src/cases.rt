@@ -1,6 +1,5 @@
 //! The cases of the cells of a row, from the signs of the points around it.
-ghost use Rattle.std.specs.Prelude.{◌≡◌, ℕ, ◌+◌, ◌-◌, ◌*◌, ◌<◌, ◌≤◌, ◌==◌, ◌||◌, IfOk, cond, length, min, slice_index};
-ghost use Rattle.std.specs.Int.{bit_at};
+ghost use Rattle.std.specs.Prelude.{◌≡◌, ℕ, ◌+◌, ◌-◌, ◌*◌, ◌<◌, ◌≤◌, IfOk, length, min, slice_index};
 ghost use Rattle.iso_defs.specs.Grid.{index};
 ghost use Rattle.flat_mesh.specs.Centres.{IsCellAt};
 ghost use Rattle.flat_mesh.specs.Rows.{IsSignRow, byte_of, row_start};
@@ -15,20 +14,8 @@ use case_table::{ambiguous_set, row_of};
 use flat_mesh::{Cell, Heights, cell_case, cell_row};
 use iso_base::{Point, Sizes};
 use mesh_rows::Counts;
+use sign_words::mixed_at;
 use std::alloc::{AllocError, Global};
-use std::simd::prelude::*;
-
-/// A bit for each of the 64 bytes from a place on: whether it is neither 0 nor 255.
-#[inline(always)]
-fn mixed_at(bytes: &[u8], from: usize) -> u64
-    requires { from + 64 ≤ length bytes.now }
-    ensures { let byte = λ (k : ℕ). slice_index bytes.now (from + k) in
-        (k : ℕ) → k < 64 → bit_at result k ≡ cond (byte k == 0 || byte k == 255) 0 1 }
-{
-    // One more turns these two into 1 and 0, so that one comparison tells.
-    let next = u8x64::from_slice(&bytes[from..]) + u8x64::splat(1);
-    next.simd_gt(u8x64::splat(1)).to_bitmask()
-}
 
 /// The index of the first point of a row.
 #[inline(always)]

@@ -1,19 +1,13 @@
-//! The signs of two slices of points next to each other, and of the rows around a row of cells.
+//! The signs of the rows around a row of cells, out of those of two slices.
 ghost use Rattle.std.specs.Prelude.{◌≡◌, ℕ, ◌+◌, ◌*◌, ◌<◌, ◌≤◌, IsTrue, length, slice_index};
 ghost use Rattle.flat_mesh.specs.Rows.{AreSigns};
 ghost use Rattle.mesh_rows.specs.Rows.{AreFlags, IsStill};
 ghost use Rattle.list_rows.specs.Cases.{HasNoLoops};
-ghost use Rattle.list_rows.specs.Signs.{AreRowSigns, AreSliceSigns, AreSlices, next_to};
+ghost use Rattle.list_rows.specs.Signs.{AreAllOf, AreRowSigns, AreSliceSigns, AreSlices, next_to};
 
+use crossing_edges::SliceSigns;
 use flat_mesh::Heights;
 use std::simd::prelude::*;
-
-/// The signs of a slice of points and of the next one. What `far` has behind the last slice is open.
-#[derive(Drop)]
-pub struct SliceSigns {
-    pub near: Vec<u8>,
-    pub far: Vec<u8>,
-}
 
 /// The signs of a row of points, and of the next rows along y, along z and along both. Where there is no next row, the row
 /// itself stands for it.
@@ -113,7 +107,7 @@ fn are_from(bytes: &[u8], from: usize, byte: u8) -> bool
 /// Whether each of the signs or the flags of a row is this one. `false` is free, as above.
 #[inline(always)]
 pub fn are_all(bytes: &[u8], byte: u8) -> bool
-    ensures { IsTrue result → (x : ℕ) → x < length bytes.now → slice_index bytes.now x ≡ byte }
+    ensures { IsTrue result → AreAllOf bytes.now byte }
 {
     let runs = bytes.len() / 64;
     for run in 0..runs {
@@ -148,10 +142,10 @@ fn are_rows_alike(signs: RowSigns, sign: u8) -> bool
     requires up { length signs.up.now ≡ length signs.here.now }
     requires far { length signs.far.now ≡ length signs.here.now }
     requires both { length signs.both.now ≡ length signs.here.now }
-    ensures here { IsTrue result → (x : ℕ) → x < length signs.entry.here.now → slice_index signs.entry.here.now x ≡ sign }
-    ensures up { IsTrue result → (x : ℕ) → x < length signs.entry.up.now → slice_index signs.entry.up.now x ≡ sign }
-    ensures far { IsTrue result → (x : ℕ) → x < length signs.entry.far.now → slice_index signs.entry.far.now x ≡ sign }
-    ensures both { IsTrue result → (x : ℕ) → x < length signs.entry.both.now → slice_index signs.entry.both.now x ≡ sign }
+    ensures here { IsTrue result → AreAllOf signs.entry.here.now sign }
+    ensures up { IsTrue result → AreAllOf signs.entry.up.now sign }
+    ensures far { IsTrue result → AreAllOf signs.entry.far.now sign }
+    ensures both { IsTrue result → AreAllOf signs.entry.both.now sign }
 {
     let runs = signs.here.len() / 64;
     for run in 0..runs {

@@ -1,1 +1,2 @@
 pub mod FlagEdges
+pub mod SpanLaws

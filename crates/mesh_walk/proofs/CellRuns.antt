@@ -20,7 +20,7 @@ use Rattle.mesh_rows.specs.Rows.{IsCaseOf}
 use Rattle.mesh_walk.specs.declared.cells.RowCells.{RowCells}
 use Rattle.mesh_walk.specs.Cells.{AreCells}
 use Rattle.mesh_walk.specs.Numbers.{AreQuiet, begins_cells, cost_before, cost_of_row}
-use Rattle.mesh_walk.proofs.SpanLaws.{span_quiet}
+use Rattle.mesh_rows.proofs.SpanLaws.{span_quiet}
 
 -- rows of points that begin no cells
 pub last_of_slice : (v : Leveled) (y z : ℕ) → y + 1 ≡ v.grid.ny → z < v.grid.nz → AreQuiet v (row_start v.grid y z) v.grid.nx

@@ -20,7 +20,7 @@ use Rattle.mesh_walk.specs.declared.cells.RowCells.{RowCells}
 use Rattle.mesh_walk.specs.Cells.{AreCells}
 use Rattle.mesh_walk.specs.Numbers.{AreQuiet}
 use Rattle.mesh_walk.specs.Spans.{centre_lines, centres_text}
-use Rattle.mesh_walk.proofs.SpanLaws.{span_quiet}
+use Rattle.mesh_rows.proofs.SpanLaws.{span_quiet}
 
 -- a run of cells without loops
 pub quiet_centres : (style : Style) (v : Leveled) (a n : ℕ) → AreQuiet v a n → centres_text style v a n ≡ []

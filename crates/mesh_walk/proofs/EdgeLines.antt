@@ -15,7 +15,7 @@ use Rattle.mesh_lines.specs.RowLines.{RowPlace, edge_at}
 use Rattle.mesh_lines.specs.declared.style.Style.{Style}
 use Rattle.mesh_walk.specs.Spans.{edge_line, edges_text}
 use Rattle.mesh_walk.proofs.AnyName.{any_name}
-use Rattle.mesh_walk.proofs.SpanLaws.{span_quiet}
+use Rattle.mesh_rows.proofs.SpanLaws.{span_quiet}
 
 module _ (v : Leveled) (point : Point) (h : IsPoint v.grid point) where
   abbrev p : ℕ

@@ -34,7 +34,7 @@ use Rattle.mesh_rows.specs.Counts.{centres_among, span}
 use Rattle.mesh_walk.specs.Spans.{edge_count, face_lines, faces_text, triangle_lines}
 use Rattle.mesh_walk.proofs.Adding.{behind_as}
 use Rattle.mesh_walk.proofs.CellRuns.{no_centres_among}
-use Rattle.mesh_walk.proofs.SpanLaws.{length_more, span_none, span_one, span_quiet}
+use Rattle.mesh_rows.proofs.SpanLaws.{length_more, span_none, span_one, span_quiet}
 
 pub lines_append : (format : MeshFormat) (xs ys : List (List ℕ)) → face_lines format (xs ++ ys) ≡ face_lines format xs ++ face_lines format ys
 unfolding face_lines

@@ -1,6 +1,6 @@
 pub mod ActiveCells
 pub mod Adding
-pub mod SpanLaws
+pub mod RunLaws
 pub mod RankedRows
 pub mod AnyName
 pub mod CornerLanes

@@ -35,7 +35,7 @@ use Rattle.mesh_walk.specs.declared.cells.RowCells.{RowCells}
 use Rattle.mesh_walk.proofs.ActiveCells.{case_of, cell_low, gap, gap_before, gap_low, quiet_gap, quiet_rest}
 use Rattle.mesh_walk.proofs.CellRuns.{cell_in, cell_of}
 use Rattle.mesh_walk.proofs.FaceLines.{cell_lines, few_centres_of, lines_append, lines_none, quiet_faces, total_is}
-use Rattle.mesh_walk.proofs.SpanLaws.{span_more, span_none}
+use Rattle.mesh_rows.proofs.SpanLaws.{span_more, span_none}
 use Rattle.mesh_walk.proofs.TextSlots.{IsNumbered, corners_named, named, numbers, numbers_are}
 
 -- what holds of each number of some lists holds of each of them joined

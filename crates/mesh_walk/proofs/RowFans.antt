@@ -12,7 +12,7 @@ use Rattle.mesh_rows.specs.Counts.{span}
 use Rattle.mesh_walk.specs.Fans.{by_numbers, cell_fans, row_fans, seen}
 use Rattle.mesh_walk.specs.Numbers.{AreQuiet}
 use Rattle.mesh_walk.specs.declared.centres.RowFan.{RowFan}
-use Rattle.mesh_walk.proofs.SpanLaws.{span_more, span_none, span_one, span_quiet}
+use Rattle.mesh_rows.proofs.SpanLaws.{span_more, span_none, span_one, span_quiet}
 
 -- two are written, and as many stay as there are
 pub put_two : {X : Type 0} (xs : List X) (a b : X) (i c : ℕ) → c ≤ 2 → i + 2 ≤ length xs → take (i + c) (set (set xs i a) (i + 1) b) ≡ take i xs ++ take c (a ∷ b ∷ [])

@@ -40,7 +40,8 @@ pub struct RowFan {
 #[inline(always)]
 fn put_fans(case: CaseRow, x: u16, fans: &mut [RowFan; FANS], at: usize) -> usize
     requires room { at + 2 ≤ 2052 }
-    ensures put { map seen (take result fans.new) ≡ map seen (take at fans.old) ++ map (λ l. (x, fan_of l.1)) (row_centres case) }
+    ensures put { map seen (take result fans.new)
+        ≡ map seen (take at fans.old) ++ map (λ l. (x, fan_of l.1)) (row_centres case) }
     ensures low { All (λ f. f.fan < 115) (take at fans.old) → All (λ f. f.fan < 115) (take result fans.new) }
     ensures end { result ≤ at + 2 }
 {
@@ -83,7 +84,8 @@ fn write_fans<H: Heights, K: Sink>(
     requires y { row.texts.now.y + 1 < (H.leveled field.now).grid.ny }
     requires z { row.texts.now.z + 1 < (H.leveled field.now).grid.nz }
     requires width { row.texts.now.count ≡ (H.leveled field.now).grid.nx }
-    requires places { AreRowPlaces (H.leveled field.now) row.texts.now.y row.texts.now.z row.places.now.places row.rows }
+    requires places { let texts = row.texts.now in
+        AreRowPlaces (H.leveled field.now) texts.y texts.z row.places.now.places row.rows }
     requires fans { AreFans (H.leveled field.now) row.texts.now.y row.texts.now.z fans.now }
     ensures adds { let v = H.leveled field.now in
         let texts = row.entry.texts.now in

@@ -93,7 +93,8 @@ fn put_eight(table: &[u16; TABLE], from: usize, far: u16, list: &mut [u16; LIST]
 fn put_corners(table: &[u16; TABLE], from: usize, far: u16, list: &mut [u16; LIST], at: usize)
     requires from { from + 40 ≤ 13312 }
     requires at { at + 40 ≤ 36940 }
-    ensures { take (at + 40) list.new ≡ take at list.old ++ map (λ s. (s + far) % 65536) (take 40 (drop from table.now)) }
+    ensures { take (at + 40) list.new
+        ≡ take at list.old ++ map (λ s. (s + far) % 65536) (take 40 (drop from table.now)) }
 {
     put_eight(table, from, far, list, at);
     put_eight(table, from + 8, far, list, at + 8);

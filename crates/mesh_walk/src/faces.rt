@@ -81,8 +81,9 @@ impl Faces {
     ) -> Result<(), Failed>
         requires cells { AreCells (H.leveled field.now) self.old.cells }
         requires slots { HaveCorners self.old.slots.tables }
-        requires texts { let cells = self.old.cells in
-            AreAround (text_at self.old.texts.slots.texts) (number_due style (H.leveled field.now)) (H.leveled field.now) cells.y cells.z }
+        requires texts { let v = H.leveled field.now in
+            let cells = self.old.cells in
+            AreAround (text_at self.old.texts.slots.texts) (number_due style v) v cells.y cells.z }
         requires next { let v = H.leveled field.now in
             HasNumber v (cells_start v self.old.cells) self.old.next }
         ensures adds { let v = H.leveled field.now in

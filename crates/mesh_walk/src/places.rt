@@ -34,9 +34,9 @@ impl<'a> CellPlaces<'a> {
         requires row { row < 4 }
         requires room { slice_index self.rows row + self.at + 8 ≤ 12314 }
         ensures eight { length result ≡ 8 }
-        ensures lanes { (s : ℕ) → s < 8 → slice_index result s
-            ≡ (slot_place self.entry.places.now self.entry.rows self.entry.at (8 * row + s) * slice_index fan.now (8 * row + s))
-            % 65536 }
+        ensures lanes { let places = slot_place self.entry.places.now self.entry.rows self.entry.at in
+            (s : ℕ) → s < 8 → slice_index result s
+            ≡ (places (8 * row + s) * slice_index fan.now (8 * row + s)) % 65536 }
     {
         let from = self.rows[row] + self.at;
         let places = self.places;
@@ -77,8 +77,9 @@ impl<'a> CellPlaces<'a> {
         requires room { (row : ℕ) → row < 4 → slice_index self.rows row + self.at + 8 ≤ 12314 }
         requires some { 0 < slice_index fan.now 39 }
         requires few { slice_index fan.now 39 ≤ 12 }
-        ensures { (place : ℕ → ℕ) → (edges : List ℕ) → fan.now ≡ fan_of edges
-            → ArePlaced place edges (slot_place self.entry.places.now self.entry.rows self.entry.at) → IsCentre place edges result }
+        ensures { let at = slot_place self.entry.places.now self.entry.rows self.entry.at in
+            (place : ℕ → ℕ) → (edges : List ℕ) → fan.now ≡ fan_of edges → ArePlaced place edges at
+            → IsCentre place edges result }
     {
         let sums = self.sums(fan);
         let count = u32::from(fan[39]);

@@ -12,7 +12,6 @@ pub struct Counted;
 
 /// How many digits a number below 10,000 has.
 #[inline(always)]
-#[tactic(auto, using(crate::proofs::Counts::one_digit, crate::proofs::Counts::two_digits, crate::proofs::Counts::three_digits_of, crate::proofs::Counts::four_digits_of))]
 pub fn count_short(n: u64) -> usize
     requires { n < 10000 }
     ensures value { result ≡ length (decimal n) }

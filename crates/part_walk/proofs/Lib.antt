@@ -1,4 +1,3 @@
-pub mod BitLaws
 pub mod BorderSteps
 pub mod CountLaws
 pub mod PassedLaws

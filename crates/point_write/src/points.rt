@@ -1,19 +1,25 @@
 //! The vertices on crossing edges as a PLY text.
 
-ghost use Rattle.std.specs.Prelude.{◌≡◌, ◌+◌, ◌*◌, ◌<◌, ◌≤◌, All, length};
+ghost use Rattle.std.specs.Prelude.{◌≡◌, ◌+◌, ◌*◌, ◌<◌, ◌≤◌, All, IfErr, IfOk, length};
 ghost use Rattle.iso_defs.specs.Rows.{row_count};
 ghost use Rattle.iso_defs.specs.Texts.{points_text};
 ghost use Rattle.byte_streams.specs.Seen.{Puts, Stages};
+ghost use Rattle.crossing_edges.specs.Flags.{flags_from};
 ghost use Rattle.crossing_edges.specs.Leveled.{heights};
+ghost use Rattle.crossing_edges.specs.Slices.{HaveSlices};
 ghost use Rattle.point_write.specs.Edges.{edge_points, lines_in, row_line, row_lines};
 ghost use Rattle.point_write.specs.Rows.{AreTextsOf};
 
 use byte_streams::{Failed, Sink};
-use crossing_edges::{EdgeRows, RowEdges};
-use iso_base::{MeshFormat, Sizes};
+use crossing_edges::{EdgeRows, RowEdges, SliceSigns};
+use iso_base::{Memory, MeshFormat, Sizes};
 use mesh_lines::{Block, Origin, RowTexts, Style};
 use mesh_text::points_head_text;
 use samples::Samples;
+use std::alloc::Global;
+
+/// So many points are in the longest row.
+const ROW: usize = 1026;
 
 /// How points are written.
 const STYLE: Style = Style {
@@ -79,21 +85,24 @@ struct PointRow {
 }
 
 impl PointRow {
-    /// Puts the lines of the vertices on the edges of a row behind the others.
+    /// Puts the lines of the vertices on the edges of a row behind the others, by the flags of its points.
     fn write<S: Samples, K: Sink>(
         &mut self,
         rows: &EdgeRows<'_, S>,
         row: u32,
+        flags: &[u8],
         block: &mut Block,
         sink: &mut K,
     ) -> Result<(), Failed>
         requires texts { AreTextsOf rows.now.grid self.old.texts }
         requires row { row < row_count rows.now.grid }
+        requires flags { let g = rows.now.grid in
+            flags.now ≡ flags_from g (heights rows.now) (g.nx * row) g.nx }
         ensures texts { AreTextsOf rows.now.grid self.new.texts }
         ensures lines { Stages (K.seen sink.old) (K.seen sink.new) block.old.waiting block.new.waiting result
             (lines_in rows.now.grid (heights rows.now) (3 * (rows.now.grid.nx * row)) (3 * rows.now.grid.nx)) }
     {
-        let count = rows.list_row(row, &mut self.edges);
+        let count = rows.list_row(row, flags, &mut self.edges);
         if count == 0 {
             return Ok(());
         }
@@ -105,12 +114,16 @@ impl PointRow {
     }
 }
 
-/// Puts the lines of the vertices on all crossing edges behind the others.
+/// Puts the lines of the vertices on all crossing edges behind the others. `signs` and `flags` are buffers.
 fn write_rows<S: Samples, K: Sink>(
     rows: &EdgeRows<'_, S>,
+    signs: &mut SliceSigns,
+    flags: &mut [u8],
     block: &mut Block,
     sink: &mut K,
 ) -> Result<(), Failed>
+    requires signs { HaveSlices rows.now.grid signs.old }
+    requires flags { length flags.old ≡ rows.now.grid.nx }
     ensures { Stages (K.seen sink.old) (K.seen sink.new) block.old.waiting block.new.waiting result
         (lines_in rows.now.grid (heights rows.now) 0 (3 * (rows.now.grid.nx * row_count rows.now.grid))) }
 {
@@ -119,20 +132,49 @@ fn write_rows<S: Samples, K: Sink>(
         edges: RowEdges::new(),
         texts: RowTexts::new(STYLE, sizes.nx(), block),
     };
+    signs.begin(rows);
     for number in 0..sizes.ny() * sizes.nz() {
-        row.write(rows, number, block, sink)?;
+        signs.put_flags(rows, number, flags);
+        row.write(rows, number, flags, block, sink)?;
     }
     Ok(())
 }
 
-/// Appends the PLY text of the vertices on the crossing edges of a volume, without faces, in order of name. It is gathered in a
-/// block on the stack. `Failed` comes only where the sink's count rose; a prefix of the text was then taken.
-pub fn put_points<S: Samples, K: Sink>(sink: &mut K, rows: &EdgeRows<'_, S>) -> Result<(), Failed>
+/// Appends the text. `signs` is a buffer.
+fn write_points<S: Samples, K: Sink>(
+    sink: &mut K,
+    rows: &EdgeRows<'_, S>,
+    signs: &mut SliceSigns,
+) -> Result<(), Failed>
+    requires { HaveSlices rows.now.grid signs.old }
     ensures { Puts (K.seen sink.old) (K.seen sink.new) result
         (points_text (edge_points rows.now.grid (heights rows.now))) }
 {
+    let mut room = [0; ROW];
+    let flags = &mut room[..rows.sizes().nx() as usize];
     let mut block = Block::new();
-    block.push(points_head_text(rows.count()).as_str().as_bytes());
-    write_rows(rows, &mut block, sink)?;
+    block.push(
+        points_head_text(rows.count(signs, flags))
+            .as_str()
+            .as_bytes(),
+    );
+    write_rows(rows, signs, flags, &mut block, sink)?;
     block.write_waiting(sink)
+}
+
+/// Appends the PLY text of the vertices on the crossing edges of a volume, without faces, in order of name. The rows of points are
+/// gone through twice, first to count the edges for the head, each time with the signs of two slices at hand; that memory is all that
+/// is taken. The text is gathered in a block on the stack. `Failed` comes only where the sink's count rose; a prefix of the text was
+/// then taken.
+pub fn put_points<S: Samples, K: Sink>(
+    alloc: Global,
+    sink: &mut K,
+    rows: &EdgeRows<'_, S>,
+) -> Result<Result<(), Failed>, Memory>
+    ensures text { IfOk result (λ written. Puts (K.seen sink.old) (K.seen sink.new) written
+        (points_text (edge_points rows.now.grid (heights rows.now)))) }
+    ensures nothing { IfErr result (λ _. K.seen sink.new ≡ K.seen sink.old) }
+{
+    let mut signs = SliceSigns::new(alloc, &rows.sizes())?;
+    Ok(write_points(sink, rows, &mut signs))
 }

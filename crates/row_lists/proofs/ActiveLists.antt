@@ -1,14 +1,13 @@
 -- The active cells of a row, in order, and those between them.
-use Rattle.std.proofs.Math.ListN.{get_or-eq_default}
-use Rattle.std.proofs.Common.{◌≡◌, ℕ, zero, suc, ◌+◌, ◌-◌, ◌<◌, ◌≤◌, Bool, true, false, cond, not, List, [], ◌∷◌, ◌++◌, map, length, get_or, append-nil, refl, sym, ◌∙◌, ap, subst, arith, eqb, if◌then◌else◌, inl, inr}
+use Rattle.std.proofs.Common.{◌≡◌, ℕ, zero, suc, ◌+◌, ◌-◌, ◌<◌, ◌≤◌, Bool, true, false, cond, not, List, [], ◌∷◌, ◌++◌, map, length, get_or, append-nil, refl, sym, ◌∙◌, ap, arith, eqb, if◌then◌else◌}
 use Rattle.std.specs.Int.{bit_at}
 use Rattle.std.specs.List.{filter, range_with_len}
-use Rattle.std.proofs.lemmas.Bool.{cases_lt, eqb-true, eqb-false}
-use Rattle.std.proofs.lemmas.List.{get_or-take, get_or_default, length-append}
+use Rattle.std.proofs.lemmas.Bool.{eqb-true, eqb-false}
+use Rattle.std.proofs.lemmas.List.{length-append}
 use Rattle.std.proofs.lemmas.List.Elements.{filter-append}
 use Rattle.iso_defs.proofs.Ranges.{range_append}
 use Rattle.row_lists.specs.Active.{active_among}
-use Rattle.row_lists.proofs.FlagBits.{bits_set, filter_none, is_set}
+use Rattle.sign_words.proofs.SetBits.{bits_set, filter_none, is_set}
 
 -- where the run of numbers begins that ends with the one listed at a place: behind the one before it
 abbrev pub begins : ℕ → List ℕ → ℕ → ℕ

@@ -1,5 +1,5 @@
 -- The offsets of the crossing edges of some points, and of some more.
-use Rattle.std.proofs.Common.{◌≡◌, ℕ, zero, suc, ◌+◌, ◌*◌, ◌/◌, ◌%◌, ◌<◌, ◌≤◌, Bool, true, false, cond, List, [], ◌∷◌, ◌++◌, map, take, drop, set, length, get_or, refl, sym, subst, ◌∙◌, ap, ap₂, arith, eqb, ◌-◌, add-zero, append-nil, append_assoc, inl, inr}
+use Rattle.std.proofs.Common.{◌≡◌, ℕ, zero, suc, ◌+◌, ◌<◌, ◌≤◌, Bool, true, false, cond, List, [], ◌∷◌, ◌++◌, take, drop, set, length, get_or, refl, sym, ◌∙◌, ap, ap₂, arith, ◌-◌, add-zero, append-nil, append_assoc}
 use Rattle.std.specs.List.{flat_map, range_with_len}
 use Rattle.std.proofs.lemmas.List.{length-append, length-take-le, take-append-drop, take-set, take-take, take_at, take_more_set}
 use Rattle.std.proofs.lemmas.List.Concat.{flat_map-append}

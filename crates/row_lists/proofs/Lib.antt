@@ -1,4 +1,3 @@
-pub mod FlagBits
 pub mod EdgeLists
 pub mod PairEdges
 pub mod ActiveLists

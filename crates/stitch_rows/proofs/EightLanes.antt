@@ -1,12 +1,13 @@
 -- Eight numbers as lanes.
-use Rattle.std.proofs.Common.{◌≡◌, ◌∙◌, ℕ, ◌+◌, ◌-◌, ◌*◌, ◌%◌, ◌<◌, ◌≤◌, ◌^◌, Bool, true, false, cond, eqb, leb, List, All, map, length, get_or, take, drop, replicate, ℤ, pos, negsuc, refl, sym, ap, ap₂, subst, arith, w8, w16, w32, Fits, SFits, of_z, to_z, zero-add}
+use Rattle.std.proofs.Common.{◌≡◌, ◌∙◌, ℕ, ◌+◌, ◌-◌, ◌<◌, ◌≤◌, ◌^◌, Bool, true, false, cond, eqb, leb, List, All, map, length, get_or, replicate, ℤ, pos, negsuc, refl, sym, ap, ap₂, subst, arith, w8, w16, w32, Fits, SFits, of_z, to_z, zero-add}
 use mir.Syntax.{Width}
 use mir.Val.{bits, hbits}
 use lib.Signed.{le_z}
-use Rattle.std.specs.Simd.Lanes.{Each1, zip2, sel_l, top, chunk, put_chunk}
+use Rattle.std.specs.Simd.Lanes.{Each1, zip2, sel_l, top, put_chunk}
 use Rattle.std.proofs.lemmas.Int.{ints, to_z-of_z}
-use Rattle.std.proofs.lemmas.List.{get_or-drop, get_or-map, get_or-take, length-drop, length-map, length-take-le}
-use Rattle.std.proofs.lemmas.Simd.{Each1-from_get_or, get_or-chunk, get_or-replicate, get_or-sel_l, get_or-zip2, length-chunk, length-sel_l, length-zip2, put_chunk_whole, tops_compared}
+use Rattle.std.proofs.lemmas.List.{get_or-map, length-map}
+use Rattle.std.proofs.lemmas.Simd.{Each1-from_get_or, get_or-replicate, get_or-sel_l, get_or-zip2, length-sel_l, length-zip2, put_chunk_whole, tops_compared}
+use Rattle.sign_words.proofs.Lanes.{apart_by, lane_sum, lanes_from, lanes_from_are, lanes_from_long, sum_is}
 use Rattle.iso_base.specs.declared.kind.SampleKind.{SampleKind}
 use Rattle.iso_base.specs.declared.kind.SampleKind.TheVariants.{I16, I32}
 use Rattle.iso_base.specs.Samples.{IsOfKind}
@@ -29,21 +30,6 @@ chosen w t xs ys a b number lx ly are =
           ∙ (ap₂ (cond (get_or (zip2 t xs ys) i false)) (get_or-replicate 8 i a 0 low) (get_or-replicate 8 i b 0 low)
           ∙ (ap (λ m. cond m a b) (get_or-zip2 t xs ys i 0 0 false (omega (arith, lx)) (omega (arith, ly))) ∙ are i low));
     })
-
--- the eight numbers from a place on
-abbrev pub eight_at : {A : Type 0} → List A → ℕ → List A
-eight_at run at = chunk 0 8 (take (at + 8 - at) (drop at run))
-
-module _ {A : Type 0} (run : List A) (at : ℕ) (d : A) (room : at + 8 ≤ length run) where
-  pub eight_long : length (eight_at run at) ≡ 8
-  eight_long =
-      let front : length (take (at + 8 - at) (drop at run)) ≡ at + 8 - at = length-take-le (at + 8 - at) (drop at run) (omega (arith, length-drop at run)) in
-      length-chunk 0 8 (take (at + 8 - at) (drop at run)) (omega (arith, front))
-
-  eight_is : (i : ℕ) → i < 8 → get_or (eight_at run at) i d ≡ get_or run (at + i) d
-  eight_is i low =
-      get_or-chunk 0 8 (take (at + 8 - at) (drop at run)) i d low
-      ∙ (ap (λ k. get_or (take (at + 8 - at) (drop at run)) k d) (zero-add i) ∙ get_or-take (at + 8 - at) (drop at run) i d (omega (arith)) ∙ get_or-drop at run i d)
 
 -- the sign of each lane, as numbers of its width
 abbrev pub lane_signs : Width → (ℕ → ℕ → Bool) → ℕ → List ℕ → List ℕ
@@ -72,13 +58,13 @@ narrowed f lanes same are = record {
 
 -- those of numbers without a sign
 pub signs_are : (w : Width) (run : List ℕ) (at least : ℕ) → at + 8 ≤ length run
-    → AreEight (λ i. bit_from (pos least) (sample (map pos run) (at + i))) (lane_signs w leb least (eight_at run at))
+    → AreEight (λ i. bit_from (pos least) (sample (map pos run) (at + i))) (lane_signs w leb least (lanes_from 8 run at))
 signs_are w run at least room =
-    let are = lanes_are w leb least (eight_at run at) (eight_long run at 0 room) in
+    let are = lanes_are w leb least (lanes_from 8 run at) (lanes_from_long 8 run at 0 room) in
     record {
       count = are.count;
       each = λ i low.
-          are.each i low ∙ (ap (λ s. cond (leb least s) 1 0) (eight_is run at 0 room i low)
+          are.each i low ∙ (ap (λ s. cond (leb least s) 1 0) (lanes_from_are 8 run at 0 room i low)
           ∙ ap (bit_from (pos least)) (sym (get_or-map pos run (at + i) 0 (pos 0) (omega arith))));
     }
 
@@ -101,15 +87,15 @@ at_most w a b = le_z (to_z w a) (to_z w b)
 
 module _ (w : Width) (run : List ℤ) (at : ℕ) (least : ℤ) (room : at + 8 ≤ length run) (fits : SFits w least) (all_fit : All (SFits w) run) where
   abbrev lanes : List ℕ
-  lanes = map (of_z w) (eight_at run at)
+  lanes = map (of_z w) (lanes_from 8 run at)
 
   pub lanes_long : length lanes ≡ 8
-  lanes_long = length-map (eight_at run at) (of_z w) ∙ eight_long run at (pos 0) room
+  lanes_long = length-map (lanes_from 8 run at) (of_z w) ∙ lanes_from_long 8 run at (pos 0) room
 
   lane_is : (i : ℕ) → i < 8 → to_z w (get_or lanes i 0) ≡ get_or run (at + i) (pos 0)
   lane_is i low =
-      let long = eight_long run at (pos 0) room in
-      ap (to_z w) (get_or-map (of_z w) (eight_at run at) i (pos 0) 0 (omega (arith, low, long)) ∙ ap (of_z w) (eight_is run at (pos 0) room i low))
+      let long = lanes_from_long 8 run at (pos 0) room in
+      ap (to_z w) (get_or-map (of_z w) (lanes_from 8 run at) i (pos 0) 0 (omega (arith, low, long)) ∙ ap (of_z w) (lanes_from_are 8 run at (pos 0) room i low))
       ∙ to_z-of_z w (get_or run (at + i) (pos 0)) (all_fit (at + i) (pos 0) (omega arith))
 
   pub signed_are : AreEight (λ i. bit_from least (sample (map (λ v. v) run) (at + i))) (lane_signs w (at_most w) (of_z w least) lanes)
@@ -121,24 +107,6 @@ module _ (w : Width) (run : List ℤ) (at : ℕ) (least : ℤ) (room : at + 8 �
             are.each i low ∙ (ap₂ (λ l s. cond (le_z l s) 1 0) (to_z-of_z w least fits) (lane_is i low)
             ∙ ap (bit_from least) (sym (get_or-map (λ v. v) run (at + i) (pos 0) (pos 0) (omega arith))));
       }
-
--- the sum of two lanes
-abbrev pub lane_sum : ℕ → ℕ → ℕ
-lane_sum a b = (a + b) % 2 ^ 8
-
-sum_is : (x y z : Bool) → lane_sum (cond x 0 1) (lane_sum (cond y 0 2) (cond z 0 4)) ≡ cond x 0 1 + (2 * cond y 0 1 + 4 * cond z 0 1)
-sum_is true true true = refl
-sum_is true true false = refl
-sum_is true false true = refl
-sum_is true false false = refl
-sum_is false true true = refl
-sum_is false true false = refl
-sum_is false false true = refl
-sum_is false false false = refl
-
--- signs that differ, and their flags
-abbrev pub apart_by : ℕ → List ℕ → List ℕ → ℕ → ℕ
-apart_by number a b i = cond (eqb (get_or a i 0) (get_or b i 0)) 0 number
 
 pub flags_are : (least : ℤ) (here up far : List ℤ) (signs next above behind right up_apart far_apart out : List ℕ) → 8 < length here → length out ≡ 8
     → AreEight (λ i. bit_from least (sample here (0 + i))) signs → AreEight (λ i. bit_from least (sample here (1 + i))) next

@@ -16,7 +16,7 @@ use Rattle.iso_defs.proofs.Points.{x_index, y_index, z_index}
 use Rattle.iso_defs.proofs.Ranges.{range_append}
 use Rattle.iso_base.specs.Sizing.{IsGrid}
 use Rattle.mesh_rows.specs.Counts.{span}
-use Rattle.store_rows.proofs.Spans.{length_more, span_none, span_not, span_one}
+use Rattle.mesh_rows.proofs.SpanLaws.{length_more, span_none, span_not, span_one}
 use Rattle.store_rows.proofs.Uptos.{in_eights, upto, upto_same, upto_split, upto_swap, zeros}
 
 -- lists that are chosen by number, joined

@@ -1,5 +1,4 @@
 pub mod Uptos
-pub mod Spans
 pub mod BrickSums
 pub mod BrickCounts
 pub mod AskedRows

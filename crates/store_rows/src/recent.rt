@@ -124,7 +124,8 @@ fn part_of<'n>(
 ) -> &'n [u16]
     requires place { place < 49152 }
     requires inside { slice_index starts.now place + slice_index counts.now place ≤ length (numbers_in room.now) }
-    ensures { result.now ≡ take (slice_index counts.now place) (drop (slice_index starts.now place) (numbers_in room.now)) }
+    ensures { result.now
+        ≡ take (slice_index counts.now place) (drop (slice_index starts.now place) (numbers_in room.now)) }
 {
     let start = starts[place] as usize;
     &numbers_in(room)[start..start + counts[place] as usize]

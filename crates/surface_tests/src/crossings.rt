@@ -2,7 +2,9 @@
 
 use crate::grids::three_a_side;
 use crate::volumes::one_above;
-use crossing_edges::{EdgeVertices, edge_vertices, flag_row, point_flags, position_on};
+use crossing_edges::{
+    EdgeRows, EdgeVertices, SliceSigns, edge_vertices, flag_row, point_bits, position_on,
+};
 use iso_base::{Level, Memory};
 use samples::put_signs;
 use std::alloc::Global;
@@ -14,8 +16,8 @@ fn points_of(alloc: Global, volume: &VoxelList, level: Level) -> Result<EdgeVert
     // Reading the samples brings in that they are in the range of samples.
     let _ = volume.samples();
     let sizes = volume.sizes();
-    let flags = point_flags(alloc, &sizes, volume, level)?;
-    edge_vertices(alloc, &sizes, volume, level, &flags)
+    let bits = point_bits(alloc, &sizes, volume, level)?;
+    edge_vertices(alloc, &sizes, volume, level, &bits.flags)
 }
 
 /// The edges at level 9 round the middle of three points a side.
@@ -29,6 +31,26 @@ fn edges_at_9(alloc: Global) -> Result<EdgeVertices, Fail> {
 fn check_edges(rt: &impl Abort, edges: &EdgeVertices) {
     assert!(rt; edges.names.as_slice() == [14, 31, 36, 39, 40, 41].as_slice());
     assert!(rt; edges.places.as_slice() == [900, 900, 900, 100, 100, 100].as_slice());
+}
+
+/// How many edges at level 9 there are round the middle of three points a side, counted row by row.
+fn count_at_9(alloc: Global) -> Result<u32, Fail> {
+    let sizes = three_a_side().ok_or("3, 3 and 3 are sizes")?;
+    let level = Level::new(9_000).ok_or("9 is a level")?;
+    let volume = one_above(alloc, sizes)?;
+    // Reading the samples brings in that they are in the range of samples.
+    let _ = volume.samples();
+    let sizes = volume.sizes();
+    let mut signs = SliceSigns::new(alloc, &sizes)?;
+    let mut flags = [0; 1026];
+    let rows = EdgeRows::new(sizes, &volume, level);
+    Ok(rows.count(&mut signs, &mut flags[..sizes.nx() as usize]))
+}
+
+#[test]
+fn edges_counted_row_by_row(rt: HostRuntime) -> Result<(), Fail> {
+    assert!(rt; count_at_9(rt.alloc())? == 6);
+    Ok(())
 }
 
 #[test]

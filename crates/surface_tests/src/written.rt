@@ -2,7 +2,7 @@
 
 use crate::extraction::corner_volume;
 use byte_streams::MemSink;
-use crossing_edges::{EdgeRows, point_flags};
+use crossing_edges::EdgeRows;
 use iso_base::{Level, MeshFormat, Written};
 use list_mesh::ListMesh;
 use mesh_lines::{Origin, Style};
@@ -68,8 +68,7 @@ fn put_three(alloc: Global, sink: &mut MemSink) -> Result<(), Fail> {
     // Reading the samples brings in that they are in the range of samples.
     let _ = volume.samples();
     let sizes = volume.sizes();
-    let flags = point_flags(alloc, &sizes, &volume, level)?;
-    put_points(sink, &EdgeRows::new(sizes, &volume, level, &flags))?;
+    put_points(alloc, sink, &EdgeRows::new(sizes, &volume, level))??;
     Ok(())
 }
 

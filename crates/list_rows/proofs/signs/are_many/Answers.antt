@@ -1,5 +1,5 @@
 use Rattle.std.proofs.lemmas.Bool.{eqb-true}
-use Rattle.list_rows.proofs.MixedBytes.{each_of_many, not_twice}
+use Rattle.list_rows.proofs.SameBytes.{each_of_many, not_twice}
 use Rattle.list_rows.proofs.signs.are_many.Goals as goal
 
 pub returns : goal.returns

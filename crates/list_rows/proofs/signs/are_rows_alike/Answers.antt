@@ -1,4 +1,4 @@
-use Rattle.list_rows.proofs.MixedBytes.{one_run_more}
+use Rattle.list_rows.proofs.SameBytes.{one_run_more}
 use Rattle.list_rows.proofs.signs.are_rows_alike.Goals as goal
 
 pub loop-run-preserved : goal.loop-run-preserved

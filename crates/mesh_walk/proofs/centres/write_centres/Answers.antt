@@ -11,7 +11,7 @@ use Rattle.mesh_walk.specs.Spans.{centre_lines, centres_text, row_centres_text}
 use Rattle.mesh_walk.proofs.Adding.{adds_as}
 use Rattle.mesh_walk.proofs.CellRuns.{cost_at_first, cost_next, cost_upto}
 use Rattle.mesh_walk.proofs.RankedRows.{come_at, come_first, come_next, row_of_same, rows_are}
-use Rattle.mesh_walk.proofs.SpanLaws.{run_failed, run_more, run_none}
+use Rattle.mesh_walk.proofs.RunLaws.{run_failed, run_more, run_none}
 use Rattle.mesh_walk.proofs.centres.write_centres.Goals as goal
 
 pub loop-row-init : goal.loop-row-init

@@ -9,7 +9,7 @@ use Rattle.mesh_walk.specs.Numbers.{AreRowRanks, row_number}
 use Rattle.mesh_walk.specs.Spans.{edge_line, edges_text, row_edges_text}
 use Rattle.mesh_walk.proofs.Adding.{adds_as}
 use Rattle.mesh_walk.proofs.RankedRows.{come_at, come_first, come_next, row_of_same, rows_are}
-use Rattle.mesh_walk.proofs.SpanLaws.{run_failed, run_more, run_none}
+use Rattle.mesh_walk.proofs.RunLaws.{run_failed, run_more, run_none}
 use Rattle.mesh_walk.proofs.edges.write_edges.Goals as goal
 
 pub loop-row-init : goal.loop-row-init

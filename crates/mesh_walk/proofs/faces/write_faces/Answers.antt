@@ -13,7 +13,7 @@ use Rattle.mesh_walk.proofs.Adding.{adds_as}
 use Rattle.mesh_walk.proofs.CellRuns.{cost_at_first, cost_next, cost_upto}
 use Rattle.mesh_walk.proofs.FaceLines.{first_number}
 use Rattle.mesh_walk.proofs.RankedRows.{come_at, come_first, come_next, row_of_same, rows_are}
-use Rattle.mesh_walk.proofs.SpanLaws.{run_failed, run_more, run_none}
+use Rattle.mesh_walk.proofs.RunLaws.{run_failed, run_more, run_none}
 use Rattle.mesh_walk.proofs.faces.write_faces.Goals as goal
 
 pub loop-row-init : goal.loop-row-init

@@ -18,6 +18,8 @@ loop-number-init g c =
         width = ap (λ (t : RowPlace). t.count) c.new-2.ensures ∙ (c.nx.ensures.value ∙ ap (λ (g : Grid). g.nx) c.sizes-sizes.ensures.value);
         style = ap (λ (t : RowPlace). t.style) c.new-2.ensures;
       };
+      signs = c.begin.ensures;
+      flags = c.requires.flags;
       lines = subst (λ (text : List ℕ). Stages {T = Unit {0}} {E = Failed} (g.K.Sink.seen c.args.sink.now) (g.K.Sink.seen c.args.sink.now) c.args.block.now.waiting c.args.block.now.waiting (Ok tt) text)
           (sym (no_rows v.grid (heights v))) (nothing_staged (g.K.Sink.seen c.args.sink.now) c.args.block.now.waiting tt);
     }
@@ -35,5 +37,7 @@ loop-number-preserved g c =
     let v = c.args.rows.now in
     record {
       texts = c.in_ok-write.ensures.texts;
+      signs = c.put_flags.ensures.signs;
+      flags = c.put_flags.auto.flags ∙ c.loop-number.invariant.flags;
       lines = row_staged v.grid (heights v) _ _ _ tt tt _ _ _ c.loop-number.number c.loop-number.invariant.lines c.in_ok-write.ensures.lines;
     }

@@ -1,7 +1,7 @@
 use Rattle.std.proofs.Common.{◌+◌, ◌-◌, ◌<◌, ◌++◌, length, map, take, sym, ◌∙◌, ap, arith, append-nil, append_assoc, bit_and}
 use Rattle.std.proofs.lemmas.List.{length-map, take_more_set}
 use Rattle.row_lists.proofs.ActiveLists.{active_few, group_cells}
-use Rattle.row_lists.proofs.FlagBits.{bits_none, bits_set, lowest}
+use Rattle.sign_words.proofs.SetBits.{bits_none, bits_set, lowest}
 use Rattle.row_lists.proofs.active.put_group.Goals as goal
 
 pub loop-bits-init : goal.loop-bits-init

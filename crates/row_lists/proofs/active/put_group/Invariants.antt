@@ -1,6 +1,6 @@
 use Rattle.std.proofs.Common.{◌≡◌, ◌+◌, ◌++◌, length, map, take}
 use Rattle.row_lists.specs.Active.{active_among}
-use Rattle.row_lists.proofs.FlagBits.{bits_set}
+use Rattle.sign_words.proofs.SetBits.{bits_set}
 use Rattle.row_lists.proofs.active.put_group.Given as goal
 
 abbrev pub invariant-loop-bits : goal.invariant-loop-bits

@@ -11,44 +11,44 @@ use Rattle.crossing_edges.proofs.rows.EdgeRows.list_row.Goals as goal
 pub list_edges-count-requires-clause-few : goal.list_edges-count-requires-clause-few
 list_edges-count-requires-clause-few g c =
     let v = c.args.self.now in
-    let len = ap length c.row_flags.ensures ∙ length-flags_from v.grid (heights v) (v.grid.nx * c.args.row) v.grid.nx in
+    let len = ap length c.requires.flags ∙ length-flags_from v.grid (heights v) (v.grid.nx * c.args.row) v.grid.nx in
     omega (arith, len, c.nx.ensures.grid.x.most)
 
 pub list_edges-count-requires-clause-flags : goal.list_edges-count-requires-clause-flags
 list_edges-count-requires-clause-flags g c =
     let v = c.args.self.now in
-    subst (All (λ f. f < 8)) (sym c.row_flags.ensures) (all_flags_low v.grid (heights v) (v.grid.nx * c.args.row) v.grid.nx)
+    subst (All (λ f. f < 8)) (sym c.requires.flags) (all_flags_low v.grid (heights v) (v.grid.nx * c.args.row) v.grid.nx)
 
 pub shared_ref_as_front-put_places : goal.shared_ref_as_front-put_places
 shared_ref_as_front-put_places g c =
     let v = c.args.self.now in
-    let len = ap length c.row_flags.ensures ∙ length-flags_from v.grid (heights v) (v.grid.nx * c.args.row) v.grid.nx in
+    let len = ap length c.requires.flags ∙ length-flags_from v.grid (heights v) (v.grid.nx * c.args.row) v.grid.nx in
     omega (arith, len, c.nx.ensures.grid.x.most, c.list_edges-count.ensures.count)
 
 pub put_places-requires-clause-edges : goal.put_places-requires-clause-edges
 put_places-requires-clause-edges g c =
     let v = c.args.self.now in
     subst (λ n. AreOffsets v (n * c.args.row) v.grid.nx (take c.list_edges-count.result c.list_edges-count.new.edges)) (sym c.nx.ensures.value)
-    (offsets_of v.grid (heights v) (v.grid.nx * c.args.row) c.row_flags.result.now _ v.grid.nx c.row_flags.ensures c.list_edges-count.ensures.put)
+    (offsets_of v.grid (heights v) (v.grid.nx * c.args.row) c.args.flags.now _ v.grid.nx c.requires.flags c.list_edges-count.ensures.put)
 
 pub put_places-requires-clause-points : goal.put_places-requires-clause-points
 put_places-requires-clause-points g c =
     let v = c.args.self.now in
-    subst (λ n. n * c.args.row + v.grid.nx ≤ point_count v.grid) (sym c.nx.ensures.value) (row_in v.grid c.args.row c.requires)
+    subst (λ n. n * c.args.row + v.grid.nx ≤ point_count v.grid) (sym c.nx.ensures.value) (row_in v.grid c.args.row c.requires.row)
 
 pub put_places-requires-clause-few : goal.put_places-requires-clause-few
 put_places-requires-clause-few g c =
     let v = c.args.self.now in
-    let len = ap length c.row_flags.ensures ∙ length-flags_from v.grid (heights v) (v.grid.nx * c.args.row) v.grid.nx in
+    let len = ap length c.requires.flags ∙ length-flags_from v.grid (heights v) (v.grid.nx * c.args.row) v.grid.nx in
     omega (arith, len, c.nx.ensures.grid.x.most, c.list_edges-count.ensures.count, length-take c.list_edges-count.result c.list_edges-count.new.edges)
 
 pub returns-clause-edges : goal.returns-clause-edges
 returns-clause-edges g c =
     let v = c.args.self.now in
-    offsets_of v.grid (heights v) (v.grid.nx * c.args.row) c.row_flags.result.now _ v.grid.nx c.row_flags.ensures c.list_edges-count.ensures.put
+    offsets_of v.grid (heights v) (v.grid.nx * c.args.row) c.args.flags.now _ v.grid.nx c.requires.flags c.list_edges-count.ensures.put
 
 pub returns-clause-count : goal.returns-clause-count
 returns-clause-count g c =
     let v = c.args.self.now in
-    let len = ap length c.row_flags.ensures ∙ length-flags_from v.grid (heights v) (v.grid.nx * c.args.row) v.grid.nx in
+    let len = ap length c.requires.flags ∙ length-flags_from v.grid (heights v) (v.grid.nx * c.args.row) v.grid.nx in
     omega (arith, len, c.list_edges-count.ensures.count)

@@ -1,16 +1,18 @@
--- Bytes that are looked at 64 at a time.
-use Rattle.std.proofs.Common.{◌≡◌, ℕ, zero, suc, ◌+◌, ◌-◌, ◌%◌, ◌^◌, ◌<◌, ◌≤◌, ◌∙◌, Bool, true, false, ◌||◌, List, cond, eqb, ltb, length, get_or, refl, sym, ap, ap₂, arith, inl, inr}
+-- A bit for each of 64 bytes.
+use Rattle.std.proofs.Common.{◌≡◌, ℕ, zero, suc, ◌+◌, ◌%◌, ◌^◌, ◌<◌, ◌≤◌, ◌∙◌, true, false, ◌||◌, List, cond, eqb, ltb, length, map, get_or, replicate, sym, ap, ap₂, arith, w8, inl, inr}
 use Rattle.std.specs.Int.{bit_at}
 use Rattle.std.specs.Simd.Lanes.{chunk, mask_l, top, zip2}
-use Rattle.std.proofs.Common.{map, replicate, w8}
-use Rattle.std.proofs.lemmas.List.{get_or-map, get_or-replicate}
-use Rattle.std.proofs.lemmas.Simd.{bit_mask_l, bitmask_splat, get_or-chunk, get_or-zip2, length-chunk, length-zip2, mask_l-mod, tops_compared}
-use Rattle.std.proofs.lemmas.Nat.Bits.{bit_at_ones}
-use Rattle.std.proofs.lemmas.Bool.{cases_lt, eqb-true, lt-ltb, ne_eqb}
+use Rattle.std.proofs.lemmas.List.{get_or-replicate}
+use Rattle.std.proofs.lemmas.Simd.{bit_mask_l, get_or-chunk, get_or-zip2, length-chunk, length-zip2, mask_l-mod, tops_compared}
+use Rattle.std.proofs.lemmas.Bool.{cases_lt, lt-ltb, ne_eqb}
 
 -- whether a byte is neither 0 nor 255
 abbrev pub mixed : ℕ → ℕ
 mixed byte = cond (eqb byte 0 || eqb byte 255) 0 1
+
+pub mixed_some : (byte : ℕ) → mixed byte ≡ 1 → 0 < byte
+mixed_some zero h = absurd (omega (arith, h))
+mixed_some (suc byte) h = omega arith
 
 mixed_by_one : (byte : ℕ) → byte < 256 → cond {A = ℕ} (ltb 1 ((byte + 1) % 256)) 1 0 ≡ mixed byte
 mixed_by_one byte small = elim (cases_lt 0 byte) [

@@ -1,9 +1,11 @@
--- Runs of numbers, piece by piece.
-use Rattle.std.proofs.Common.{◌≡◌, ℕ, ◌+◌, Bool, true, false, cond, List, [], ◌∷◌, ◌++◌, length, refl, ◌∙◌, ap, append-nil, length-append}
+-- What runs of numbers give, piece by piece.
+use Rattle.std.proofs.Common.{◌≡◌, ℕ, ◌+◌, ◌<◌, ◌≤◌, Bool, true, false, cond, List, [], ◌∷◌, ◌++◌, length, refl, ◌∙◌, ap, ap₂, append-nil, length-append, inl, inr}
 use Rattle.std.specs.List.{filter, flat_map, range_with_len}
 use Rattle.std.proofs.lemmas.List.Elements.{filter-append}
 use Rattle.std.proofs.lemmas.List.Concat.{flat_map-append}
 use Rattle.iso_defs.proofs.Ranges.{range_append}
+use Rattle.mesh_laws.proofs.Cells.{range_at_least}
+use Rattle.verdict_laws.proofs.Lists.{In, In-filter}
 use Rattle.mesh_rows.specs.Counts.{span}
 
 module _ {X : Type 0} (f : ℕ → List X) (p : ℕ → Bool) where
@@ -11,7 +13,7 @@ module _ {X : Type 0} (f : ℕ → List X) (p : ℕ → Bool) where
   unfolding span
   span_none a = refl
 
-  span_more : (a m n : ℕ) → span f p a (m + n) ≡ span f p a m ++ span f p (a + m) n
+  pub span_more : (a m n : ℕ) → span f p a (m + n) ≡ span f p a m ++ span f p (a + m) n
   unfolding span
   span_more a m n =
       ap (λ l. flat_map f (filter p l)) (range_append a m n)
@@ -26,6 +28,18 @@ module _ {X : Type 0} (f : ℕ → List X) (p : ℕ → Bool) where
   pub span_not : (a : ℕ) → p a ≡ false → span f p a 1 ≡ []
   unfolding span
   span_not a e = ap (λ b. flat_map f (cond {A = List ℕ} b (a ∷ []) [])) e
+
+  nothing : (xs : List ℕ) → ((x : ℕ) → In x xs → f x ≡ []) → flat_map f xs ≡ []
+  nothing [] h = refl
+  nothing (x ∷ xs) h = ap₂ ◌++◌ (h x (inl refl)) (nothing xs (λ y i. h y (inr i)))
+
+  -- a run that gives nothing
+  pub span_quiet : (a n : ℕ) → ((q : ℕ) → a ≤ q → q < a + n → p q ≡ true → f q ≡ []) → span f p a n ≡ []
+  unfolding span
+  span_quiet a n quiet = nothing (filter p (range_with_len a n)) (λ q i.
+      let r : In q (range_with_len a n) × (p q ≡ true) = In-filter p q (range_with_len a n) i in
+      let b : (a ≤ q) × (q < a + n) = range_at_least a n q r.0 in
+      quiet q b.0 b.1 r.1)
 
   pub length_more : (a m n : ℕ) → length (span f p a (m + n)) ≡ length (span f p a m) + length (span f p (a + m) n)
   length_more a m n = ap length (span_more a m n) ∙ length-append (span f p a m) (span f p (a + m) n)

@@ -1,0 +1,5 @@
+pub mod MixedBytes
+pub mod Lanes
+pub mod SetBits
+pub mod LowestBit
+pub mod UnsetBits
