@@ -2,25 +2,32 @@
 """Runs the commands that README.md and docs/ show, and compares what they print with what is shown.
 
     python3 tools/check_docs.py            runs all of them, and ends with 1 where anything differs
+    python3 tools/check_docs.py --strict   ends with 1 also where a tool is missing that a block needs
     python3 tools/check_docs.py --list     says what would be run, and what would not, and runs nothing
 
 Each block marked `sh` is run by bash, the blocks of one page one after another, in a copy of examples/ (those of README.md
 in the folder above it), with the built program on the path; what is printed is compared with the next block without a mark,
-if that follows before the next `sh` block. Where that ends with a line `..`, more may be printed. Above a block may stand,
-as a comment of the page:
+if that follows before the next `sh` block. Where that ends with a line `..`, more may be printed. A block ends with status 0,
+or with that which a comment tells. Above a block may stand, as a comment of the page:
 
     <!-- needs TOOL, TOOL -->    it is passed over where one of these is not on the path
-    <!-- not run: WHY -->  it is never run here
+    <!-- status N -->            it ends with this status
+    <!-- not run: WHY -->        it is never run here
+
+Each `teem-unu` command in the table of refused files of using.md is run on a file that is refused with the message of its row,
+and must make a file that is read. Tools that are missing are listed at the end, with the packages of tools/packages.txt.
 
 Then each link of a page, or of the README.md of a crate, to a file of this repository, with its place in it, is looked up; and
 so is what guarantees.md names:
 each call `crate::call` and `crate::Type::call`, each clause of `commands::run`, the clauses of the calls of a row, and the
 number of lines of each file. Where a clause is a record of specs/Promise.antt, the fields of that record are clauses too.
 """
+import gzip
 import os
 import pathlib
 import re
 import shutil
+import struct
 import subprocess
 import sys
 import tempfile
@@ -28,7 +35,9 @@ import tempfile
 TOP = pathlib.Path(__file__).resolve().parent.parent
 PROGRAM = TOP / "crates" / "isobench" / "out" / "isobench"
 FENCE = re.compile(r"^```(\w*)$")
-MARK = re.compile(r"^<!-- (needs|not run:) (.*) -->$")
+MARK = re.compile(r"^<!-- (needs|status|not run:) (.*) -->$")
+PACKAGES = dict(line.split() for line in (TOP / "tools" / "packages.txt").read_text(encoding="utf-8").splitlines() if line[0] != "#")
+REFUSED = re.compile(r"^\| (?:`(volume \d+)[^`]*`)?[^|]* \| [^|]* \| .*`(teem-unu [^`]* -i in\.nrrd [^`]*)`", re.MULTILINE)
 LINK = re.compile(r"\]\(([^)\s]+)\)")
 CALL = re.compile(r"`([a-z_]+)((?:::\w+)+)`")
 LINES = re.compile(r"^\| `(crates/\S+)` \| (\d+) \|", re.MULTILINE)
@@ -40,7 +49,7 @@ CLAUSES = re.compile(r"^\| [^|]* \| ((?:`[a-z_]+`(?:, )?)+) \|$", re.MULTILINE)
 
 
 def pages():
-    named = [TOP / "README.md", TOP / "CHANGELOG.md", TOP / "examples" / "README.md"]
+    named = [TOP / "README.md", TOP / "CHANGELOG.md", TOP / "examples" / "README.md", TOP / "crates" / "README.md"]
     return [*named, *sorted((TOP / "docs").glob("*.md")), *sorted((TOP / "crates").glob("*/README.md"))]
 
 
@@ -72,32 +81,82 @@ def steps_of(page):
     return steps
 
 
+missing = set()
+
+
 def why_not(above):
     if above and above[1] == "not run:":
         return above[2]
-    lacking = [tool for tool in above[2].split(", ") if not shutil.which(tool)] if above else []
+    lacking = [tool for tool in above[2].split(", ") if not shutil.which(tool)] if above and above[1] == "needs" else []
+    missing.update(lacking)
     return f"{lacking[0]} is not on the path" if lacking else None
+
+
+def environment():
+    return {**os.environ, "PATH": os.pathsep.join([str(PROGRAM.parent), *os.environ["PATH"].split(os.pathsep)])}
 
 
 def run_page(page, folder):
     """How many blocks of a page differ."""
     wrong = 0
-    paths = [str(PROGRAM.parent), *os.environ["PATH"].split(os.pathsep)]
     for line, text, above, shown in steps_of(page):
         name = f"{page.relative_to(TOP)}:{line}"
         if why_not(above):
             print(f"{name}: not run, {why_not(above)}")
             continue
-        ran = subprocess.run(["bash", "-e", "-o", "pipefail", "-c", text], cwd=folder, env={**os.environ, "PATH": os.pathsep.join(paths)},
+        status = int(above[2]) if above and above[1] == "status" else 0
+        ran = subprocess.run(["bash", "-e", "-o", "pipefail", "-c", text], cwd=folder, env=environment(),
                              stdin=subprocess.DEVNULL, stdout=subprocess.PIPE, stderr=subprocess.STDOUT, timeout=120)
         printed = ran.stdout.decode("utf-8", "replace")
         if shown is not None and not is_shown(printed, shown):
             wrong += 1
             print(f"{name}: prints\n{printed}in place of\n{shown}", end="")
-        elif shown is None and ran.returncode != 0:
+        elif ran.returncode != status:
             wrong += 1
             print(f"{name}: ends with status {ran.returncode}\n{printed}", end="")
     return wrong
+
+
+def samples_of(message):
+    """A small NRRD file that is refused with this message."""
+    head = {"volume 2": "space: ras\nspace: ras\n"}.get(message, "")
+    sizes, kind = "1100 4 4", "uint8"
+    samples = bytes(range(220)) * 80
+    if message in ("volume 7", None):
+        sizes, kind, samples = "4 4 4", "int64", struct.pack("<64q", *range(-32, 32))
+    if message == "volume 11":
+        sizes = "2 550 4 4"
+    encoding = "gzip" if message == "volume 8" else "raw"
+    if message in ("volume 8", "volume 2"):
+        sizes, samples = "22 20 40", samples
+    body = gzip.compress(samples) if encoding == "gzip" else samples
+    dimension = len(sizes.split())
+    return (f"NRRD0004\n{head}type: {kind}\ndimension: {dimension}\nsizes: {sizes}\nendian: little\nencoding: {encoding}\n\n").encode() + body
+
+
+def run_rows(page):
+    """How many commands of the table of refused files do not help."""
+    if not PROGRAM.exists() or not shutil.which("teem-unu"):
+        return 0
+    wrong = 0
+    for message, command in REFUSED.findall(page.read_text(encoding="utf-8")):
+        with tempfile.TemporaryDirectory() as room:
+            pathlib.Path(room, "in.nrrd").write_bytes(samples_of(message or None))
+            wrong += 0 if helps(room, message or "volume 7", command.replace(" M M", " 3 3")) else 1
+    return wrong
+
+
+def helps(folder, message, command):
+    """Whether a file is refused with this message, and is read after the command."""
+    read = "isobench points --level=0.5 < {} > points.ply"
+    steps = [(read.format("in.nrrd"), 3), (command, 0), (read.format("out.nrrd"), 0)]
+    for step, status in steps:
+        ran = subprocess.run(["bash", "-o", "pipefail", "-c", step], cwd=folder, env=environment(), stdin=subprocess.DEVNULL,
+                             capture_output=True, text=True, timeout=60)
+        if ran.returncode != status or status and f"isobench: {message} " not in ran.stderr:
+            print(f"docs/using.md: {message}: `{step}` ends with {ran.returncode}: {ran.stderr.strip()}")
+            return False
+    return True
 
 
 def is_shown(printed, shown):
@@ -183,7 +242,7 @@ def lost_names(page):
 
 def main():
     words = sys.argv[1:]
-    if words not in ([], ["--list"]):
+    if words not in ([], ["--list"], ["--strict"]):
         print(__doc__, end="")
         sys.exit(0 if words == ["--help"] else 2)
     wrong = 0
@@ -191,7 +250,7 @@ def main():
         for link in lost_links(page):
             wrong += 1
             print(f"{page.relative_to(TOP)}: no file or place {link}")
-        if words:
+        if words == ["--list"]:
             for line, _, above, shown in steps_of(page):
                 print(f"{page.relative_to(TOP)}:{line}: {why_not(above) or ('run and compared' if shown else 'run')}")
             continue
@@ -203,9 +262,14 @@ def main():
     for lost in lost_names(TOP / "docs" / "guarantees.md"):
         wrong += 1
         print(f"docs/guarantees.md: {lost}")
-    if not words and not PROGRAM.exists():
+    if words == ["--list"]:
+        sys.exit(1 if wrong else 0)
+    wrong += run_rows(TOP / "docs" / "using.md")
+    if not PROGRAM.exists():
         print("crates/isobench/out/isobench is not built")
-    sys.exit(1 if wrong else 0)
+    if missing:
+        print(f"missing, so not all was run: {', '.join(sorted(missing))}; apt install {' '.join(PACKAGES[it] for it in sorted(missing))}")
+    sys.exit(1 if wrong or words == ["--strict"] and missing else 0)
 
 
 main()

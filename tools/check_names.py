@@ -5,7 +5,7 @@
                                       there, or a line of code or of a contract is too wide
 
 A README.md has at most ten lines: its title, what the crate has, and then how that is stated, what is proved and what is not.
-docs/architecture.md links it. What is in its backticks is one of these:
+crates/README.md links it. What is in its backticks is one of these:
 
     `name`, `Type::name`           is declared in src/ or specs/ of the crate, or is the name of a crate
     `crate::name`                  is declared there in that crate
@@ -217,8 +217,8 @@ def wide_lines():
 def lost_in_readme(crate, page, crates):
     """What is wrong with the README.md of a crate, and what it names and is not there."""
     name = f"crates/{crate}/README.md"
-    if f"](../{name})" not in page:
-        yield f"docs/architecture.md: no link to {name}"
+    if f"]({crate}/README.md)" not in page:
+        yield f"crates/README.md: no link to {name}"
     if not (TOP / name).exists():
         yield f"{name}: there is none"
         return
@@ -237,7 +237,7 @@ def main():
         print(__doc__, end="")
         sys.exit(0 if sys.argv[1:] == ["--help"] else 2)
     crates = names()
-    page = (TOP / "docs" / "architecture.md").read_text(encoding="utf-8")
+    page = (CRATES / "README.md").read_text(encoding="utf-8")
     wrong = [it for crate in crates for it in lost_in_readme(crate, page, set(crates))]
     wrong += [*lost_in_pages(set(crates)), *lost_decisions(), *wide_lines()]
     print("".join(f"{it}\n" for it in wrong), end="")

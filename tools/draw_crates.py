@@ -1,20 +1,22 @@
 #!/usr/bin/env python3
-"""Draws the crates into docs/architecture.md, from crates.txt and from the README.md of each.
+"""Draws the crates into crates/README.md and docs/architecture.md, from crates.txt and from the README.md of each.
 
     python3 tools/draw_crates.py            ends with 1 if what stands there is not what would be drawn
     python3 tools/draw_crates.py --write    draws it between the marks
     python3 tools/draw_crates.py --above NAME    lists the crates that depend on one, lowest first: they are proved again if it changes
 
-First a list by the groups of crates.txt, which begin with a comment `# == GROUP ==`: each crate with a link to its README.md
-and with what stands below the title there. Then two figures: the crates by height, where a crate stands one above the highest
-that it depends on; and a graph by groups, in which an arrow leads from a crate to one that it depends on, unless it depends
-on that one by way of another as well. Crates of tests and of runs are not in the graph.
+crates/README.md has a list by the groups of crates.txt, which begin with a comment `# == GROUP ==`: each crate with a link to
+its README.md and with what stands below the title there. Then a graph by groups, in which an arrow leads from a crate to one
+that it depends on, unless it depends on that one by way of another as well; crates of tests and of runs are not in it.
+docs/architecture.md has the groups alone, drawn in the same way, and the crates by height, where a crate stands one above the
+highest that it depends on.
 """
 import pathlib
 import re
 import sys
 
 TOP = pathlib.Path(__file__).resolve().parent.parent
+INDEX = TOP / "crates" / "README.md"
 PAGE = TOP / "docs" / "architecture.md"
 BEGIN = "<!-- drawn by tools/draw_crates.py -->"
 END = "<!-- end of what is drawn -->"
@@ -74,7 +76,7 @@ def purpose(name):
 def by_group(groups):
     lines = []
     for group, inside in groups.items():
-        lines += ["", f"### {group}", "", *(f"- [{name}](../crates/{name}/README.md): {purpose(name)}" for name in inside)]
+        lines += ["", f"## {group}", "", *(f"- [{name}]({name}/README.md): {purpose(name)}" for name in inside)]
     return lines[1:]
 
 
@@ -101,6 +103,26 @@ def graph(groups, named):
     return lines + ["```"]
 
 
+def group_graph(groups, named):
+    """The groups, with an arrow from each to those that its crates depend on, unless it depends on them by way of another."""
+    group_of = {name: group for group, inside in groups.items() for name in inside}
+    direct = {group: [] for group in groups if not group.startswith("Tests")}
+    for name, others in named.items():
+        for other in others:
+            below = direct.get(group_of[name], ())
+            # (laws that are handed on as calls speak of code; the page tells so)
+            if below != () and group_of[name] != next(iter(groups)) and group_of[other] not in [group_of[name], *below]:
+                below.append(group_of[other])
+    ids = {group: f"group_{number}" for number, group in enumerate(direct)}
+    below = below_each(direct)
+    lines = ["```mermaid", "flowchart BT", *(f'    {ids[group]}["{group}"]' for group in direct)]
+    for group, others in direct.items():
+        shown = [other for other in others if not any(other in below[third] for third in others)]
+        if shown:
+            lines.append(f"    {ids[group]} --> {' & '.join(ids[other] for other in shown)}")
+    return lines + ["```"]
+
+
 def with_drawn(page, drawings):
     """The page with each drawing between a pair of marks, in order."""
     first, *rest = page.split(BEGIN)
@@ -120,12 +142,17 @@ def main():
     if words not in ([], ["--write"], ["--check"]):
         print(__doc__, end="")
         sys.exit(0 if words == ["--help"] else 2)
-    page = PAGE.read_text(encoding="utf-8")
-    drawn = with_drawn(page, [by_group(groups), by_height(named), graph(groups, named)])
-    if words == ["--write"]:
-        PAGE.write_text(drawn, encoding="utf-8")
-        sys.exit(0)
-    sys.exit(0 if drawn == page else f"{PAGE.relative_to(TOP)} is not as tools/draw_crates.py draws it")
+    drawings = {INDEX: [by_group(groups), graph(groups, named)], PAGE: [group_graph(groups, named), by_height(named)]}
+    wrong = False
+    for file, drawing in drawings.items():
+        page = file.read_text(encoding="utf-8")
+        drawn = with_drawn(page, drawing)
+        if words == ["--write"]:
+            file.write_text(drawn, encoding="utf-8")
+        elif drawn != page:
+            wrong = True
+            print(f"{file.relative_to(TOP)} is not as tools/draw_crates.py draws it")
+    sys.exit(1 if wrong else 0)
 
 
 main()

@@ -81,12 +81,44 @@ class Places(unittest.TestCase):
             ran = subprocess.run([sys.executable, EXAMPLES / "place.py", header.name, *options], input=mesh, stdout=subprocess.PIPE, check=True, text=True)
         return ran.stdout
 
+    def refused(self, head, mesh, *options):
+        with tempfile.NamedTemporaryFile("w") as header:
+            header.write("NRRD0005\n" + head + "\n")
+            header.flush()
+            ran = subprocess.run([sys.executable, EXAMPLES / "place.py", header.name, *options], input=mesh, capture_output=True, text=True)
+        self.assertEqual((ran.returncode, ran.stdout), (1, ""))
+        return ran.stderr
+
     def test_directions_and_origin(self):
         head = "space directions: (0,2,0) (3,0,0) (0,0,4)\nspace origin: (10,20,30)\n"
-        self.assertEqual(self.placed(head, "v 1.000 1.000 -0.500\nf 1 2 3\n"), "v 13.0000 22.0000 28.0000\nf 1 3 2\n")
+        self.assertEqual(self.placed(head, "v 1.000 1.000 -0.500\nf 1 2 3\n"), "v 13 22 28\nf 1 3 2\n")
 
     def test_spacings_and_the_other_space(self):
-        self.assertEqual(self.placed("spacings: 0.5 1 2\n", "v 1.000 1.000 1.000\nf 1 2 3\n", "--ras"), "v -0.5000 -1.0000 2.0000\nf 1 2 3\n")
+        self.assertEqual(self.placed("spacings: 0.5 1 2\n", "v 1.000 1.000 1.000\nf 1 2 3\n", "--ras"), "v -0.5 -1 2\nf 1 2 3\n")
+
+    def test_the_space_of_the_header(self):
+        for space, place in [("left-posterior-superior", "-1 -2 3"), ("right-anterior-superior", "1 2 3"), ("LAS", "-1 2 3")]:
+            head = f"space: {space}\nspacings: 1 1 1\n"
+            self.assertEqual(self.placed(head, "v 1.000 2.000 3.000\n", "--ras"), f"v {place}\n")
+            self.assertEqual(self.placed(head, "v 1.000 2.000 3.000\n"), "v 1 2 3\n")
+        self.assertIn("cannot change", self.refused("space: scanner-xyz\nspacings: 1 1 1\n", "v 1 2 3\n", "--ras"))
+
+    def test_small_voxels_stay_apart(self):
+        head = "spacings: 0.0000005 0.0000005 0.0000005\n"
+        self.assertEqual(self.placed(head, "v 100.001 100.002 0.000\n"), "v 5.00005e-05 5.0001e-05 0\n")
+
+    def test_a_header_without_spacing_is_refused(self):
+        self.assertIn("spacings: ", self.refused("type: uint8\n", "v 1 2 3\n"))
+
+    def test_the_formats_of_windows(self):
+        head = "spacings: 2 2 2\n"
+        off = "OFF\n3 1 0\n0.000 0.000 0.500\n1.000 0.000 0.000\n0.000 1.000 0.000\n3 0 1 2\n"
+        self.assertEqual(self.placed(head, off), "OFF\n3 1 0\n0 0 1\n2 0 0\n0 2 0\n3 0 1 2\n")
+        vtk = ("# vtk DataFile Version 3.0\nisobench\nASCII\nDATASET POLYDATA\nPOINTS 3 float\n0.000 0.000 0.500\n"
+               "1.000 0.000 0.000\n0.000 1.000 0.000\nPOLYGONS 1 4\n3 0 1 2\n")
+        self.assertEqual(self.placed(head, vtk), vtk.replace("0.000 0.000 0.500", "0 0 1").replace("1.000 0.000 0.000", "2 0 0")
+                         .replace("0.000 1.000 0.000", "0 2 0"))
+        self.assertIn("is not PLY, OBJ, OFF", self.refused(head, "solid part\n"))
 
     def test_a_mesh_without_vertices(self):
         empty_ply = "ply\nformat ascii 1.0\nelement vertex 0\nelement face 0\nend_header\n"
