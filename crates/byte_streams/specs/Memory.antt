@@ -4,12 +4,15 @@ use Rattle.byte_streams.specs.Causes.{one_more}
 use Rattle.byte_streams.specs.Files.{no_files}
 use Rattle.byte_streams.specs.Seen.{Feed, Tape}
 
--- the bytes still to come, the most that a read gives, the calls that fail, and how many calls and faults there were
+-- the bytes still to come, the most that a read gives, the calls that fail, and how many calls there were, how many that
+-- took nothing, how many of those after the last that took a byte, and how many faults
 pub record FedBytes : Type 0 where
   pub left : List ℕ
   pub piece : ℕ
   pub failing : List ℕ
   pub calls : ℕ
+  pub empty_reads : ℕ
+  pub empty_at_end : ℕ
   pub faults : ℕ
 
 -- the bytes taken, the room for all, the most that a write takes, where there is such a bound, the calls that fail, and how many
@@ -28,7 +31,13 @@ taken_of None bytes = bytes
 taken_of (Some piece) bytes = take piece bytes
 
 abbrev pub feed_of : FedBytes → Feed
-feed_of m = record { left = Some m.left; reads = m.calls; faults = m.faults }
+feed_of m = record {
+  left = Some m.left;
+  reads = m.calls;
+  empty_reads = m.empty_reads;
+  empty_at_end = m.empty_at_end;
+  faults = m.faults;
+}
 
 abbrev pub tape_of : KeptBytes → Tape
 tape_of m = record {

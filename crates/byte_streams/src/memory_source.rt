@@ -3,11 +3,12 @@
 ghost use Rattle.std.specs.Prelude.{◌≡◌, ◌<◌, ◌≤◌, ◌↔◌, length, take, drop, ◌++◌, []};
 
 use crate::Failed;
-use crate::source::Source;
+use crate::source::{Source, count_read};
 use std::marker::Model;
 
 /// Bytes in memory, given in pieces, with calls that fail. It is seen as the bytes to come, the piece, the calls that
-/// fail, and the numbers of calls and of faults so far.
+/// fail, and the numbers so far of calls, of those that took nothing, of those among them after the last that took a byte,
+/// and of faults.
 #[derive(Drop)]
 pub struct MemSource {
     bytes: Vec<u8>,
@@ -15,6 +16,8 @@ pub struct MemSource {
     piece: u32,
     failing: Vec<u64>,
     calls: u64,
+    empty_reads: u64,
+    empty_at_end: u64,
     faults: u64,
 }
 
@@ -29,6 +32,8 @@ impl Model for MemSource {
       piece = m.piece;
       failing = m.failing.items;
       calls = m.calls;
+      empty_reads = m.empty_reads;
+      empty_at_end = m.empty_at_end;
       faults = m.faults;
     } };
 
@@ -44,6 +49,8 @@ impl MemSource {
           piece = piece;
           failing = failing.items;
           calls = 0;
+          empty_reads = 0;
+          empty_at_end = 0;
           faults = 0;
         } }
     {
@@ -53,6 +60,8 @@ impl MemSource {
             piece,
             failing,
             calls: 0,
+            empty_reads: 0,
+            empty_at_end: 0,
             faults: 0,
         }
     }
@@ -95,11 +104,13 @@ impl Source for MemSource {
     {
         self.calls = self.calls.saturating_add(1);
         if self.failing.contains(&self.calls) {
+            count_read(0, &mut self.empty_reads, &mut self.empty_at_end);
             self.faults = self.faults.saturating_add(1);
             return Err(Failed);
         }
         let (_, rest) = self.bytes.split_at(self.at);
         let count = copy_front(rest, into, self.piece as usize);
+        count_read(count, &mut self.empty_reads, &mut self.empty_at_end);
         self.at += count;
         Ok(count)
     }

@@ -2,15 +2,16 @@
 
 ghost use Rattle.std.specs.Prelude.{◌≡◌, ◌<◌, ◌≤◌, length, IfOk, IfSome, IsErrOf, OnErr, vec_len};
 ghost use Rattle.std.specs.Io.{ReadsAtMost};
-ghost use Rattle.byte_streams.specs.Causes.{Rose};
+ghost use Rattle.byte_streams.specs.Causes.{Rose, one_more};
 ghost use Rattle.byte_streams.specs.Seen.{Feed, Reads, ReadsAll, ReadsOnce, ReadsPast, ReadsWithin, TakesPiece};
 
 use crate::Failed;
 use std::alloc::{AllocError, Global};
 use thiserror::Error;
 
-/// Where bytes come from. It is seen as the bytes still to come, where they are told, and two counts: of its reads, which
-/// each read raises by one, and of faults. A count stops at the end of its type.
+/// Where bytes come from. It is seen as the bytes still to come, where they are told, and four counts: of its reads, which
+/// each read raises by one; of those that took nothing; of those among them that came after the last read that took a byte;
+/// and of faults. A count stops at the end of its type.
 pub trait Source {
     ghost seen: { Self → Feed };
 
@@ -20,6 +21,20 @@ pub trait Source {
         requires { 0 < length into.old }
         ensures bound { ReadsAtMost result into.new }
         ensures reads { Reads (seen self.old) (seen self.new) result into.new };
+}
+
+/// Counts a read that took so many bytes: whether it took none.
+pub fn count_read(taken: usize, empty_reads: &mut u64, empty_at_end: &mut u64)
+    ensures some { 0 < taken → (empty_reads.new ≡ empty_reads.old) × (empty_at_end.new ≡ 0) }
+    ensures none { taken ≡ 0 → (empty_reads.new ≡ one_more empty_reads.old)
+        × (empty_at_end.new ≡ one_more empty_at_end.old) }
+{
+    if taken == 0 {
+        *empty_reads = empty_reads.saturating_add(1);
+        *empty_at_end = empty_at_end.saturating_add(1);
+    } else {
+        *empty_at_end = 0;
+    }
 }
 
 /// Why not all was read.

@@ -7,16 +7,48 @@ ghost use Rattle.byte_streams.specs.Seen.{Reads, Writes, untold_feed, untold_tap
 
 use crate::Failed;
 use crate::sink::Sink;
-use crate::source::Source;
-use std::io::{Read, Write};
+use crate::source::{Source, count_read};
+use std::io::{self, ErrorKind, Read, Write};
 use std::marker::Model;
 
-/// A reader of std, as standard input or a file. It tells nothing of its bytes, and is seen as two counts: of its reads,
-/// and of faults, which rises at each read that fails and at no other.
+/// So often is a call tried again that a signal interrupted.
+const RETRIES: usize = 100;
+
+/// Reads, and reads again where a signal interrupted it, which took nothing.
+fn read_again<R: Read>(reader: &mut R, into: &mut [u8]) -> io::Result<usize>
+    ensures { ReadsAtMost result into.new }
+{
+    for _ in 0..RETRIES {
+        match reader.read(into) {
+            Err(error) if error.kind() == ErrorKind::Interrupted => {}
+            result => return result,
+        }
+    }
+    reader.read(into)
+}
+
+/// Writes, and writes again where a signal interrupted it, which took nothing.
+fn write_again<W: Write>(writer: &mut W, bytes: &[u8]) -> io::Result<usize>
+    ensures { WritesAtMost result bytes.now }
+{
+    for _ in 0..RETRIES {
+        match writer.write(bytes) {
+            Err(error) if error.kind() == ErrorKind::Interrupted => {}
+            result => return result,
+        }
+    }
+    writer.write(bytes)
+}
+
+/// A reader of std, as standard input or a file. It tells nothing of its bytes, and is seen as the counts of a source; that of
+/// faults rises at each read that fails and at no other. A read that a signal interrupts is tried again, a bounded number of
+/// times, as one read.
 #[derive(Drop)]
 pub struct StdSource<R: Read> {
     reader: R,
     reads: u64,
+    empty_reads: u64,
+    empty_at_end: u64,
     faults: u64,
 }
 
@@ -25,17 +57,24 @@ impl<R: Read> Model for StdSource<R> {
 
     ghost Value = { Counts };
 
-    ghost view = { λ s. record { reads = s.reads; faults = s.faults } };
+    ghost view = { λ s. record {
+      reads = s.reads;
+      empty_reads = s.empty_reads;
+      empty_at_end = s.empty_at_end;
+      faults = s.faults;
+    } };
 }
 
 impl<R: Read> StdSource<R> {
     /// The source of what this reader gives.
     pub fn new(reader: R) -> StdSource<R>
-        ensures { result ≡ record { reads = 0; faults = 0 } }
+        ensures { result ≡ record { reads = 0; empty_reads = 0; empty_at_end = 0; faults = 0 } }
     {
         StdSource {
             reader,
             reads: 0,
+            empty_reads: 0,
+            empty_at_end: 0,
             faults: 0,
         }
     }
@@ -51,9 +90,13 @@ impl<R: Read> Source for StdSource<R> {
         ensures faults { self.new.faults ≡ (if is_err result then one_more self.old.faults else self.old.faults) }
     {
         self.reads = self.reads.saturating_add(1);
-        match self.reader.read(into) {
-            Ok(count) => Ok(count),
+        match read_again(&mut self.reader, into) {
+            Ok(count) => {
+                count_read(count, &mut self.empty_reads, &mut self.empty_at_end);
+                Ok(count)
+            }
             Err(_) => {
+                count_read(0, &mut self.empty_reads, &mut self.empty_at_end);
                 self.faults = self.faults.saturating_add(1);
                 Err(Failed)
             }
@@ -62,7 +105,8 @@ impl<R: Read> Source for StdSource<R> {
 }
 
 /// A writer of std, as standard output or a file. It tells nothing of its bytes, and is seen as a count, which rises at
-/// each write that fails and at no other. A writer that takes nothing of a piece that is not empty failed.
+/// each write that fails and at no other. A writer that takes nothing of a piece that is not empty failed. A write that a
+/// signal interrupts is tried again, a bounded number of times, as one write.
 #[derive(Drop)]
 pub struct StdSink<W: Write> {
     writer: W,
@@ -97,7 +141,7 @@ impl<W: Write> Sink for StdSink<W> {
         if bytes.is_empty() {
             return Ok(0);
         }
-        match self.writer.write(bytes) {
+        match write_again(&mut self.writer, bytes) {
             Ok(count) if 0 < count => Ok(count),
             _ => {
                 self.faults = self.faults.saturating_add(1);
