@@ -3,7 +3,7 @@ use Rattle.std.proofs.Common.{◌≡◌, ℕ, ◌+◌, ◌-◌, ◌*◌, ◌/◌
 use Rattle.std.proofs.Math.Seq.{take-append-add}
 use Rattle.std.proofs.lemmas.Fmt.{decimal_step, length-decimal-le}
 use Rattle.std.proofs.lemmas.List.{get_or-append_right, get_or-drop, get_or-set_same, length-set, length-take-le, take-set-le, take-take, take_at, take_more_set}
-use Rattle.iso_defs.specs.Texts.{three_digits}
+use Rattle.iso_defs.specs.Texts.{line, three_digits}
 use Rattle.mesh_text.specs.Fours.{rest_text}
 use Rattle.mesh_text.specs.Numbers.{IsCounter, IsFront, numbers_line}
 
@@ -32,6 +32,14 @@ line_ended r0 r1 r2 r3 r4 a b c at p1 p2 p3 end room long some last e1 e2 e3 e4 
     let front : List ℕ = take (length c - 1) c in
     let flat : take end r4 ≡ (((take at r0 ++ a) ++ b) ++ front) ++ 10 ∷ [] = cc in
     flat ∙ simp append_assoc
+
+-- a text less the blank behind it
+unblanked : (d : List ℕ) → take (length (d ++ 32 ∷ []) - 1) (d ++ 32 ∷ []) ≡ d
+unblanked d = take_at d (32 ∷ []) (length (d ++ 32 ∷ []) - 1) (omega (arith, length-append d (32 ∷ [])))
+
+-- the line of three texts with a blank behind each
+pub numbers_ended : (a b d : List ℕ) → numbers_line (a ++ 32 ∷ []) (b ++ 32 ∷ []) (d ++ 32 ∷ []) ≡ line (a ++ 32 ∷ (b ++ 32 ∷ d))
+numbers_ended a b d = ap (λ (l : List ℕ). (a ++ 32 ∷ []) ++ ((b ++ 32 ∷ []) ++ line l)) (unblanked d) ∙ simp append_assoc
 
 -- a number of more than three digits ends with the three of its rest
 pub three_last : (n : ℕ) → 1000 ≤ n → n < 2 ^ 64 → decimal n ≡ decimal (n / 1000) ++ three_digits (n % 1000)

@@ -1,7 +1,8 @@
 -- Lines of mesh texts.
 use Rattle.std.specs.Prelude.{ℕ, List, ◌∷◌, ◌++◌, codes, decimal, ℤ, pos, slice_index_or}
-use Rattle.iso_defs.specs.Bytes.{space, lower_v}
-use Rattle.iso_defs.specs.Texts.{line, decimal_text, vertex_head, face_head}
+use Rattle.iso_defs.specs.Bytes.{space, digit_three, lower_f, lower_v}
+use Rattle.iso_defs.specs.Texts.{line, decimal_text, numbers_text, vertex_head, face_head}
+use Rattle.iso_base.specs.Triangles.{triangle_of}
 use Rattle.iso_base.specs.declared.decimal.Thousandth.{Thousandth}
 use Rattle.mesh_text.specs.Numbers.{numbers_line}
 
@@ -20,6 +21,14 @@ ply_vertex_line at = line (coordinates_text (along at 0) (along at 1) (along at 
 -- the line of a vertex in OBJ
 abbrev pub obj_vertex_line : List Thousandth → List ℕ
 obj_vertex_line at = line (lower_v ∷ space ∷ coordinates_text (along at 0) (along at 1) (along at 2))
+
+-- the line of a face in PLY, its corners counted from 0
+abbrev pub ply_face_line : List ℕ → List ℕ
+ply_face_line corners = line (digit_three ∷ space ∷ numbers_text 0 (triangle_of corners))
+
+-- the line of a face in OBJ, its corners counted from 1
+abbrev pub obj_face_line : List ℕ → List ℕ
+obj_face_line corners = line (lower_f ∷ space ∷ numbers_text 1 (triangle_of corners))
 
 -- the line of a letter and of the texts of three numbers, each with a blank behind it
 abbrev pub letter_line : ℕ → List ℕ → List ℕ → List ℕ → List ℕ

@@ -8,6 +8,9 @@ ghost use Rattle.mesh_text.specs.Lines.{along, coordinates_text};
 use iso_base::Thousandth;
 use number_digits::{Digits, put_array, put_byte};
 
+/// The room of a line that is written alone.
+pub const LINE: usize = 64;
+
 #[inline(always)]
 fn put_thousandths<D: Digits>(digits: &D, n: u64, room: &mut [u8], at: usize) -> usize
     requires bound { n ≤ 2 ^ 44 }

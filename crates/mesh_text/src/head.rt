@@ -2,9 +2,11 @@
 
 ghost use Rattle.std.specs.Prelude.{◌≡◌, ◌+◌, ◌≤◌, ◌++◌, decimal, length};
 ghost use Rattle.arrayvec.specs.ArrayString.{array_string_len};
+ghost use Rattle.byte_streams.specs.Seen.{Puts};
 ghost use Rattle.mesh_text.specs.Lines.{ply_head, ply_head_bytes, points_head, points_head_bytes};
 
 use arrayvec::ArrayString;
+use byte_streams::{Failed, Sink, write_all_of};
 use number_digits::put_number;
 
 #[tactic(auto, unfolding(crate::specs::Lines::points_head_bytes))]
@@ -24,6 +26,14 @@ pub fn points_head_text(vertices: u32) -> ArrayString<160>
     ensures { result.bytes ≡ points_head vertices }
 {
     points_head_parts(vertices)
+}
+
+/// Appends the head of a PLY text of vertices alone, down to `end_header`. `Failed` comes only where the sink's count of
+/// faults rose; a prefix of the head was then taken.
+pub fn put_points_head<K: Sink>(sink: &mut K, vertices: u32) -> Result<(), Failed>
+    ensures { Puts (K.seen sink.old) (K.seen sink.new) result (points_head vertices) }
+{
+    write_all_of(sink, points_head_text(vertices).as_str().as_bytes())
 }
 
 /// Appends words and a number.
@@ -61,4 +71,12 @@ pub fn ply_head_text(vertices: u32, faces: u32) -> ArrayString<256>
     ensures { result.bytes ≡ ply_head vertices faces }
 {
     ply_head_parts(vertices, faces)
+}
+
+/// Appends the head of a PLY text of a mesh, down to `end_header`. `Failed` comes only where the sink's count of faults rose;
+/// a prefix of the head was then taken.
+pub fn put_ply_head<K: Sink>(sink: &mut K, vertices: u32, faces: u32) -> Result<(), Failed>
+    ensures { Puts (K.seen sink.old) (K.seen sink.new) result (ply_head vertices faces) }
+{
+    write_all_of(sink, ply_head_text(vertices, faces).as_str().as_bytes())
 }

@@ -1,11 +1,14 @@
 //! Lines of PLY texts.
 
 ghost use Rattle.std.specs.Prelude.{◌≡◌, ◌+◌, ◌<◌, ◌≤◌, ◌^◌, ◌++◌, length, take, unsigned_abs};
-ghost use Rattle.mesh_text.specs.Lines.{along, ply_vertex_line};
+ghost use Rattle.byte_streams.specs.Seen.{Puts};
+ghost use Rattle.mesh_text.specs.Lines.{along, ply_face_line, ply_vertex_line};
 
-use crate::digits::put_vertex;
+use crate::digits::{LINE, put_vertex};
+use crate::face::put_face;
+use byte_streams::{Failed, Sink, write_all_of};
 use iso_base::Thousandth;
-use number_digits::Digits;
+use number_digits::{Counted, Digits};
 
 /// Writes the line of a vertex from a place on, and says where it ends.
 #[inline(always)]
@@ -24,4 +27,25 @@ pub(crate) fn write_ply_vertex<D: Digits>(
     ensures written { take result room.new ≡ take at room.old ++ ply_vertex_line vertex.now }
 {
     put_vertex(digits, vertex, room, at)
+}
+
+/// Appends the line of a vertex: `X Y Z`. `Failed` comes only where the sink's count of faults rose; a prefix of the line was
+/// then taken.
+pub fn put_ply_vertex<K: Sink>(sink: &mut K, at: [Thousandth; 3]) -> Result<(), Failed>
+    requires x { unsigned_abs (along at 0) < 2 ^ 44 }
+    requires y { unsigned_abs (along at 1) < 2 ^ 44 }
+    requires z { unsigned_abs (along at 2) < 2 ^ 44 }
+    ensures { Puts (K.seen sink.old) (K.seen sink.new) result (ply_vertex_line at) }
+{
+    let mut line = [0; LINE];
+    let end = write_ply_vertex(&Counted, &at, &mut line, 0);
+    write_all_of(sink, &line[..end])
+}
+
+/// Appends the line of a face: `3 A B C`, its corners counted from 0. `Failed` comes only where the sink's count of faults
+/// rose; a prefix of the line was then taken.
+pub fn put_ply_face<K: Sink>(sink: &mut K, corners: [u32; 3]) -> Result<(), Failed>
+    ensures { Puts (K.seen sink.old) (K.seen sink.new) result (ply_face_line corners) }
+{
+    put_face(sink, b'3', 0, &corners)
 }

@@ -23,6 +23,7 @@ use Rattle.flat_mesh.specs.Numbers.{AreNumbers}
 use Rattle.flat_mesh.proofs.CellAdds.{no_triangles, triangles_are}
 use Rattle.iso_defs.specs.Texts.{line}
 use Rattle.mesh_text.specs.Lines.{letter_line}
+use Rattle.mesh_text.proofs.Counting.{numbers_ended}
 use Rattle.mesh_text.specs.Numbers.{numbers_line}
 use Rattle.iso_base.specs.declared.format.MeshFormat.{MeshFormat}
 use Rattle.iso_base.specs.declared.format.MeshFormat.TheVariants.{Ply, Obj, Off, Vtk}
@@ -47,14 +48,6 @@ lines_none format = refl
 pub one_line : (format : MeshFormat) (t : List ℕ) → face_line format (triangle_of t) ≡ face_lines format (t ∷ [])
 unfolding face_lines
 one_line format t = sym (append-nil (face_line format (triangle_of t)))
-
--- a text less the blank behind it
-unblanked : (d : List ℕ) → take (length (d ++ 32 ∷ []) - 1) (d ++ 32 ∷ []) ≡ d
-unblanked d = take_at d (32 ∷ []) (length (d ++ 32 ∷ []) - 1) (omega (arith, length-append d (32 ∷ [])))
-
--- the line of three texts with a blank behind each
-numbers_ended : (a b d : List ℕ) → numbers_line (a ++ 32 ∷ []) (b ++ 32 ∷ []) (d ++ 32 ∷ []) ≡ line (a ++ 32 ∷ (b ++ 32 ∷ d))
-numbers_ended a b d = ap (λ (l : List ℕ). (a ++ 32 ∷ []) ++ ((b ++ 32 ∷ []) ++ line l)) (unblanked d) ∙ simp append_assoc
 
 -- the line of the texts of a triangle's corners
 of_texts : (format : MeshFormat) (x y z : ℕ) → letter_line (letter_of format) (corner_text format x) (corner_text format y) (corner_text format z) ≡ face_line format (x, y, z)
