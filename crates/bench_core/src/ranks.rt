@@ -1,4 +1,6 @@
 //! The ranks of rows that a bench has.
+//!
+//! Why: DECISIONS.md, "Room for lists outlives a write".
 
 ghost use Rattle.std.specs.Prelude.{◌≡◌, IfOk};
 ghost use Rattle.edge_points.specs.Rows.{no_counts};

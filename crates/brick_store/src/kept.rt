@@ -1,4 +1,7 @@
 //! The list that a store keeps its copies of samples in.
+//!
+//! Copies have the narrowest width that has room for the type and the padding, chosen when a store is made. Below that
+//! choice the code is generic over the number that a sample is kept as.
 ghost use Rattle.std.specs.Prelude.{◌≡◌, ◌+◌, ◌*◌, ◌<◌, ◌≤◌, All, IfOk, length, map, slice_set, true};
 ghost use Rattle.iso_defs.specs.Lists.{below};
 ghost use Rattle.iso_defs.specs.Grid.{is_cell, point_count};

@@ -1,4 +1,6 @@
 //! A volume in bricks: how it is made, asked and changed.
+//!
+//! Why: DECISIONS.md, "A store is the volume that it stands for".
 
 ghost use Rattle.std.specs.Prelude.{◌≡◌, ℕ, ◌+◌, ◌<◌, ◌≤◌, All, IfOk, IfSome, length, map, slice_set, true};
 ghost use Rattle.std.specs.List.{filter};

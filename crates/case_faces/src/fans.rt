@@ -1,4 +1,8 @@
 //! The loops with a centre of all cases, in one table as numbers by which the centre is found. All of them have 115 sets of edges.
+//!
+//! A loop with a centre has four to twelve edges, and a loop over them ends after a number of turns that is guessed
+//! wrongly. All have only 115 sets of edges, so each set has a row of 32 weights, and a centre is four products of
+//! eight places.
 
 ghost use Rattle.std.specs.Prelude.{◌≡◌, ◌<◌, ◌≤◌, All, length, map, slice_index, slice_index_or, take};
 ghost use Rattle.case_faces.specs.Fans.{fan_numbers, fan_of};

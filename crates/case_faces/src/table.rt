@@ -1,4 +1,8 @@
 //! The triangles of all cases in one table.
+//!
+//! The triangles of a case stand in one table, by edges of the cell and centres of its loops. To go from loop to loop
+//! needs branches on how many there are, which are fans and how long each is. The checker tests the table for all 656
+//! cases.
 
 ghost use Rattle.std.specs.Prelude.{◌≡◌, ◌<◌, ◌≤◌, All, length, slice_index};
 ghost use Rattle.case_faces.specs.Faces.{all_corners, case_corners, corners_to};

@@ -1,4 +1,8 @@
 //! The ambiguous faces of a cell, and which of them are joined.
+//!
+//! Which faces are ambiguous or joined cannot be predicted. Where all eight values are below 2^31, all six faces are
+//! decided by products of 64 bits without a branch, and those that are not ambiguous are left out by one mask. For
+//! wider values products of 128 bits serve, one ambiguous face after the other.
 
 ghost use Rattle.std.specs.Prelude.{◌≡◌, nat_lt, ℕ, ◌+◌, ◌*◌, ◌/◌, ◌%◌, ◌^◌, ◌<◌, ◌≤◌, ◌==◌, ◌&&◌, IsTrue, if◌then◌else◌, not, slice_index, unsigned_abs};
 ghost use Rattle.std.specs.List.{All, list_all};

@@ -1,4 +1,6 @@
 //! All that the program does.
+//!
+//! Why: DECISIONS.md, "A promise is a record".
 ghost use Rattle.std.specs.Prelude.{◌≡◌, map, string_bytes, None};
 ghost use Rattle.command_words.specs.Words.{HasCapacity, HasSamplePad, IsCapacity};
 ghost use Rattle.commands.specs.Outcome.{call_between};

@@ -1,4 +1,8 @@
 //! Where an edge is crossed, by the samples at its ends.
+//!
+//! A division is the slowest instruction of a row. Shifted values are as far apart as a thousand times their samples,
+//! so a thousand is taken out of the quotient; where samples are less than 1,024 apart it is a product with a
+//! reciprocal of a table, which the checker tests for each divisor.
 ghost use Rattle.std.specs.Prelude.{◌≡◌, ◌+◌, ◌*◌, ◌/◌, ◌<◌, ◌≤◌, ◌^◌, true};
 ghost use Rattle.iso_defs.specs.Place.{place};
 ghost use Rattle.iso_defs.specs.Signs.{differ};

@@ -1,4 +1,7 @@
 //! The points of a box one after another.
+//!
+//! Whether a box is of one value is asked of the tree of spans first: if the minimum and the maximum of each of its
+//! bricks are that value, the old samples are known without reading them.
 
 ghost use Rattle.std.specs.Prelude.{◌≡◌, ◌+◌, ◌%◌, ◌<◌, ◌≤◌, true, slice_set};
 ghost use Rattle.iso_base.specs.Points.{IsPoint, index_of};

@@ -1,4 +1,6 @@
 //! Values of a box, kept as runs of equal ones or each by itself.
+//!
+//! Why: DECISIONS.md, "A change notes what it replaced".
 
 ghost use Rattle.std.specs.Prelude.{◌≡◌, ℕ, ◌+◌, ◌^◌, ◌<◌, ◌≤◌, [], ◌∷◌, ◌++◌, All, IfOk, IfSome, OnOk, drop, length, take};
 ghost use Rattle.std.specs.Bool.{OnTrue};

@@ -1,6 +1,8 @@
 //! The faces of a cell: how an ambiguous one is decided, and where the segments of each run.
 //!
 //! A face is read along its cycle of four corners. Edge i of the cycle runs from corner i to the next corner.
+//!
+//! Why: DECISIONS.md, "Ties".
 #![tactic(auto)]
 
 ghost use Rattle.std.specs.Prelude.{◌≡◌, ℕ, ◌^◌, ◌*ℤ◌, ◌<◌, ◌==◌, IsTrue, reverse, unsigned_abs, slice_index};

@@ -1,4 +1,7 @@
 //! The numbers of crossing edges.
+//!
+//! The number of a vertex is how many crossing edges have a smaller name. Two slices of ranks move along with the
+//! cells.
 ghost use Rattle.std.specs.Prelude.{◌≡◌, ℕ, ◌+◌, ◌-◌, ◌*◌, ◌<◌, ◌≤◌, ◌^◌, length, slice_index, take, All};
 ghost use Rattle.std.specs.List.{sum_by};
 ghost use Rattle.crossing_edges.specs.Flags.{before_axis, edges_in};

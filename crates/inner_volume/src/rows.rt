@@ -1,5 +1,7 @@
 //! Rows of samples off the pad's layer, copied out of the bricks: all that a line of bricks has of a plane at once, since the
 //! copies of a brick lie together in memory and those of the next brick do not.
+//!
+//! A row is read eight samples at a time, from the second sample of a brick on: the first is the brick before's last.
 
 ghost use Rattle.std.specs.Prelude.{◌≡◌, ℕ, ◌+◌, ◌-◌, ◌*◌, ◌%◌, ◌<◌, ◌≤◌, length, map};
 ghost use Rattle.iso_defs.specs.Bricks.{bricks_along};

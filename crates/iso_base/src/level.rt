@@ -1,4 +1,6 @@
 //! Levels, in thousandths, and samples compared with them.
+//!
+//! Why: DECISIONS.md, "One comparison a sample".
 
 ghost use Rattle.std.specs.Prelude.{◌≡◌, ◌<◌, ◌^◌, ◌↔◌, ℤ, int_le, unsigned_abs, IsSome, IfSome};
 ghost use Rattle.iso_base.specs.Samples.{IsSample};

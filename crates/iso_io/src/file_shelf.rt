@@ -1,4 +1,9 @@
 //! The files of the system as a file store.
+//!
+//! The system's adapters are seen as a number, their count of failures. A file that is too long, and being out of
+//! memory, are answers without a failure.
+//!
+//! Why: DECISIONS.md, "The file store keeps a file open".
 
 ghost use Rattle.std.specs.Prelude.{◌≡◌, ◌≤◌, length, IfOk};
 ghost use Rattle.byte_streams.specs.Causes.{Rose};

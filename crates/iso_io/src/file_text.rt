@@ -1,4 +1,6 @@
 //! Files of a shelf that are made anew of a text.
+//!
+//! Why: DECISIONS.md, "A file is made of a text in one place".
 ghost use Rattle.std.specs.Prelude.{◌≡◌, List, ℕ, ⊤, IfOk};
 ghost use Rattle.byte_streams.specs.Seen.{Puts};
 ghost use Rattle.iso_io.specs.Loans.{loan_of, name_of, shelf_of};

@@ -1,4 +1,9 @@
 //! The cases of the cells of a brick that lie in some planes across z.
+//!
+//! Entries of a cached brick are read once for each half of it, and the cases of four slices of 256 bricks are held, so
+//! that a brick's place is its last eight bits. To find where a slice begins, or to test each entry, costs more. All
+//! eight slices would be read once, but their 528 KB lie on the stack. Where a layer has more than 320 bricks one slice
+//! is held, since a brick would lose its place before its next slice is asked for.
 
 ghost use Rattle.std.specs.Prelude.{◌≡◌, ℕ, ◌+◌, ◌*◌, ◌/◌, ◌<◌, ◌≤◌, All, List, slice_index, true};
 ghost use Rattle.iso_defs.specs.Bricks.{brick_count, entries as entries_of_brick, in_brick};

@@ -1,4 +1,7 @@
 //! The cases of the cells of a row, from the signs of the points around it.
+//!
+//! Of 64 cells each gets the case of its signs with no joined face first, by one look into a table; those with an
+//! ambiguous face get their own case after that. Asked for each cell in turn, that branch cannot be predicted on noise.
 ghost use Rattle.std.specs.Prelude.{◌≡◌, ℕ, ◌+◌, ◌-◌, ◌*◌, ◌<◌, ◌≤◌, IfOk, length, min, slice_index};
 ghost use Rattle.iso_defs.specs.Grid.{index};
 ghost use Rattle.flat_mesh.specs.Centres.{IsCellAt};

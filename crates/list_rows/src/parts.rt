@@ -1,4 +1,7 @@
 //! Rows of points, kept one behind the other: each as a number for each of its points, or as its few crossing edges and active cells.
+//!
+//! Most rows are lists. Where crossing edges are more than half as many as points, lists would take more room: there
+//! the flags of a point and the case of the cell that begins at it are one number of 16 bits.
 ghost use Rattle.std.specs.Prelude.{◌≡◌, ◌+◌, ◌*◌, ◌<◌, ◌≤◌, [], IfOk, drop, length, take};
 ghost use Rattle.mesh_rows.specs.Rows.{AreEdges, IsStill};
 ghost use Rattle.list_rows.specs.Cases.{HasNoLoops};

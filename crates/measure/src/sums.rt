@@ -1,4 +1,7 @@
 //! The measures of a mesh: one pass over its triangles, after the walk that names its components.
+//!
+//! A determinant is the product of a corner with the normal: each triangle costs one vector product. Sums are of 128
+//! bits, so nothing overflows or is rounded.
 
 ghost use Rattle.std.specs.Prelude.{◌≡◌, ◌<◌, ◌≤◌, ◌^◌, length, map, All, IfOk};
 ghost use Rattle.iso_defs.specs.Manifold.{HasThreeCorners};

@@ -1,4 +1,7 @@
 //! The cache of the entries of bricks, each at a level.
+//!
+//! `lookup`, `entry` and `capacity` are for users of one entry, or of the order of use. The program reads by
+//! `kept_entries` alone, which lends a brick's entries page by page and leaves the order.
 
 ghost use Rattle.std.specs.Prelude.{◌≡◌, ◌-◌, ◌<◌, ◌≤◌, length, take, slice_index, option_map, None, IfOk, IfSome};
 ghost use Rattle.std.specs.Ordering.{int_eq};

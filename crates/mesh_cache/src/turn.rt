@@ -1,4 +1,6 @@
 //! A turn of refreshing: the bricks that wait at a level are offered to the cache.
+//!
+//! Why: DECISIONS.md, "A crate depends on what it reads".
 ghost use Rattle.std.specs.Prelude.{◌≡◌, ◌+◌, ◌*◌, ◌^◌, ◌<◌, ◌≤◌, ℤ, List, length, min, take, IfSome};
 ghost use Rattle.iso_defs.specs.Bricks.{brick_count, is_active, entries as entries_of_brick};
 ghost use Rattle.iso_defs.specs.Grid.{Grid};

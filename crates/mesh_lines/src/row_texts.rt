@@ -1,4 +1,8 @@
 //! The parts that the lines of vertices on a row of points have in common, made once for the row.
+//!
+//! The line of a vertex is inlined twice, for a volume with padding and for one without: without padding no coordinate
+//! is below zero, and the compiler removes the tests for signs. At the upper end of its edge, as every third vertex in
+//! volumes of a few bits, a vertex has no decimals, and its line is put together from texts at hand.
 ghost use Rattle.std.specs.Prelude.{◌≡◌, ℕ, ◌+◌, ◌*◌, ◌/◌, ◌%◌, ◌==◌, ◌<◌, ◌≤◌, ◌^◌, ◌∷◌, ◌++◌, [], All, cond, false, length, if◌then◌else◌, slice_index};
 ghost use Rattle.iso_defs.specs.Bytes.{space, minus};
 ghost use Rattle.iso_defs.specs.Texts.{line};

@@ -1,4 +1,7 @@
 //! One pass over the lines of a PLY header, up to its first fault.
+//!
+//! The names of elements are in an ordered set beside their list, so that a header of many elements costs no more than
+//! its sorting.
 ghost use Rattle.std.specs.Prelude.{◌≡◌, ◌+◌, ◌<◌, ◌≤◌, ◌^◌, ◌==◌, ◌⊎◌, Some, None, length, drop, true, not, ◌||◌, IfOk, IfErr};
 ghost use Rattle.std.specs.List.{list_any};
 ghost use Rattle.refusals.specs.declared.mesh.MeshFault.TheVariants.{Memory};

@@ -1,4 +1,6 @@
 //! Lines in the form that nearly every writer gives them, read in one pass over their bytes.
+//!
+//! Why: DECISIONS.md, "Usual lines of a mesh text".
 ghost use Rattle.std.specs.Prelude.{◌≡◌, ◌+◌, ◌<◌, ◌≤◌, ◌∷◌, length, slice_index, IfSome, false};
 ghost use Rattle.iso_defs.specs.Bytes.{digit_three, space};
 ghost use Rattle.text_lines.specs.Numbers.{is_digit};

@@ -1,4 +1,8 @@
 //! The report on a mesh, and the component of each vertex.
+//!
+//! One traversal serves a report and the components of vertices. It names each vertex by its component and counts
+//! nothing; the counts are taken afterwards in the order of vertices, when the queue is freed: a byte for each vertex
+//! says whether the arcs around the present one met it never, once or more often.
 
 ghost use Rattle.std.specs.Prelude.{◌≡◌, ◌<◌, ◌^◌, length, map, All, IfOk};
 ghost use Rattle.iso_defs.specs.Manifold.{HasThreeCorners};

@@ -1,4 +1,6 @@
 //! What a row of a volume at a level has, however the volume lies.
+//!
+//! Why: DECISIONS.md, "One traversal writes every mesh".
 ghost use Rattle.std.specs.Prelude.{◌≡◌, ℕ, ◌+◌, ◌*◌, ◌<◌, ◌≤◌, length, take};
 ghost use Rattle.mesh_rows.specs.Counts.{AreAllCounts};
 ghost use Rattle.mesh_rows.specs.Rows.{AreActive, AreEdges, row_names, row_places};

@@ -1,4 +1,8 @@
 //! Numbers that follow each other, as texts.
+//!
+//! Numbers that follow each other change before their last three digits once in a thousand, so those are copied, and
+//! the last three come from the table. The text is made where it stays: a copy of bytes that were written one by one
+//! just before waits for them.
 
 ghost use Rattle.std.specs.Prelude.{◌≡◌, ◌+◌, ◌*◌, ◌≤◌, ◌<◌, ◌^◌, ◌∷◌, ◌++◌, [], take, length, decimal};
 ghost use Rattle.iso_defs.specs.Bytes.{space};

@@ -1,4 +1,8 @@
 //! The digits of the numbers below 10,000, four to a number.
+//!
+//! Numbers come out of a table of four digits a number, made once for a text; one of three digits and a blank finishes
+//! a number that is counted up by one store. Bytes of an array put one after the other become one move; a copy of a
+//! slice is first tested for overlap.
 
 ghost use Rattle.std.specs.Prelude.{◌≡◌, ◌+◌, ◌*◌, ◌≤◌, ◌<◌, ◌^◌, ◌++◌, take, drop, length, decimal};
 ghost use Rattle.iso_defs.specs.Texts.{three_digits};

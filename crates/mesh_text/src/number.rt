@@ -1,4 +1,8 @@
 //! Texts of numbers that are put into lines more than once.
+//!
+//! A number's text is made once for all triangles that name it, and put into lines as an array of 16 bytes, which is
+//! moved at once. It has no model: an array cannot repeat a value whose type has one, and 12,312 of them cannot be
+//! written out.
 
 ghost use Rattle.std.specs.Prelude.{◌≡◌, ◌+◌, ◌≤◌, ◌<◌, ◌^◌, ◌∷◌, ◌++◌, [], take, length, decimal};
 ghost use Rattle.iso_defs.specs.Bytes.{space};

@@ -1,4 +1,7 @@
 //! Rows of points one after the other, and how many crossing edges begin in each row and before it.
+//!
+//! Rows are counted on by their coordinates. To divide the number of each row by the rows of a slice was the longest
+//! step of leaving a row without crossing edges, and volumes have many of these.
 ghost use Rattle.std.specs.Prelude.{◌≡◌, ◌+◌, ◌<◌};
 ghost use Rattle.mesh_walk.specs.Numbers.{AreRowRanks, row_number};
 

@@ -1,4 +1,8 @@
 //! What belongs to the crossing edges of the four rows of points round a row of cells, each edge's in a slot of its own.
+//!
+//! Ranks would find the edges around a row of cells too, one for each of twelve edges of a cell, where a slot takes one
+//! look into a table. Slots of rows at even and odd coordinates are apart, so rows stay where they are while the cells
+//! move on.
 ghost use Rattle.std.specs.Prelude.{◌≡◌, ℕ, List, [], ◌∷◌, ◌+◌, ◌*◌, ◌<◌, ◌≤◌, slice_index};
 ghost use Rattle.iso_base.specs.Sizing.{IsGrid};
 ghost use Rattle.flat_mesh.specs.Lattice.{Leveled};

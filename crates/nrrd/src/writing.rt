@@ -1,4 +1,7 @@
 //! Volumes in print.
+//!
+//! Each of six types has a writer. Of one byte in either order the byte orders' contracts say nothing, so one trait
+//! would have the two one-byte types stand beside it.
 ghost use Rattle.std.specs.Prelude.{◌≡◌, ◌+◌, ◌*◌, ◌<◌, ◌≤◌, ◌++◌, length, take, All, List, [], decimal, map, pos, ℤ};
 ghost use Rattle.arrayvec.specs.ArrayString.{array_string_len};
 ghost use Rattle.byte_streams.specs.Seen.{Puts};

@@ -1,4 +1,6 @@
 //! The lines of a header, in order.
+//!
+//! An empty line is no bad line and a line of blanks is one; a CR at the very end of the input stays in its line.
 ghost use Rattle.std.specs.Prelude.{◌≡◌, ◌+◌, ◌^◌, ◌≤◌, ◌<◌, length, Option, MatchOption, IfSome, [], ◌∷◌, Ok};
 ghost use Rattle.std.specs.Option.{option_map};
 ghost use Rattle.text_lines.specs.Lines.{lines_of};

@@ -1,4 +1,6 @@
 //! The header of an NRRD file: its lines, the first value of each field, and the layout of the samples that these say.
+//!
+//! Why: DECISIONS.md, "The end of a header comes first".
 #![tactic(auto)]
 
 mod checks;

@@ -1,4 +1,7 @@
 //! The numbers that a byte can be, each behind a space, out of a table.
+//!
+//! The digits of a byte come from a table, and the byte of a sign is written in either case: no branch is
+//! unpredictable.
 
 ghost use Rattle.std.specs.Prelude.{◌≡◌, ◌+◌, ◌*◌, ◌≤◌, ◌++◌, take, length, flat_map, map, pos, All};
 ghost use Rattle.iso_base.specs.Samples.{IsOfKind};

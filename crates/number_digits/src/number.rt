@@ -1,4 +1,6 @@
 //! Numbers in print.
+//!
+//! The call asks for room for the longest text of its type, so no caller proves how many digits its number has.
 
 ghost use Rattle.std.specs.Prelude.{◌≡◌, ◌+◌, ◌≤◌, ◌++◌, length};
 ghost use Rattle.arrayvec.specs.ArrayString.{array_string_len};

@@ -1,4 +1,6 @@
 //! Samples in a pad, which no list is made of.
+//!
+//! Why: DECISIONS.md, "A padding is a view".
 ghost use Rattle.std.specs.Prelude.{◌≡◌, ℕ, ℤ, ◌+◌, ◌*◌, ◌<◌, ◌≤◌, ◌↔◌, Err, IfOk, IfSome, None, All, drop, length, map, slice_index, take, true};
 ghost use Rattle.iso_defs.specs.Grid.{point_count};
 ghost use Rattle.iso_base.specs.Points.{IsPoint, index_of};

@@ -1,4 +1,6 @@
 //! Pages, and the links that lead from one to the next.
+//!
+//! Why: DECISIONS.md, "Chains of pages".
 ghost use Rattle.std.specs.Prelude.{◌≡◌, ℕ, ◌+◌, ◌-◌, ◌/◌, ◌<◌, ◌≤◌, ◌≢◌, [], None, length, take, slice_index_or, All};
 ghost use Rattle.page_pool.specs.Chains.{need};
 ghost use Rattle.page_pool.specs.Layout.{follow, content, blank};

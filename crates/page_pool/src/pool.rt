@@ -1,4 +1,7 @@
 //! The pool: lists of numbers in chains of pages.
+//!
+//! A page's memory is first touched when it is written, and so are the links and lengths: a pool asks for all its pages
+//! when it is made, and writes none.
 
 ghost use Rattle.std.specs.Prelude.{◌≡◌, ◌*◌, ◌^◌, ◌<◌, ◌≤◌, ◌↔◌, length, take, drop, slice_index, None, Some, IsErr, IfOk, IfErr, OnErr};
 ghost use Rattle.page_pool.specs.Chains.{need, chain_at, Has, entries_at, with_chain, without_chain, no_chains, IsWhole};

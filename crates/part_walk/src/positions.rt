@@ -1,4 +1,6 @@
 //! Where the vertices of a loop of a cell are, in thousandths.
+//!
+//! A position in a cell is one number of 64 bits with 16 bits a coordinate, so that the three sums of a loop are one.
 
 ghost use Rattle.std.specs.Prelude.{◌≡◌, ℕ, ◌+◌, ◌*◌, ◌<◌, ◌≤◌, ◌^◌, All, IsTrue, length, nat_lt, slice_index, unsigned_abs, ◌∷◌, [], if◌then◌else◌};
 ghost use Rattle.iso_defs.specs.Cell.{crosses, edge_corner, signs_of};

@@ -1,4 +1,6 @@
 //! The measures of a mesh.
+//!
+//! Why: DECISIONS.md, "Report and measures without a mesh".
 
 ghost use Rattle.std.specs.Prelude.{◌≡◌, ℕ, ◌+◌, ◌<◌, ◌^◌, ◌+ℤ◌, IfOk, length};
 ghost use Rattle.cell_loops.specs.Loops.{IsLoop};

@@ -1,4 +1,7 @@
 //! The labels of loops, what is added up of the loops of each, and its crossing edges.
+//!
+//! Two labels that run side by side meet at every cell. For each label the smaller one that it met last is kept, and
+//! that pair is not noted again right after. A set of pairs would cost more than it saves.
 
 ghost use Rattle.std.specs.Prelude.{◌≡◌, ℕ, ◌+◌, ◌*◌, ◌<◌, ◌≤◌, ◌++◌, ◌∷◌, [], List, IfOk, OnOk, length};
 ghost use Rattle.cell_loops.specs.Loops.{IsLoop};

@@ -1,4 +1,7 @@
 //! The lattice edges of a plane, and which of them a contour line joins.
+//!
+//! A plane has numbers of its own, by point and axis, so that one list of flags says which lines were met, and the cost
+//! grows with the plane alone.
 
 ghost use Rattle.std.specs.Prelude.{◌≡◌, ℕ, ◌+◌, ◌*◌, ◌<◌, ◌^◌, ◌==◌, ◌∷◌, [], ℤ, true, false, MatchOption, IfSome, position, slice_index, unsigned_abs};
 ghost use Rattle.iso_defs.specs.Bricks.{bits_of};

@@ -1,4 +1,6 @@
 //! The vertices on crossing edges as a PLY text.
+//!
+//! Why: DECISIONS.md, "Points are counted first".
 
 ghost use Rattle.std.specs.Prelude.{◌≡◌, ◌+◌, ◌*◌, ◌<◌, ◌≤◌, All, IfErr, IfOk, length};
 ghost use Rattle.iso_defs.specs.Rows.{row_count};

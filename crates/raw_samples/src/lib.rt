@@ -1,4 +1,6 @@
 //! Samples as they lie in the bytes of a file: in six types, in either byte order, asked for where they lie.
+//!
+//! Why: DECISIONS.md, "A type for each kind and byte order".
 #![tactic(auto)]
 
 mod in_bytes;

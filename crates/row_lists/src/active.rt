@@ -1,4 +1,7 @@
 //! The cells of a row that may have loops, listed by their places.
+//!
+//! Whoever has a row's lists hands them out; where they have to be found, it is by the bits of a comparison of many
+//! flags or cases at once. A branch for each point is guessed wrongly where one in ten counts.
 ghost use Rattle.std.specs.Prelude.{◌≡◌, ℕ, ◌+◌, ◌-◌, ◌^◌, ◌<◌, ◌≤◌, ◌==◌, ◌++◌, if◌then◌else◌, length, slice_index, take};
 ghost use Rattle.std.specs.Int.{bit_at};
 ghost use Rattle.row_lists.specs.Active.{active_among};

@@ -1,4 +1,8 @@
 //! The crossing edges of a row of points, listed by their offsets from the flags.
+//!
+//! Two points' flags, six bits, name a row of a table with up to six offsets, which is written whole, and the list
+//! grows by as many as are crossing. A loop over the bits that are set ends after another number of turns for every
+//! eight points, which a processor guesses wrongly in noise.
 ghost use Rattle.std.specs.Prelude.{◌≡◌, ℕ, ◌+◌, ◌-◌, ◌*◌, ◌%◌, ◌^◌, ◌<◌, ◌≤◌, ◌++◌, ◌∷◌, [], All, IsTrue, cond, length, map, slice_index, take};
 ghost use Rattle.row_lists.specs.Edges.{edges_among, edges_at};
 

@@ -1,4 +1,10 @@
 //! The cases of the cells of a row, brick by brick.
+//!
+//! The cases of one row of cells are told from the signs of its four rows of points, and values at corners are read
+//! only where a face is ambiguous. What the copies are compared with is made by a call that is not inlined: where the
+//! compiler sees that it was cut down from 64 bits, it compares 64 bits.
+//!
+//! Why: DECISIONS.md, "Cases with the loops of the cells".
 ghost use Rattle.std.specs.Prelude.{◌≡◌, ℕ, ◌+◌, ◌*◌, ◌<◌, ◌≤◌, length, slice_index};
 ghost use Rattle.flat_mesh.specs.Lattice.{heights};
 ghost use Rattle.stitch_rows.specs.Bricks.{AreMarked, IsActive, IsPointRow};

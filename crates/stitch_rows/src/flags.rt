@@ -1,4 +1,7 @@
 //! The flags of the points of a run.
+//!
+//! The flags of a row are taken from the bricks that hold it alone: the rows of the next points along y and z are in
+//! the same brick, 9 and 81 samples further on.
 ghost use Rattle.std.specs.Prelude.{◌≡◌, ℕ, ◌+◌, ◌-◌, ◌<◌, ◌≤◌, cond, int_le, length, map, min, slice_index};
 ghost use Rattle.iso_base.specs.Volume.{sample};
 ghost use Rattle.crossing_edges.specs.Signs.{flag_of};

@@ -1,4 +1,7 @@
 //! The points of a row: their samples and their flags.
+//!
+//! The last point that a brick has along x is left to the next brick: which edge goes on from it along x only that one
+//! knows.
 ghost use Rattle.std.specs.Prelude.{◌≡◌, ◌+◌, ◌*◌, ◌<◌, ◌≤◌, length, map};
 ghost use Rattle.brick_store.specs.Copies.{AreAllCopies};
 ghost use Rattle.crossing_edges.specs.Flags.{flags_from};

@@ -1,4 +1,6 @@
 //! Lists of numbers that were asked for last, each under a key.
+//!
+//! Why: DECISIONS.md, "Where edges are crossed is kept for a list, and computed again for bricks".
 ghost use Rattle.std.specs.Prelude.{◌≡◌, ◌⊎◌, ℕ, ◌+◌, ◌/◌, ◌%◌, ◌^◌, ◌<◌, ◌≤◌, ◌++◌, List, [], drop, length, set, slice_index, take};
 ghost use Rattle.std.specs.Bool.{OnTrue};
 ghost use Rattle.store_rows.specs.Recent.{AreNoted, AreWithin, IsKept, IsNoted, IsPut, numbers_in, numbers_of};

@@ -1,4 +1,6 @@
 //! What samples are gathered into, one after the other: a list of them, or their bytes in the width of their kind.
+//!
+//! Text and hex samples are each read by one body, over a trait of what they are gathered into: a list, or bytes.
 ghost use Rattle.std.specs.Prelude.{◌≡◌, ◌≤◌, ◌++◌, ◌∷◌, [], ℤ, IfOk, List};
 ghost use Rattle.iso_base.specs.Samples.{IsOfKind};
 ghost use Rattle.iso_base.specs.declared.kind.SampleKind.{SampleKind};

@@ -1,4 +1,7 @@
 //! Samples as the hex digits of their bytes.
+//!
+//! Digits are decoded without unpredictable branches: three choices side by side, and both digits of a byte are looked
+//! at first.
 ghost use Rattle.std.specs.Prelude.{◌≡◌, ℕ, true, false, nat_le, nat_lt, if◌then◌else◌, Some, None, ◌&&◌, ◌-◌, ◌<◌, ◌≤◌, ◌+◌, ◌*◌, ◌^◌, ◌∷◌, []};
 ghost use Rattle.std.specs.Prelude.{length, Ok, IfOk, IfErr, IfSome, MatchOption, All};
 ghost use Rattle.iso_base.specs.Samples.{IsOfKind, width_of};

@@ -1,5 +1,7 @@
 //! Samples that are read in print: decimal numbers between separators, and the hex digits of their bytes. They are read
 //! into a list of numbers, or into bytes in the width of their kind.
+//!
+//! Why: DECISIONS.md, "Text and hex samples become bytes".
 #![tactic(auto)]
 
 mod bits;

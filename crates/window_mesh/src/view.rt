@@ -1,4 +1,6 @@
 //! The samples of a box of a volume in bricks, asked for where they lie.
+//!
+//! Why: DECISIONS.md, "A window is a view".
 ghost use Rattle.std.specs.Prelude.{◌≡◌, ◌≢◌, ℕ, ◌+◌, ◌<◌, ◌≤◌, All, IfErr, IfOk, None, OnOk, drop, length, map, slice_index, take, true};
 ghost use Rattle.iso_defs.specs.Grid.{point_count};
 ghost use Rattle.iso_base.specs.Points.{IsPoint, index_of};
