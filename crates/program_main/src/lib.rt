@@ -4,5 +4,5 @@
 mod program;
 mod words;
 
-pub use program::{Program, run_program};
-pub use words::words_of;
+pub use program::{Program, run_given, run_program};
+pub use words::{given_words, words_of};
