@@ -13,13 +13,15 @@ use std::process::Abort;
 use std::sync::ledger::{Blank, Ledger};
 use std::test::Fail;
 
-/// A call: its words, its input, and the bytes of the shelf's file `v`; the most bytes that a read gives, that a write takes
-/// and that a failing append takes; and which reads, writes and calls of the shelf fail, counted from 1.
+/// A call: its words, its input, and the bytes of the shelf's file `v`; the most bytes that its output has room for, that a
+/// read gives, that a write takes and that a failing append takes; and which reads, writes and calls of the shelf fail, counted
+/// from 1.
 #[derive(Clone, Copy)]
 pub struct Call<'a> {
     pub words: &'a [&'a str],
     pub input: &'a [u8],
     pub volume: &'a [u8],
+    pub room: u32,
     pub read_piece: u32,
     pub write_piece: u32,
     pub cut: u32,
@@ -34,6 +36,7 @@ pub fn call_of<'a>(words: &'a [&'a str], input: &'a [u8]) -> Call<'a> {
         words,
         input,
         volume: b"",
+        room: 4096,
         read_piece: 9,
         write_piece: 4096,
         cut: 0,
@@ -87,9 +90,9 @@ fn source_of(alloc: Global, call: &Call<'_>) -> Result<MemSource, AllocError> {
     Ok(MemSource::new(input, call.read_piece.max(1), failing))
 }
 
-fn sink_of(alloc: Global, piece: u32, failing: &[u64]) -> Result<MemSink, Fail> {
+fn sink_of(alloc: Global, room: u32, piece: u32, failing: &[u64]) -> Result<MemSink, Fail> {
     let failing = Vec::from_slice(alloc, failing)?;
-    Ok(MemSink::cutting(alloc, 4096, piece.max(1), failing)?)
+    Ok(MemSink::cutting(alloc, room, piece.max(1), failing)?)
 }
 
 /// The most bytes of a file on the shelf of a test.
@@ -139,8 +142,8 @@ pub fn outcome_on<S: Source>(
     let words = words_of(alloc, call.words)?;
     let mut outcome = Outcome {
         status: Status::Done,
-        output: sink_of(alloc, call.write_piece, call.writes_failing)?,
-        notes: sink_of(alloc, 4096, &[])?,
+        output: sink_of(alloc, call.room, call.write_piece, call.writes_failing)?,
+        notes: sink_of(alloc, 4096, 4096, &[])?,
         shelf,
     };
     outcome.status = counted_run::<S, Brand>(alloc, Blank::new(1), &words, input, &mut outcome);

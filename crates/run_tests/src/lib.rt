@@ -14,6 +14,8 @@ mod generate;
 #[cfg(test)]
 mod help;
 #[cfg(test)]
+mod limits;
+#[cfg(test)]
 mod malformed;
 #[cfg(test)]
 mod noise;
