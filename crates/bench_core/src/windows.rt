@@ -17,6 +17,10 @@ use std::alloc::Global;
 use voxel_list::FillBox;
 use window_mesh::BoxSamples;
 
+/// So many bytes of stack are taken to write a window, beyond the buffers of `write_window`, which are in its own frame: those
+/// that `Block::new` moves. `tools/measure_stack.py` finds whether they are enough.
+const DEPTH: usize = 300_000;
+
 /// A window to be written: a box of points of the stored grid, the format of the text, and the name of the file.
 #[derive(Clone, Copy)]
 pub struct Window<'a> {
@@ -88,5 +92,5 @@ pub fn write_window<H: Shelf>(
         origin: Origin::Window(corner_of(store, &window.area)),
     };
     let mut text = MeshText { mesh, style };
-    Ok(write_file(shelf, window.name, &mut text)?)
+    Ok(write_file::<_, _, DEPTH>(shelf, window.name, &mut text)?)
 }

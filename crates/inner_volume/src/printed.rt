@@ -278,7 +278,7 @@ fn write_printed<H: Shelf>(
 {
     // Reading the sizes brings in what is true of every volume.
     let _ = store.sizes();
-    write_file(shelf, name, &mut PrintedText { store, hex })
+    write_file::<_, _, 0>(shelf, name, &mut PrintedText { store, hex })
 }
 
 /// Makes the name's file the volume without its pad as lines of numbers, and says how many bytes it has. `Failed` comes

@@ -145,5 +145,5 @@ pub fn write_volume<H: Shelf>(shelf: &mut H, name: &str, store: &BrickStore) -> 
 {
     // Reading the sizes brings in what is true of every volume.
     let _ = store.sizes();
-    write_file(shelf, name, &mut SavedText { store })
+    write_file::<_, _, 0>(shelf, name, &mut SavedText { store })
 }

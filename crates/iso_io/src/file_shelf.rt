@@ -16,6 +16,8 @@ use refusals::ShelfError;
 use std::alloc::Global;
 use std::fs::{File, OpenOptions};
 use std::marker::Model;
+use std::os::fd::AsRawFd;
+use std::os::unix::fs::MetadataExt;
 
 /// A file of the system that is open for bytes to be put behind its own.
 #[derive(Drop)]
@@ -25,11 +27,13 @@ struct OpenFile {
 }
 
 /// The files of the system, whose names it resolves from the working directory. It tells nothing of their bytes, and is
-/// seen as a count, which rises at each call that fails and at no other. The file that was appended to last stays
-/// open until a call makes a file anew, reads or fails, so that a text of thousands of appends opens its file once.
+/// seen as a count, which rises at each call that fails and at no other. The file that was started or appended to last stays
+/// open until a call makes a file anew, reads or fails, so that a text of thousands of appends opens its file once. What was
+/// closed of the standard streams is taken meanwhile, so that no file gets its descriptor, and with it the replies.
 #[derive(Drop)]
 pub struct FileShelf<'a> {
     rt: &'a HostRuntime,
+    _streams: [Option<File>; 3],
     open: Option<OpenFile>,
     faults: u64,
 }
@@ -43,12 +47,13 @@ impl<'a> Model for FileShelf<'a> {
 }
 
 impl<'a> FileShelf<'a> {
-    /// The files that this runtime reaches.
+    /// The files that this runtime reaches. Of the standard streams those that are closed stay so: a write to one fails.
     pub fn new(rt: &'a HostRuntime) -> FileShelf<'a>
         ensures { result ≡ 0 }
     {
         FileShelf {
             rt,
+            _streams: [take_stream(rt), take_stream(rt), take_stream(rt)],
             open: None,
             faults: 0,
         }
@@ -65,6 +70,23 @@ impl<'a> FileShelf<'a> {
     }
 }
 
+/// The last descriptor of a standard stream.
+const LAST_STREAM: i32 = 2;
+
+/// Takes the smallest descriptor that is free, if it is one of a standard stream. It stands for a folder, which can be neither
+/// read nor written as a stream is, or, where there is none, for the null device, which can only be read, as empty.
+fn take_stream(rt: &HostRuntime) -> Option<File> {
+    let file = match File::open(rt, "/") {
+        Ok(folder) => folder,
+        Err(_) => File::open(rt, "/dev/null").ok()?,
+    };
+    if file.as_raw_fd() <= LAST_STREAM {
+        Some(file)
+    } else {
+        None
+    }
+}
+
 /// The bytes of a file of the system.
 fn read_file(rt: &HostRuntime, alloc: Global, name: &str, limit: u64) -> Result<Vec<u8>, ReadFault>
     ensures { IfOk result (λ v. length v.items ≤ limit) }
@@ -75,8 +97,8 @@ fn read_file(rt: &HostRuntime, alloc: Global, name: &str, limit: u64) -> Result<
     }
 }
 
-/// Opens a file of the system, which is made where there is none, for bytes to be put behind its own, whoever else puts
-/// some there meanwhile.
+/// Opens a file of the system that was not started here, which is made where there is none, for bytes to be put behind its
+/// own, whoever else puts some there meanwhile.
 fn open_behind(rt: &HostRuntime, name: &str) -> Result<StdSink<File>, Failed> {
     match OpenOptions::new().append(true).create(true).open(rt, name) {
         Ok(file) => Ok(StdSink::new(file)),
@@ -84,8 +106,41 @@ fn open_behind(rt: &HostRuntime, name: &str) -> Result<StdSink<File>, Failed> {
     }
 }
 
-/// Puts bytes behind those of a file of the system, by way of what is open where that is this file. It then stays open,
-/// but for a name too long to be kept in place; where the call fails none does.
+/// A regular file opened once more, if it still has that name.
+fn opened_again(rt: &HostRuntime, name: &str, file: &File) -> Option<File> {
+    let known = file.metadata().ok()?;
+    if !known.is_file() {
+        return None;
+    }
+    let again = OpenOptions::new().write(true).open(rt, name).ok()?;
+    let found = again.metadata().ok()?;
+    if found.dev() == known.dev() && found.ino() == known.ino() {
+        Some(again)
+    } else {
+        None
+    }
+}
+
+/// Makes a file of the system empty, and opens it.
+// A file system may write a file to the disk when it is closed after it was made empty, as ext4 does, and the next write of the
+// same name then waits for the disk. So a regular file is opened once more while it is empty, and what made it so is closed.
+fn make_empty(rt: &HostRuntime, name: &str) -> Result<File, Failed> {
+    let Ok(file) = File::create(rt, name) else {
+        return Err(Failed);
+    };
+    Ok(opened_again(rt, name, &file).unwrap_or(file))
+}
+
+/// A file that stays open, but for a name too long to be kept in place.
+fn kept_open(name: &str, sink: StdSink<File>) -> Option<OpenFile> {
+    match ArrayString::from(name) {
+        Ok(name) => Some(OpenFile { name, sink }),
+        Err(_) => None,
+    }
+}
+
+/// Puts bytes behind those of a file of the system, by way of what is open where that is this file. It then stays open;
+/// where the call fails none does.
 fn append_to(
     rt: &HostRuntime,
     open: &mut Option<OpenFile>,
@@ -97,9 +152,7 @@ fn append_to(
         _ => open_behind(rt, name)?,
     };
     write_all_of(&mut sink, bytes)?;
-    if let Ok(name) = ArrayString::from(name) {
-        *open = Some(OpenFile { name, sink });
-    }
+    *open = kept_open(name, sink);
     Ok(())
 }
 
@@ -134,10 +187,13 @@ impl<'a> Shelf for FileShelf<'a> {
         ensures faults { self.new ≡ (if is_err result then one_more self.old else self.old) }
     {
         self.open = None;
-        if File::create(self.rt, name).is_err() {
-            return Err(self.fault());
+        match make_empty(self.rt, name) {
+            Ok(file) => {
+                self.open = kept_open(name, StdSink::new(file));
+                Ok(())
+            }
+            Err(Failed) => Err(self.fault()),
         }
-        Ok(())
     }
 
     fn append(&mut self, name: &str, bytes: &[u8]) -> Result<(), Failed>

@@ -21,6 +21,10 @@ use span_tree::SpanTree;
 use std::sync::ledger::Ledger;
 use stitch::{write_obj, write_ply};
 
+/// So many bytes of stack are taken to write a mesh: by the tables and buffers of `stitch::write_in`, and above it by those that
+/// `Block::new` moves. `tools/measure_stack.py` finds whether they are enough.
+const DEPTH: usize = 1_536_000;
+
 /// A volume in bricks at a level, with the tree of its spans and what is kept of its mesh.
 #[derive(Clone, Copy)]
 pub struct KeptVolume<'a> {
@@ -147,5 +151,5 @@ pub fn write_mesh<H: Shelf, L: Ledger>(
         steps.new ≤ steps.old + 1536 * length (waiting v.grid v.samples volume.now.level volume.now.cache.now.items) }
 {
     let mut text = MeshText::new(volume, format, ranks, steps);
-    write_file(shelf, name, &mut text)
+    write_file::<_, _, DEPTH>(shelf, name, &mut text)
 }

@@ -115,6 +115,8 @@ fn run_window<H: Shelf>(
 }
 
 /// Draws the contour lines of a plane.
+// Apart as well, and so are the two below.
+#[inline(never)]
 fn run_contour(bench: &Bench, k: i64) -> Response
     ensures { (steps : ℕ) (store : Store) → TakesTurn bench.now steps store (Command.Contour k)
         (response_text result) bench.now steps store }
@@ -129,6 +131,7 @@ fn run_contour(bench: &Bench, k: i64) -> Response
 }
 
 /// Counts the parts of the mesh.
+#[inline(never)]
 fn run_report(bench: &Bench) -> Response
     ensures { (steps : ℕ) (store : Store) → TakesTurn bench.now steps store Command.Report (response_text result)
         bench.now steps store }
@@ -140,6 +143,7 @@ fn run_report(bench: &Bench) -> Response
 }
 
 /// Measures the parts of the mesh.
+#[inline(never)]
 fn run_measure(bench: &Bench) -> Response
     ensures { (steps : ℕ) (store : Store) → TakesTurn bench.now steps store Command.Measure (response_text result)
         bench.now steps store }

@@ -9,7 +9,8 @@ read-tells g c = record {
   bytes = untold c.result;
   within = c.ensures.within;
   failed = λ e. inl (rose_if_failed c.result c.args.self.now c.new.self.now c.ensures.faults e);
-  missing = λ lacks _. absurd lacks;
+  missing = λ lacks. absurd lacks;
+  uncounted = λ sound. absurd (sound tt);
   too_long = λ _. tt;
   limit = c.ensures.limit;
 }
