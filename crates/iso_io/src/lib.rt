@@ -12,8 +12,8 @@ mod shelf;
 mod shelf_file;
 
 pub use byte_streams::{
-    Failed, LINES, MemSink, MemSource, ReadFault, Sink, Source, StdSink, StdSource, gather,
-    read_all_of, stage, write_all_of,
+    Failed, LINES, MemSink, MemSource, ReadFault, Sink, Source, StdSink, StdSource, count_read,
+    gather, read_all_of, stage, write_all_of,
 };
 pub use file_shelf::FileShelf;
 pub use file_text::{FileText, write_file};

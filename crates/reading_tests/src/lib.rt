@@ -5,6 +5,8 @@
 #[cfg(test)]
 mod file_edges;
 #[cfg(test)]
+mod interrupted;
+#[cfg(test)]
 mod lines;
 #[cfg(test)]
 mod mesh_files;

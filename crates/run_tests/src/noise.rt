@@ -6,7 +6,7 @@ use crate::calls::{Outcome, call_of, check_output, outcome_of, outcome_over};
 use crate::faults::worked_call;
 use crate::scripts::{SEVENTEEN, zeros};
 use endings::Status;
-use iso_io::{Failed, Source};
+use iso_io::{Failed, Source, count_read};
 use std::alloc::{AllocError, Global};
 use std::process::Abort;
 use std::test::Fail;
@@ -56,14 +56,23 @@ fn noise_is_refused(rt: HostRuntime) -> Result<(), Fail> {
 #[derive(Drop)]
 struct Zeros {
     reads: u64,
+    empty_reads: u64,
+    empty_at_end: u64,
 }
 
 impl Source for Zeros {
-    ghost seen = { λ zeros. record { left = None; reads = zeros.reads; faults = 0 } };
+    ghost seen = { λ zeros. record {
+      left = None;
+      reads = zeros.reads;
+      empty_reads = zeros.empty_reads;
+      empty_at_end = zeros.empty_at_end;
+      faults = 0;
+    } };
 
     fn read(&mut self, into: &mut [u8]) -> Result<usize, Failed> {
         self.reads = self.reads.saturating_add(1);
         into.fill(0);
+        count_read(into.len(), &mut self.empty_reads, &mut self.empty_at_end);
         Ok(into.len())
     }
 }
@@ -71,7 +80,11 @@ impl Source for Zeros {
 #[test]
 fn an_input_without_end_is_too_long(rt: HostRuntime) -> Result<(), Fail> {
     let call = call_of(&["points", "--level=5"], b"");
-    let mut zeros = Zeros { reads: 0 };
+    let mut zeros = Zeros {
+        reads: 0,
+        empty_reads: 0,
+        empty_at_end: 0,
+    };
     let outcome = outcome_over(rt.alloc(), &call, &mut zeros)?;
     assert_eq!(rt; outcome.status, Status::InputTooLong);
     // The limit of 640,065,536 bytes lies within the last of these pieces of 65,536.

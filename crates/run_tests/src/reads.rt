@@ -6,7 +6,7 @@ use crate::calls::{Call, call_of, outcome_over};
 use crate::faults::worked_call;
 use crate::scripts::{SEVENTEEN, zeros};
 use endings::Status;
-use iso_io::{Failed, Source};
+use iso_io::{Failed, Source, count_read};
 use std::alloc::Global;
 use std::process::Abort;
 use std::test::Fail;
@@ -17,21 +17,31 @@ struct Pieces<'a> {
     rest: &'a [u8],
     failing: u64,
     reads: u64,
+    empty_reads: u64,
+    empty_at_end: u64,
     faults: u64,
 }
 
 impl<'a> Source for Pieces<'a> {
-    ghost seen = { λ pieces. record { left = None; reads = pieces.reads; faults = pieces.faults } };
+    ghost seen = { λ pieces. record {
+      left = None;
+      reads = pieces.reads;
+      empty_reads = pieces.empty_reads;
+      empty_at_end = pieces.empty_at_end;
+      faults = pieces.faults;
+    } };
 
     fn read(&mut self, into: &mut [u8]) -> Result<usize, Failed> {
         self.reads = self.reads.saturating_add(1);
         if self.reads == self.failing {
+            count_read(0, &mut self.empty_reads, &mut self.empty_at_end);
             self.faults = self.faults.saturating_add(1);
             return Err(Failed);
         }
         let count = into.len().min(self.rest.len()).min(7);
         into[..count].copy_from_slice(&self.rest[..count]);
         self.rest = &self.rest[count..];
+        count_read(count, &mut self.empty_reads, &mut self.empty_at_end);
         Ok(count)
     }
 }
@@ -49,6 +59,8 @@ fn check_reads(
         rest: input,
         failing,
         reads: 0,
+        empty_reads: 0,
+        empty_at_end: 0,
         faults: 0,
     };
     let outcome = outcome_over(alloc, call, &mut source)?;
