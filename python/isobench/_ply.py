@@ -1,0 +1,246 @@
+"""Reads the meshes that isobench writes (PLY, docs/formats.md) into arrays.
+
+The C reader does it if it is built (`isobench.build`), else numpy. Both read that form alone, refuse any other text,
+and give the same arrays.
+"""
+from __future__ import annotations
+
+import ctypes
+import functools
+import os
+import pathlib
+import re
+
+import numpy as np
+
+from ._build_reader import LIBRARY
+from .errors import MeshTextError
+
+HEAD = re.compile(
+    rb"ply\nformat ascii 1\.0\nelement vertex (\d{1,10})\nproperty float x\nproperty float y\nproperty float z\n"
+    rb"element face (\d{1,10})\nproperty list uchar int vertex_indices\nend_header\n"
+)
+SHORTEST_VERTEX, SHORTEST_FACE = len("0.000 0.000 0.000\n"), len("3 0 0 0\n")
+BLOCK = 1 << 18
+CUT_SHORT = "the text of the mesh is cut short"
+WORD = np.uint64
+
+
+def counts_of(head: bytes) -> tuple[int, int, int]:
+    """The number of vertices and of faces that a mesh declares, and the length of its header.
+
+    Raises
+    ------
+    MeshTextError
+        If the text begins with anything else.
+    """
+    found = HEAD.match(head)
+    if not found:
+        raise MeshTextError("the text does not begin as a PLY mesh of isobench")
+    return int(found[1]), int(found[2]), found.end()
+
+
+def read_mesh(text: bytes | memoryview) -> tuple[np.ndarray, np.ndarray]:
+    """Read a mesh.
+
+    Parameters
+    ----------
+    text : bytes-like
+        The whole text.
+
+    Returns
+    -------
+    positions : ndarray of int32, shape (V, 3)
+        x y z in thousandths of a voxel.
+    faces : ndarray of int32, shape (F, 3)
+
+    Raises
+    ------
+    MeshTextError
+        If the text is not in the form in which isobench writes meshes.
+    """
+    data = np.frombuffer(text, np.uint8)
+    vertices, triangles, at = counts_of(data[:512].tobytes())
+    if vertices * SHORTEST_VERTEX + triangles * SHORTEST_FACE > len(data) - at:
+        raise MeshTextError(CUT_SHORT)
+    positions, faces = np.empty((vertices, 3), np.int32), np.empty((triangles, 3), np.int32)
+    library = _library()
+    end = _read_by_c(library, data, at, positions, faces) if library else _read_by_numpy(data, at, positions, faces)
+    if end != len(data):
+        raise MeshTextError(f"{len(data) - end} bytes stand behind the mesh")
+    return positions, faces
+
+
+@functools.lru_cache(maxsize=None)
+def _library() -> ctypes.CDLL | None:
+    """The C reader, if it is built and the variable ISOBENCH_NUMPY_READER is not set."""
+    path = pathlib.Path(__file__).with_name(LIBRARY)
+    if os.environ.get("ISOBENCH_NUMPY_READER") or not path.exists():
+        return None
+    try:
+        library = ctypes.CDLL(str(path))
+        calls = library.isobench_read_vertices, library.isobench_read_faces
+    except (OSError, AttributeError):
+        return None
+    for call in calls:
+        call.restype = ctypes.c_ssize_t
+    return library
+
+
+def _read_by_c(library: ctypes.CDLL, data: np.ndarray, at: int, positions: np.ndarray, faces: np.ndarray) -> int:
+    """Fill both arrays; where the mesh ends."""
+    rest = (ctypes.c_void_p(data.ctypes.data + at), ctypes.c_ssize_t(len(data) - at), ctypes.c_ssize_t(len(positions)))
+    length = library.isobench_read_vertices(*rest, ctypes.c_void_p(positions.ctypes.data))
+    if length < 0:
+        raise MeshTextError("a line of a vertex is in another form, or cut short")
+    at += length
+    rest = (ctypes.c_void_p(data.ctypes.data + at), ctypes.c_ssize_t(len(data) - at), ctypes.c_ssize_t(len(faces)))
+    length = library.isobench_read_faces(*rest, ctypes.c_int64(len(positions)), ctypes.c_void_p(faces.ctypes.data))
+    if length < 0:
+        raise MeshTextError("a line of a face is in another form, or cut short")
+    return at + length
+
+
+def _read_by_numpy(data: np.ndarray, at: int, positions: np.ndarray, faces: np.ndarray) -> int:
+    """Fill both arrays; where the mesh ends."""
+    at = _read_by_blocks(data, at, positions, _fill_vertices)
+    at = _read_by_blocks(data, at, faces, _fill_faces)
+    if len(faces) and faces.max() >= len(positions):
+        raise MeshTextError("a face names a vertex that is not there")
+    return at
+
+
+def _read_by_blocks(data: np.ndarray, at: int, out: np.ndarray, fill) -> int:
+    """Read as many lines as `out` has rows, some thousands at a time, so that a block's arrays stay in the cache."""
+    done = 0
+    while done < len(out):
+        ends = np.flatnonzero(data[at:at + BLOCK] == 10)
+        if not len(ends):
+            raise MeshTextError(CUT_SHORT)
+        count = min(len(ends), len(out) - done)
+        stop = at + int(ends[count - 1]) + 1
+        # 16 bytes of the header or of the line before, so that eight bytes can be read before the end of any number.
+        fill(data[at - 16:stop], out[done:done + count])
+        done, at = done + count, stop
+    return at
+
+
+def _values_of(words: np.ndarray) -> np.ndarray:
+    """The values of words of eight ASCII digits, the last one in the highest byte, in place. Zero bytes count as 0."""
+    words &= WORD(0x0F0F0F0F0F0F0F0F)
+    words *= WORD(2561)                                   # pairs: 10 a + b
+    words >>= WORD(8)
+    words &= WORD(0x00FF00FF00FF00FF)
+    words *= WORD(6553601)                                # fours: 100 a + b
+    words >>= WORD(16)
+    words &= WORD(0x0000FFFF0000FFFF)
+    words *= WORD(42949672960001)                         # eights: 10,000 a + b
+    words >>= WORD(32)
+    return words
+
+
+def _ends_of(body: np.ndarray, per_line: int, count: int) -> np.ndarray:
+    """Where each number ends, by lines: at blanks, and the last one at the end of its line."""
+    ends = np.flatnonzero(body <= 32)
+    if len(ends) != per_line * count:
+        raise MeshTextError("a line has more or fewer numbers, or is cut short")
+    ends = ends.reshape(count, per_line)
+    if (body[ends[:, -1]] != 10).any() or (body[ends[:, :-1]] != 32).any():
+        raise MeshTextError("a line has more or fewer numbers, or another blank")
+    return ends
+
+
+def _words_before(text: np.ndarray, ends: np.ndarray) -> np.ndarray:
+    """The eight bytes before each end in the body, through a view of eight bytes at every offset: no copy."""
+    return np.ndarray((len(text) - 7,), WORD, text, 0, (1,))[ends + 8]
+
+
+def _clear_before(words: np.ndarray, spans: np.ndarray, more: int) -> np.ndarray:
+    """Clear what stands before each number, in place, where its digits are its span less `more`."""
+    if spans.min() <= more or spans.max() > more + 8:
+        raise MeshTextError("a number has no digits, or too many")
+    spans *= -8
+    spans += 64 + 8 * more
+    shifts = spans.view(WORD)
+    words >>= shifts
+    words <<= shifts
+    return words
+
+
+def _count_others(body: np.ndarray) -> int:
+    """How many bytes are no digits."""
+    return int(np.count_nonzero(body - np.uint8(48) > 9))
+
+
+def _fill_faces(text: np.ndarray, out: np.ndarray) -> None:
+    """Lines `3 A B C`, behind 16 other bytes."""
+    body = text[16:]
+    if _count_others(body) != 4 * len(out):
+        raise MeshTextError("a line of a face is in another form")
+    if _fill_faces_alike(text, out):
+        return
+    ends = _ends_of(body, 4, len(out))
+    starts = np.concatenate(([0], ends[:-1, 3] + 1))
+    if (ends[:, 0] - starts != 1).any() or (body[starts] != ord("3")).any():
+        raise MeshTextError("a face has other than three corners")
+    spans = ends[:, 1:] - ends[:, :3]
+    if spans.max() > 9:
+        out[:] = _long_numbers(body, len(out))
+        return
+    out[:] = _values_of(_clear_before(_words_before(text, ends[:, 1:]), spans, 1))
+
+
+def _long_numbers(body: np.ndarray, count: int) -> np.ndarray:
+    """The numbers of faces that do not all have eight digits or fewer: a mesh of more than 10 GB."""
+    words = np.array(body.tobytes().split())
+    if len(words) != 4 * count or words.dtype.itemsize > 10:
+        raise MeshTextError("a number has no digits, or too many")
+    numbers = words.astype(np.int64).reshape(count, 4)[:, 1:]
+    if numbers.max() >= 1 << 31:
+        raise MeshTextError("a face names a vertex that is not there")
+    return numbers
+
+
+def _fill_faces_alike(text: np.ndarray, out: np.ndarray) -> bool:
+    """The same for lines that all have the shape of the first: columns at a fixed stride. Whether they have."""
+    body = text[16:]
+    lengths = [len(word) for word in body[:64].tobytes().partition(b"\n")[0].split(b" ")]
+    width = sum(lengths) + 4
+    if len(lengths) != 4 or lengths[0] != 1 or len(body) != len(out) * width or not 1 <= min(lengths) <= max(lengths) <= 8:
+        return False
+    rows, ends = body.reshape(len(out), width), np.cumsum(lengths) + np.arange(4)
+    if (rows[:, ends[:3]] != 32).any() or (rows[:, ends[3]] != 10).any():
+        return False
+    if (rows[:, 0] != ord("3")).any():
+        raise MeshTextError("a face has other than three corners")
+    for corner in range(3):
+        column = np.ndarray((len(out),), WORD, text, 8 + int(ends[corner + 1]), (width,)).copy()
+        shift = WORD(64 - 8 * lengths[corner + 1])
+        column >>= shift
+        column <<= shift
+        out[:, corner] = _values_of(column)
+    return True
+
+
+def _fill_vertices(text: np.ndarray, out: np.ndarray) -> None:
+    """Lines of three decimals with three places, behind 16 other bytes: without the point, a number of thousandths."""
+    body, count = text[16:], len(out)
+    ends = _ends_of(body, 3, count).ravel()
+    spans = np.empty_like(ends)                           # of a number with the blank before it
+    spans[0] = ends[0] + 1
+    np.subtract(ends[1:], ends[:-1], out=spans[1:])
+    is_negative = body[ends - spans + 1] == ord("-")
+    spans -= is_negative
+    if _count_others(body) != 6 * count + np.count_nonzero(is_negative):
+        raise MeshTextError("a line of a vertex is in another form")
+    words = _words_before(text, ends)
+    if spans.min() < 6 or ((words >> WORD(32)) & WORD(0xFF) != ord(".")).any():
+        raise MeshTextError("a coordinate has no three places")
+    places = words & WORD(0xFFFFFF0000000000)
+    words <<= WORD(8)
+    words &= WORD(0x000000FFFFFFFFFF)
+    words |= places
+    values = _values_of(_clear_before(words, spans, 2)).view(np.int64)
+    if is_negative.any():
+        np.negative(values, where=is_negative, out=values)
+    out[:] = values.reshape(count, 3)
