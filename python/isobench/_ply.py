@@ -5,11 +5,14 @@ and give the same arrays.
 """
 from __future__ import annotations
 
+import concurrent.futures
 import ctypes
 import functools
 import os
 import pathlib
 import re
+from collections.abc import Callable, Iterator
+from typing import NamedTuple
 
 import numpy as np
 
@@ -21,9 +24,21 @@ HEAD = re.compile(
     rb"element face (\d{1,10})\nproperty list uchar int vertex_indices\nend_header\n"
 )
 SHORTEST_VERTEX, SHORTEST_FACE = len("0.000 0.000 0.000\n"), len("3 0 0 0\n")
-BLOCK = 1 << 18
+LONGEST_LINE = 64
+MARGIN = 16
+NEWLINE = ord("\n")
+MOST_THREADS = 4
 CUT_SHORT = "the text of the mesh is cut short"
 WORD = np.uint64
+Fill = Callable[[np.ndarray, np.ndarray], None]
+
+
+class Reader(NamedTuple):
+    """What fills rows from the text of as many lines, behind 16 other bytes, and the bytes that it reads best at once."""
+
+    fill_vertices: Fill
+    fill_faces: Fill
+    block: int
 
 
 def counts_of(head: bytes) -> tuple[int, int, int]:
@@ -64,65 +79,83 @@ def read_mesh(text: bytes | memoryview) -> tuple[np.ndarray, np.ndarray]:
     if vertices * SHORTEST_VERTEX + triangles * SHORTEST_FACE > len(data) - at:
         raise MeshTextError(CUT_SHORT)
     positions, faces = np.empty((vertices, 3), np.int32), np.empty((triangles, 3), np.int32)
-    library = _library()
-    end = _read_by_c(library, data, at, positions, faces) if library else _read_by_numpy(data, at, positions, faces)
-    if end != len(data):
-        raise MeshTextError(f"{len(data) - end} bytes stand behind the mesh")
+    reader = _c_reader() or NUMPY_READER
+    blocks = list(_blocks_of(data, at, positions, faces, reader))
+    threads = min(MOST_THREADS, len(blocks), len(os.sched_getaffinity(0)))
+    if threads < 2:
+        for fill, text, rows in blocks:
+            fill(text, rows)
+    else:
+        with concurrent.futures.ThreadPoolExecutor(threads) as pool:
+            # Both readers release Python's lock. The list raises what a thread has raised.
+            list(pool.map(lambda block: block[0](*block[1:]), blocks))
+    if len(faces) and faces.max() >= len(positions):
+        raise MeshTextError("a face names a vertex that is not there")
     return positions, faces
 
 
+def _blocks_of(
+    data: np.ndarray, at: int, positions: np.ndarray, faces: np.ndarray, reader: Reader
+) -> Iterator[tuple[Fill, np.ndarray, np.ndarray]]:
+    """Parts of the text of whole lines, each with what reads it and the rows that it fills."""
+    fills = [(reader.fill_vertices, positions), (reader.fill_faces, faces)]
+    fill, out = fills.pop(0)
+    done = 0
+    while at < len(data):
+        if done == len(out):
+            if not fills:
+                raise MeshTextError(f"{len(data) - at} bytes stand behind the mesh")
+            (fill, out), done = fills.pop(0), 0
+            continue
+        # The last line that ends in the block: no line in the form is longer than LONGEST_LINE.
+        stop = min(at + reader.block, len(data))
+        tail = data[max(at, stop - LONGEST_LINE):stop].tobytes()
+        if b"\n" not in tail:
+            raise MeshTextError(CUT_SHORT)
+        stop += tail.rindex(b"\n") + 1 - len(tail)
+        count = int(np.count_nonzero(data[at:stop] == NEWLINE))
+        if count > len(out) - done:
+            count = len(out) - done
+            stop = at + int(np.flatnonzero(data[at:stop] == NEWLINE)[count - 1]) + 1
+        # 16 bytes of the header or of the line before, so that eight bytes can be read before the end of any number.
+        yield fill, data[at - MARGIN:stop], out[done:done + count]
+        done, at = done + count, stop
+    if done < len(out) or any(len(rows) for _, rows in fills):
+        raise MeshTextError(CUT_SHORT)
+
+
 @functools.lru_cache(maxsize=None)
-def _library() -> ctypes.CDLL | None:
-    """The C reader, if it is built and the variable ISOBENCH_NUMPY_READER is not set."""
+def _c_reader() -> Reader | None:
+    """The C reader beside this file, if it is built and the variable ISOBENCH_NUMPY_READER is not set."""
     path = pathlib.Path(__file__).with_name(LIBRARY)
     if os.environ.get("ISOBENCH_NUMPY_READER") or not path.exists():
         return None
     try:
-        library = ctypes.CDLL(str(path))
-        calls = library.isobench_read_vertices, library.isobench_read_faces
+        return load_reader(path)
     except (OSError, AttributeError):
         return None
+
+
+def load_reader(path: str | os.PathLike) -> Reader:
+    """The C reader in a shared object.
+
+    Raises
+    ------
+    OSError, AttributeError
+        If it cannot be loaded, or is another one.
+    """
+    library = ctypes.CDLL(os.fspath(path))
+    calls = library.isobench_read_vertices, library.isobench_read_faces
     for call in calls:
         call.restype = ctypes.c_ssize_t
-    return library
+        call.argtypes = ctypes.c_void_p, ctypes.c_ssize_t, ctypes.c_ssize_t, ctypes.c_void_p
+    return Reader(functools.partial(_fill_by_c, calls[0]), functools.partial(_fill_by_c, calls[1]), 1 << 20)
 
 
-def _read_by_c(library: ctypes.CDLL, data: np.ndarray, at: int, positions: np.ndarray, faces: np.ndarray) -> int:
-    """Fill both arrays; where the mesh ends."""
-    rest = (ctypes.c_void_p(data.ctypes.data + at), ctypes.c_ssize_t(len(data) - at), ctypes.c_ssize_t(len(positions)))
-    length = library.isobench_read_vertices(*rest, ctypes.c_void_p(positions.ctypes.data))
-    if length < 0:
-        raise MeshTextError("a line of a vertex is in another form, or cut short")
-    at += length
-    rest = (ctypes.c_void_p(data.ctypes.data + at), ctypes.c_ssize_t(len(data) - at), ctypes.c_ssize_t(len(faces)))
-    length = library.isobench_read_faces(*rest, ctypes.c_int64(len(positions)), ctypes.c_void_p(faces.ctypes.data))
-    if length < 0:
-        raise MeshTextError("a line of a face is in another form, or cut short")
-    return at + length
-
-
-def _read_by_numpy(data: np.ndarray, at: int, positions: np.ndarray, faces: np.ndarray) -> int:
-    """Fill both arrays; where the mesh ends."""
-    at = _read_by_blocks(data, at, positions, _fill_vertices)
-    at = _read_by_blocks(data, at, faces, _fill_faces)
-    if len(faces) and faces.max() >= len(positions):
-        raise MeshTextError("a face names a vertex that is not there")
-    return at
-
-
-def _read_by_blocks(data: np.ndarray, at: int, out: np.ndarray, fill) -> int:
-    """Read as many lines as `out` has rows, some thousands at a time, so that a block's arrays stay in the cache."""
-    done = 0
-    while done < len(out):
-        ends = np.flatnonzero(data[at:at + BLOCK] == 10)
-        if not len(ends):
-            raise MeshTextError(CUT_SHORT)
-        count = min(len(ends), len(out) - done)
-        stop = at + int(ends[count - 1]) + 1
-        # 16 bytes of the header or of the line before, so that eight bytes can be read before the end of any number.
-        fill(data[at - 16:stop], out[done:done + count])
-        done, at = done + count, stop
-    return at
+def _fill_by_c(call: Callable[[int, int, int, int], int], text: np.ndarray, out: np.ndarray) -> None:
+    body = text[MARGIN:]
+    if call(body.ctypes.data, len(body), len(out), out.ctypes.data) != len(body):
+        raise MeshTextError("a line is in another form")
 
 
 def _values_of(words: np.ndarray) -> np.ndarray:
@@ -145,7 +178,7 @@ def _ends_of(body: np.ndarray, per_line: int, count: int) -> np.ndarray:
     if len(ends) != per_line * count:
         raise MeshTextError("a line has more or fewer numbers, or is cut short")
     ends = ends.reshape(count, per_line)
-    if (body[ends[:, -1]] != 10).any() or (body[ends[:, :-1]] != 32).any():
+    if (body[ends[:, -1]] != NEWLINE).any() or (body[ends[:, :-1]] != 32).any():
         raise MeshTextError("a line has more or fewer numbers, or another blank")
     return ends
 
@@ -174,7 +207,7 @@ def _count_others(body: np.ndarray) -> int:
 
 def _fill_faces(text: np.ndarray, out: np.ndarray) -> None:
     """Lines `3 A B C`, behind 16 other bytes."""
-    body = text[16:]
+    body = text[MARGIN:]
     if _count_others(body) != 4 * len(out):
         raise MeshTextError("a line of a face is in another form")
     if _fill_faces_alike(text, out):
@@ -203,13 +236,13 @@ def _long_numbers(body: np.ndarray, count: int) -> np.ndarray:
 
 def _fill_faces_alike(text: np.ndarray, out: np.ndarray) -> bool:
     """The same for lines that all have the shape of the first: columns at a fixed stride. Whether they have."""
-    body = text[16:]
+    body = text[MARGIN:]
     lengths = [len(word) for word in body[:64].tobytes().partition(b"\n")[0].split(b" ")]
     width = sum(lengths) + 4
     if len(lengths) != 4 or lengths[0] != 1 or len(body) != len(out) * width or not 1 <= min(lengths) <= max(lengths) <= 8:
         return False
     rows, ends = body.reshape(len(out), width), np.cumsum(lengths) + np.arange(4)
-    if (rows[:, ends[:3]] != 32).any() or (rows[:, ends[3]] != 10).any():
+    if (rows[:, ends[:3]] != 32).any() or (rows[:, ends[3]] != NEWLINE).any():
         return False
     if (rows[:, 0] != ord("3")).any():
         raise MeshTextError("a face has other than three corners")
@@ -224,7 +257,7 @@ def _fill_faces_alike(text: np.ndarray, out: np.ndarray) -> bool:
 
 def _fill_vertices(text: np.ndarray, out: np.ndarray) -> None:
     """Lines of three decimals with three places, behind 16 other bytes: without the point, a number of thousandths."""
-    body, count = text[16:], len(out)
+    body, count = text[MARGIN:], len(out)
     ends = _ends_of(body, 3, count).ravel()
     spans = np.empty_like(ends)                           # of a number with the blank before it
     spans[0] = ends[0] + 1
@@ -244,3 +277,7 @@ def _fill_vertices(text: np.ndarray, out: np.ndarray) -> None:
     if is_negative.any():
         np.negative(values, where=is_negative, out=values)
     out[:] = values.reshape(count, 3)
+
+
+# A block's arrays stay in the processor's cache.
+NUMPY_READER = Reader(_fill_vertices, _fill_faces, 1 << 18)

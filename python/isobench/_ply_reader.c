@@ -12,11 +12,14 @@ ptrdiff_t isobench_read_vertices(const uint8_t *text, ptrdiff_t length, ptrdiff_
     for (ptrdiff_t number = 0; number < 3 * count; number++) {
         int is_negative = at < end && *at == '-';
         at += is_negative;
-        const uint8_t *first = at;
-        int32_t value = 0;
+        if (at >= end || !is_digit(*at)) return -1;
+        int32_t value = *at++ - '0';
         // Five digits at most, as the reader by numpy; the program's coordinates have four.
-        while (at < end && at - first < 6 && is_digit(*at)) value = 10 * value + (*at++ - '0');
-        if (at == first || at - first > 5 || end - at < 5) return -1;
+        for (int digits = 1; at < end && is_digit(*at); digits++) {
+            if (digits == 5) return -1;
+            value = 10 * value + (*at++ - '0');
+        }
+        if (end - at < 5) return -1;
         if (at[0] != '.' || !is_digit(at[1]) || !is_digit(at[2]) || !is_digit(at[3])) return -1;
         value = 1000 * value + 100 * (at[1] - '0') + 10 * (at[2] - '0') + (at[3] - '0');
         if (at[4] != (number % 3 == 2 ? '\n' : ' ')) return -1;
@@ -26,20 +29,20 @@ ptrdiff_t isobench_read_vertices(const uint8_t *text, ptrdiff_t length, ptrdiff_
     return at - text;
 }
 
-// Reads `count` lines `3 A B C`, each number below `vertices`, into `out`. Returns the number of bytes read, or -1.
-ptrdiff_t isobench_read_faces(const uint8_t *text, ptrdiff_t length, ptrdiff_t count, int64_t vertices, int32_t *out) {
+// Reads `count` lines `3 A B C`, each number of 31 bits, into `out`. Returns the number of bytes read, or -1.
+ptrdiff_t isobench_read_faces(const uint8_t *text, ptrdiff_t length, ptrdiff_t count, int32_t *out) {
     const uint8_t *at = text, *end = text + length;
     for (ptrdiff_t face = 0; face < count; face++) {
         if (end - at < 2 || at[0] != '3' || at[1] != ' ') return -1;
         at += 2;
         for (int corner = 0; corner < 3; corner++) {
-            const uint8_t *first = at;
-            int64_t value = 0;
+            if (at >= end || !is_digit(*at)) return -1;
+            int64_t value = *at++ - '0';
             while (at < end && is_digit(*at)) {
                 value = 10 * value + (*at++ - '0');
-                if (value >= vertices) return -1;
+                if (value > INT32_MAX) return -1;
             }
-            if (at == first || at == end || *at != (corner == 2 ? '\n' : ' ')) return -1;
+            if (at >= end || *at != (corner == 2 ? '\n' : ' ')) return -1;
             at++;
             *out++ = (int32_t)value;
         }
