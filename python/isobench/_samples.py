@@ -20,22 +20,27 @@ KEPT_LESSER_ENDS = 2000
 class Scale:
     """How values and levels are told in the program's integers.
 
-    The integer of a value v is floor((v - zero) * unit). Where `is_exact` is false, half a unit is taken off each
+    The integer of a value v is floor((v - zero) * 2 ** exponent). Where `is_exact` is false, half is taken off each
     level, so that no sample equals it. Where `is_cut` is true, values beyond the integers become the nearest one.
     """
 
     is_exact: bool = True
     zero: float = 0.0
-    unit: float = 1.0
+    exponent: int = 0
     is_cut: bool = False
 
     def level_text(self, level: float) -> str:
         """The least level of three decimals that is not below the given one: by that no sample changes its side."""
-        thousandths = thousandths_of(level)[0] if self.is_exact else round(((level - self.zero) * self.unit - 0.5) * 1000)
+        thousandths = thousandths_of(level)[0] if self.is_exact else self._thousandths_of(level)
         if abs(thousandths) >= 2 ** 33 * 1000:
             raise ValueError(f"the level {level} is out of range: its absolute value must be below 2**33 = 8,589,934,592")
         whole, rest = divmod(abs(thousandths), 1000)
         return f"{'-' if thousandths < 0 else ''}{whole}.{rest:03d}"
+
+    def _thousandths_of(self, level: float) -> int:
+        """A scaled level in thousandths; a far one is as far as the program's limit."""
+        scaled = _times(level - self.zero, self.exponent)
+        return round(1000 * min(max(scaled - 0.5, -(2.0 ** 33)), 2.0 ** 33))
 
     def value_of(self, value: float) -> int:
         """The integer of a sample's value."""
@@ -46,21 +51,21 @@ class Scale:
             if not value.is_integer():
                 raise ValueError(f"the value {value} is not a whole number, and all samples are")
             return int(value)
-        scaled = (value - self.zero) * self.unit
+        scaled = _times(value - self.zero, self.exponent)
         if not (LEAST <= scaled <= GREATEST or self.is_cut or math.isinf(value)):
-            least, greatest = self.zero + LEAST / self.unit, self.zero + GREATEST / self.unit
+            least, greatest = self.values_of(np.array([LEAST, GREATEST]))
             raise ValueError(f"the value {value} is not between {least:.6g} and {greatest:.6g}, for which these samples were scaled: "
                              "begin anew with an array that has it")
-        whole = int(min(max(math.floor(min(max(scaled, LEAST), GREATEST)), LEAST), GREATEST))
+        whole = math.floor(min(max(scaled, LEAST), GREATEST))
         return -1 if whole >= 0 and value < self.zero else whole
 
     def values_of(self, integers: np.ndarray) -> np.ndarray:
         """The values of integers: where they were scaled, the middles of their units."""
-        return integers if self.is_exact else (integers + 0.5) / self.unit + self.zero
+        return integers if self.is_exact else _times(integers + 0.5, -self.exponent) + self.zero
 
     def error(self) -> float:
         """How far at most a value lies from that which stands for it, in the units of the samples."""
-        return 0.0 if self.is_exact else 0.5 / self.unit
+        return 0.0 if self.is_exact else float(_times(0.5, -self.exponent))
 
 
 @dataclass(frozen=True)
@@ -207,7 +212,7 @@ def _whole(array: np.ndarray) -> Samples | None:
 
 
 def _scaled(array: np.ndarray, level: float, pad: float | str | None, room: float) -> Samples:
-    """floor((v - level) * unit), by the greatest power of two at which all samples fit; the level is then -0.5.
+    """floor((v - level) * 2 ** exponent), by the greatest exponent with which all samples fit; the level is then -0.5.
 
     The difference is rounded correctly and the product is exact, so each sample stays on its side. An outlier takes the
     others' room: where the greatest distance is far above the usual one, values are cut off at 2,000 times the greatest
@@ -221,20 +226,24 @@ def _scaled(array: np.ndarray, level: float, pad: float | str | None, room: floa
     if is_cut:
         reach = min(reach, KEPT_LESSER_ENDS * _greatest_lesser_end(array, level, far))
     elif not far:
-        reach *= room
-    # reach is below 2 ** exponent; a unit of more than 2 ** 1000 would not help.
-    exponent = math.frexp(reach)[1]
-    unit = math.ldexp(1.0, min(31 - exponent, 1000)) if reach > 0 else 1.0
+        reach = min(reach * room, sys.float_info.max)
+    # reach is below 2 ** math.frexp(reach)[1].
+    exponent = 31 - math.frexp(reach)[1]
     out = np.empty(array.shape, np.int32)
     for to, part in zip(out, array):
         distances = _from_level(part, level)
-        scaled = np.floor(distances * unit)
+        scaled = np.floor(_times(distances, exponent))
         np.clip(scaled, LEAST, GREATEST, out=scaled)
-        if unit < 1:
+        if exponent < 0:
             # The product of a very small distance can be rounded to zero.
             scaled[(distances < 0) & (scaled >= 0)] = -1
         to[...] = scaled
-    return Samples(out, Scale(False, level, unit, is_cut))
+    return Samples(out, Scale(False, level, exponent, is_cut))
+
+
+def _times(numbers: np.ndarray | float, exponent: int) -> np.ndarray:
+    """Numbers times a power of two. `ldexp` is slow, and needed only where that power is no float."""
+    return np.ldexp(numbers, exponent) if abs(exponent) > 1000 else numbers * 2.0 ** exponent
 
 
 def _from_level(part: np.ndarray, level: float) -> np.ndarray:

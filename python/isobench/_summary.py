@@ -37,6 +37,8 @@ def summary_of(volume: Volume, rows: int = 24) -> str:
         return "\n".join(lines) + "\n"
     least, greatest = finite.min(), finite.max()
     lines.append(f"range      {least:.9g} to {greatest:.9g}")
+    if finite.dtype == bool:
+        finite = finite.view(np.uint8)
     if least < greatest:
         lines += ["", *_histogram(finite, rows)]
     return "\n".join(lines) + "\n"

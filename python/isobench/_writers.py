@@ -140,7 +140,7 @@ def _write_by_meshio(path: str, points: np.ndarray, faces: np.ndarray) -> None:
                          "(Debian: python3-meshio), which knows more") from fault
     try:
         meshio.write_points_cells(path, points, [("triangle", faces)])
-    except (meshio.WriteError, KeyError) as fault:
+    except (meshio.ReadError, meshio.WriteError, KeyError) as fault:
         raise ValueError(f"meshio does not write {ending!r}: {fault}. Choose one of {', '.join(_WRITERS)}") from fault
 
 

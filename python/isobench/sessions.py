@@ -7,6 +7,7 @@ import operator
 import os
 import subprocess
 import threading
+import weakref
 from collections.abc import Sequence
 from typing import Any
 
@@ -100,6 +101,8 @@ class Session:
             pipes = {"stdin": subprocess.PIPE, "stdout": subprocess.PIPE, "stderr": subprocess.PIPE}
             self._process = subprocess.Popen(command, bufsize=0, pass_fds=(given, mesh), **pipes)
             self._replies = io.BufferedReader(self._process.stdout)
+            # A session that is dropped ends its program too.
+            self._end = weakref.finalize(self, _end, self._process, self._replies, self._file)
             try:
                 self.ask("work 0")
             except BaseException:
@@ -174,9 +177,9 @@ class Session:
     def _box_of(self, key: Any) -> tuple[Point, Point] | None:
         """The first and the last point of what `key` selects; None if that is empty."""
         keys = key if isinstance(key, tuple) else (key,)
-        if Ellipsis in keys:
-            at = keys.index(Ellipsis)
-            keys = keys[:at] + (slice(None),) * (4 - len(keys)) + keys[at + 1:]
+        dots = [at for at, one in enumerate(keys) if one is Ellipsis]
+        if dots:
+            keys = keys[:dots[0]] + (slice(None),) * (4 - len(keys)) + keys[dots[0] + 1:]
         keys += (slice(None),) * (3 - len(keys))
         if len(keys) > 3:
             raise IndexError(f"too many indices: a volume has 3 axes, but {len(keys)} were given")
@@ -347,18 +350,21 @@ class Session:
     def close(self) -> None:
         """End the program. A session that is closed is closed once more without any effect."""
         with self._lock:
-            if not self._process.stdin.closed:
-                self._process.stdin.close()
-                self._process.wait()
-                self._replies.close()
-                self._process.stderr.close()
-            self._file.close()
+            self._end()
 
     def __enter__(self) -> Session:
         return self
 
     def __exit__(self, *_: object) -> None:
         self.close()
+
+
+def _end(process: subprocess.Popen, replies: io.BufferedReader, file: io.FileIO) -> None:
+    """End a program by the end of its input, and close what was open."""
+    process.stdin.close()
+    process.wait()
+    for stream in (replies, process.stderr, file):
+        stream.close()
 
 
 def _fields_of(line: str) -> dict[str, Any]:
