@@ -5,6 +5,8 @@ import os
 
 import numpy as np
 
+from ._writers import in_place
+
 __all__ = ["draw_mesh"]
 
 SIZE = 800
@@ -43,11 +45,12 @@ def draw_mesh(path: str | os.PathLike, points: np.ndarray, faces: np.ndarray) ->
     picture.SetInput(window)
     picture.ReadFrontBufferOff()
     writer = vtk.vtkPNGWriter()
-    writer.SetFileName(os.fspath(path))
     writer.SetInputConnection(picture.GetOutputPort())
-    writer.Write()
-    if writer.GetErrorCode():
-        raise OSError(f"the picture {os.fspath(path)} cannot be written: is its folder there, and writable?")
+    with in_place(path, ".png") as beside:
+        writer.SetFileName(beside)
+        writer.Write()
+        if writer.GetErrorCode():
+            raise OSError(f"the picture {os.fspath(path)} cannot be written: is its folder writable, and the disk not full?")
 
 
 def _window_of(vtk, data):

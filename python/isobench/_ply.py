@@ -34,10 +34,11 @@ Fill = Callable[[np.ndarray, np.ndarray], None]
 
 
 class Reader(NamedTuple):
-    """What fills rows from the text of as many lines, behind 16 other bytes, and the bytes that it reads best at once."""
+    """What fills rows from the text of as many lines, behind 16 other bytes; what counts lines; a good size of texts."""
 
     fill_vertices: Fill
     fill_faces: Fill
+    count_lines: Callable[[np.ndarray], int]
     block: int
 
 
@@ -113,7 +114,7 @@ def _blocks_of(
         if b"\n" not in tail:
             raise MeshTextError(CUT_SHORT)
         stop += tail.rindex(b"\n") + 1 - len(tail)
-        count = int(np.count_nonzero(data[at:stop] == NEWLINE))
+        count = reader.count_lines(data[at:stop])
         if count > len(out) - done:
             count = len(out) - done
             stop = at + int(np.flatnonzero(data[at:stop] == NEWLINE)[count - 1]) + 1
@@ -145,11 +146,13 @@ def load_reader(path: str | os.PathLike) -> Reader:
         If it cannot be loaded, or is another one.
     """
     library = ctypes.CDLL(os.fspath(path))
-    calls = library.isobench_read_vertices, library.isobench_read_faces
-    for call in calls:
+    count, *fills = library.isobench_count_lines, library.isobench_read_vertices, library.isobench_read_faces
+    for call in (count, *fills):
         call.restype = ctypes.c_ssize_t
-        call.argtypes = ctypes.c_void_p, ctypes.c_ssize_t, ctypes.c_ssize_t, ctypes.c_void_p
-    return Reader(functools.partial(_fill_by_c, calls[0]), functools.partial(_fill_by_c, calls[1]), 1 << 20)
+        call.argtypes = ctypes.c_void_p, ctypes.c_ssize_t
+    for call in fills:
+        call.argtypes += ctypes.c_ssize_t, ctypes.c_void_p
+    return Reader(*(functools.partial(_fill_by_c, call) for call in fills), lambda text: count(text.ctypes.data, len(text)), 1 << 19)
 
 
 def _fill_by_c(call: Callable[[int, int, int, int], int], text: np.ndarray, out: np.ndarray) -> None:
@@ -255,6 +258,10 @@ def _fill_faces_alike(text: np.ndarray, out: np.ndarray) -> bool:
     return True
 
 
+def _count_lines(text: np.ndarray) -> int:
+    return int(np.count_nonzero(text == NEWLINE))
+
+
 def _fill_vertices(text: np.ndarray, out: np.ndarray) -> None:
     """Lines of three decimals with three places, behind 16 other bytes: without the point, a number of thousandths."""
     body, count = text[MARGIN:], len(out)
@@ -280,4 +287,4 @@ def _fill_vertices(text: np.ndarray, out: np.ndarray) -> None:
 
 
 # A block's arrays stay in the processor's cache.
-NUMPY_READER = Reader(_fill_vertices, _fill_faces, 1 << 18)
+NUMPY_READER = Reader(_fill_vertices, _fill_faces, _count_lines, 1 << 18)

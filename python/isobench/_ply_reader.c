@@ -5,6 +5,21 @@
 
 static int is_digit(uint8_t byte) { return (uint8_t)(byte - '0') < 10; }
 
+// The number of line ends in a text. Sixteen sums of bytes, each of at most 255, are what compilers make vectors of.
+ptrdiff_t isobench_count_lines(const uint8_t *text, ptrdiff_t length) {
+    ptrdiff_t count = 0, at = 0;
+    while (length - at >= 16) {
+        ptrdiff_t rows = (length - at) / 16 < 255 ? (length - at) / 16 : 255;
+        uint8_t sums[16] = {0};
+        for (ptrdiff_t row = 0; row < rows; row++, at += 16) {
+            for (int k = 0; k < 16; k++) sums[k] += text[at + k] == '\n';
+        }
+        for (int k = 0; k < 16; k++) count += sums[k];
+    }
+    for (; at < length; at++) count += text[at] == '\n';
+    return count;
+}
+
 // Reads `count` lines of three decimals with three places each, as thousandths, into `out`.
 // Returns the number of bytes read, or -1.
 ptrdiff_t isobench_read_vertices(const uint8_t *text, ptrdiff_t length, ptrdiff_t count, int32_t *out) {

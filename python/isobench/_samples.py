@@ -160,10 +160,11 @@ def samples_of(volume: np.ndarray, level: float, pad: float | str | None = None,
         return Samples(_narrowed(array))
     if array.dtype.kind != "f":
         raise ValueError(f"samples of type {array.dtype} have no level: take their real part, their length or one of their components")
-    if np.isnan(array.min()):
+    least, greatest = float(array.min()), float(array.max())
+    if math.isnan(least):
         raise ValueError("some samples are no numbers (NaN): give them a value below the level, as in np.nan_to_num(volume, nan=..)")
     is_whole = not has_decimals and (pad is None or isinstance(pad, str) or float(pad).is_integer())
-    return (_whole(array) if is_whole else None) or _scaled(array, level, pad, room)
+    return (_whole(array, least, greatest) if is_whole else None) or _scaled(array, level, pad, room)
 
 
 def _check_shape(array: np.ndarray, is_padded: bool) -> None:
@@ -197,9 +198,8 @@ def _narrowed(array: np.ndarray) -> np.ndarray:
     return array.astype(name)
 
 
-def _whole(array: np.ndarray) -> Samples | None:
+def _whole(array: np.ndarray, least: float, greatest: float) -> Samples | None:
     """Floats that are whole numbers of 32 bits, as such: nothing is lost then."""
-    least, greatest = float(array.min()), float(array.max())
     name = _type_for(least, greatest) if math.isfinite(least) and math.isfinite(greatest) else None
     if name is None:
         return None
@@ -220,7 +220,7 @@ def _scaled(array: np.ndarray, level: float, pad: float | str | None, room: floa
     half a thousandth of the nearer end anyway. Infinite samples are cut off likewise.
     """
     far = 0.0 if pad is None or isinstance(pad, str) else abs(float(pad) - level)
-    reach = max(far, *(float(np.abs(_from_level(part, level)).max()) for part in array))
+    reach = max(far, abs(float(array.min()) - level), abs(float(array.max()) - level))
     usual = float(np.median(np.abs(_from_level(_some_of(array), level))))
     is_cut = not math.isfinite(reach) or reach > OUTLIER * usual
     if is_cut:
@@ -232,18 +232,24 @@ def _scaled(array: np.ndarray, level: float, pad: float | str | None, room: floa
     out = np.empty(array.shape, np.int32)
     for to, part in zip(out, array):
         distances = _from_level(part, level)
-        scaled = np.floor(_times(distances, exponent))
-        np.clip(scaled, LEAST, GREATEST, out=scaled)
-        if exponent < 0:
-            # The product of a very small distance can be rounded to zero.
-            scaled[(distances < 0) & (scaled >= 0)] = -1
+        # The product of a very small distance can be rounded to zero.
+        below = distances < 0 if exponent < 0 else None
+        scaled = _times(distances, exponent)
+        np.floor(scaled, out=scaled)
+        if is_cut:
+            np.clip(scaled, LEAST, GREATEST, out=scaled)
+        if below is not None:
+            scaled[below & (scaled >= 0)] = -1
         to[...] = scaled
     return Samples(out, Scale(False, level, exponent, is_cut))
 
 
 def _times(numbers: np.ndarray | float, exponent: int) -> np.ndarray:
-    """Numbers times a power of two. `ldexp` is slow, and needed only where that power is no float."""
-    return np.ldexp(numbers, exponent) if abs(exponent) > 1000 else numbers * 2.0 ** exponent
+    """Numbers times a power of two, an array in place. `ldexp` is slow, and needed only where that power is no float."""
+    if abs(exponent) > 1000:
+        return np.ldexp(numbers, exponent)
+    numbers *= 2.0 ** exponent
+    return numbers
 
 
 def _from_level(part: np.ndarray, level: float) -> np.ndarray:

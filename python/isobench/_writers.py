@@ -77,7 +77,7 @@ def write_mesh(path: str | os.PathLike, points: np.ndarray, faces: np.ndarray) -
     if same:
         warnings.warn(f"{same} vertices lie where others do, and STL has no vertex numbers: the mesh may not be closed in it. Another format, "
                       "a level that no sample equals, or an origin near 0 keeps it closed", stacklevel=2)
-    with _in_place(path, ending) as beside:
+    with in_place(path, ending) as beside:
         write(beside, positions, corners)
 
 
@@ -113,7 +113,7 @@ def _checked(points: np.ndarray, faces: np.ndarray) -> tuple[np.ndarray, np.ndar
 
 
 @contextlib.contextmanager
-def _in_place(path: str | os.PathLike, ending: str) -> Iterator[str]:
+def in_place(path: str | os.PathLike, ending: str) -> Iterator[str]:
     """The name of a file beside `path`, which becomes it at the end if nothing goes wrong."""
     target = os.path.realpath(path)
     if os.path.exists(target) and not stat.S_ISREG(os.stat(target).st_mode):
