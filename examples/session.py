@@ -4,7 +4,8 @@
     python3 session.py PROGRAM
 
 runs PROGRAM (a built isobench) on knot.nrrd, which is beside this script: it asks for a report, cuts the knot, asks
-again, undoes the cut and writes the mesh. docs/session.md describes the protocol.
+again, undoes the cut and writes the mesh. docs/session.md describes the protocol. It wants Python alone; for numpy there
+is the package of docs/python.md.
 
 Use it as a module too:
 
