@@ -22,6 +22,7 @@ so is what guarantees.md names:
 each call `crate::call` and `crate::Type::call`, each clause of `commands::run`, the clauses of the calls of a row, and the
 number of lines of each file. Where a clause is a record of specs/Promise.antt, the fields of that record are clauses too.
 """
+import functools
 import gzip
 import os
 import pathlib
@@ -88,13 +89,30 @@ missing = set()
 def why_not(above):
     if above and above[1] == "not run:":
         return above[2]
-    lacking = [tool for tool in above[2].split(", ") if not shutil.which(tool)] if above and above[1] == "needs" else []
+    lacking = [tool for tool in above[2].split(", ") if not is_there(tool)] if above and above[1] == "needs" else []
     missing.update(lacking)
     return f"{lacking[0]} is not on the path" if lacking else None
 
 
-def environment():
-    return {**os.environ, "PATH": os.pathsep.join([str(PROGRAM.parent), *os.environ["PATH"].split(os.pathsep)])}
+def is_there(tool):
+    """Whether a command is on the path; the command of python/ is where a Python with numpy is."""
+    return bool(shutil.which(tool) or tool == "isomesh" and numpy_python())
+
+
+@functools.cache
+def numpy_python():
+    found = [it for it in (sys.executable, "/usr/bin/python3") if not subprocess.run([it, "-c", "import numpy"], stderr=subprocess.DEVNULL).returncode]
+    return found[0] if found else None
+
+
+def environment(room):
+    """The variables for a command: the program on the path, and the command of python/ as it stands in the checkout."""
+    folder = pathlib.Path(room, ".bin")
+    folder.mkdir(exist_ok=True)
+    command = folder / "isomesh"
+    command.write_text(f'#!/bin/sh\nPYTHONPATH="{TOP / "python"}" exec {numpy_python()} -m isobench "$@"\n', encoding="utf-8")
+    command.chmod(0o755)
+    return {**os.environ, "PATH": os.pathsep.join([str(folder), str(PROGRAM.parent), *os.environ["PATH"].split(os.pathsep)])}
 
 
 def run_page(page, folder):
@@ -106,7 +124,7 @@ def run_page(page, folder):
             print(f"{name}: not run, {why_not(above)}")
             continue
         status = int(above[2]) if above and above[1] == "status" else 0
-        ran = subprocess.run(["bash", "-e", "-o", "pipefail", "-c", text], cwd=folder, env=environment(),
+        ran = subprocess.run(["bash", "-e", "-o", "pipefail", "-c", text], cwd=folder, env=environment(folder),
                              stdin=subprocess.DEVNULL, stdout=subprocess.PIPE, stderr=subprocess.STDOUT, timeout=120)
         printed = ran.stdout.decode("utf-8", "replace")
         if shown is not None and not is_shown(printed, shown):
@@ -154,7 +172,7 @@ def helps(folder, message, command):
     read = "isobench points --level=0.5 < {} > points.ply"
     steps = [(read.format("in.nrrd"), 3), (command, 0), (read.format("out.nrrd"), 0)]
     for step, status in steps:
-        ran = subprocess.run(["bash", "-o", "pipefail", "-c", step], cwd=folder, env=environment(), stdin=subprocess.DEVNULL,
+        ran = subprocess.run(["bash", "-o", "pipefail", "-c", step], cwd=folder, env=environment(folder), stdin=subprocess.DEVNULL,
                              capture_output=True, text=True, timeout=60)
         if ran.returncode != status or status and f"isobench: {message} " not in ran.stderr:
             print(f"docs/using.md: {message}: `{step}` ends with {ran.returncode}: {ran.stderr.strip()}")
@@ -271,7 +289,7 @@ def main():
     if not PROGRAM.exists():
         print("crates/isobench/out/isobench is not built")
     if missing:
-        print(f"missing, so not all was run: {', '.join(sorted(missing))}; apt install {' '.join(PACKAGES[it] for it in sorted(missing))}")
+        print(f"missing, so not all was run: {', '.join(sorted(missing))}; apt install {' '.join(PACKAGES[it] for it in sorted(missing) if it in PACKAGES)}")
     sys.exit(1 if wrong or words == ["--strict"] and missing else 0)
 
 

@@ -11,7 +11,9 @@ use Rattle.session.specs.declared.ending.Ending.TheVariants as endings
 use Rattle.session.proofs.Running.{replies_text-append, kept_both}
 use Rattle.command_words.specs.declared.request.Request.{Request}
 use Rattle.command_words.specs.declared.request.Request.TheVariants as requests
+use Rattle.endings.specs.Status.{status_of}
 use Rattle.endings.specs.declared.answer.Answer.{Answer}
+use Rattle.endings.specs.declared.answer.Status.{Status}
 use Rattle.commands.specs.Economy.{LeavesBench, LedTo}
 use Rattle.commands.specs.Outcome.{Call, Rejects}
 use Rattle.commands.specs.Serving.{Serves, asked_for}
@@ -74,16 +76,16 @@ pub economy : (o : Option Request) (call : Call) (a : Answer) (level : ℤ) (pad
 economy None call a level pad name bricks pages h asked = absurd cc
 economy (Some r) call a level pad name bricks pages h asked = left_of r call a level pad name bricks pages (same_request r (requests.Session level pad name bricks pages) asked) h
 
-soak_left : (r : Request) (call : Call) (a : Answer) (seed : ℕ) → r ≡ requests.Soak seed → Serves r call a → SoakLeaves seed call
-soak_left r call a seed e h = soak_leaves seed call a (subst (λ (q : Request). Serves q call a) e h)
+soak_left : (r : Request) (call : Call) (status : Status) (a : Answer) (seed : ℕ) → status ≡ status_of a → r ≡ requests.Soak seed → Serves r call a → SoakLeaves seed call status
+soak_left r call status a seed s e h = soak_leaves seed call status a s (subst (λ (q : Request). Serves q call a) e h)
 
-pub soak_economy : (o : Option Request) (call : Call) (a : Answer) (seed : ℕ) → MatchOption o (Rejects call a) (λ r. Serves r call a) → o ≡ Some (requests.Soak seed) → SoakLeaves seed call
-soak_economy None call a seed h asked = absurd cc
-soak_economy (Some r) call a seed h asked = soak_left r call a seed (same_request r (requests.Soak seed) asked) h
+pub soak_economy : (o : Option Request) (call : Call) (status : Status) (a : Answer) (seed : ℕ) → MatchOption o (Rejects call a) (λ r. Serves r call a) → status ≡ status_of a → o ≡ Some (requests.Soak seed) → SoakLeaves seed call status
+soak_economy None call status a seed h s asked = absurd cc
+soak_economy (Some r) call status a seed h s asked = soak_left r call status a seed s (same_request r (requests.Soak seed) asked) h
 
-soak_shown : (r : Request) (call : Call) (a : Answer) (seed : ℕ) → r ≡ requests.Soak seed → Serves r call a → HoldsSoakMeshes seed call
-soak_shown r call a seed e h = holds_meshes seed call a (subst (λ (q : Request). Serves q call a) e h)
+soak_shown : (r : Request) (call : Call) (status : Status) (a : Answer) (seed : ℕ) → status ≡ status_of a → r ≡ requests.Soak seed → Serves r call a → HoldsSoakMeshes seed call status
+soak_shown r call status a seed s e h = holds_meshes seed call status a s (subst (λ (q : Request). Serves q call a) e h)
 
-pub soak_headline : (o : Option Request) (call : Call) (a : Answer) (seed : ℕ) → MatchOption o (Rejects call a) (λ r. Serves r call a) → o ≡ Some (requests.Soak seed) → HoldsSoakMeshes seed call
-soak_headline None call a seed h asked = absurd cc
-soak_headline (Some r) call a seed h asked = soak_shown r call a seed (same_request r (requests.Soak seed) asked) h
+pub soak_headline : (o : Option Request) (call : Call) (status : Status) (a : Answer) (seed : ℕ) → MatchOption o (Rejects call a) (λ r. Serves r call a) → status ≡ status_of a → o ≡ Some (requests.Soak seed) → HoldsSoakMeshes seed call status
+soak_headline None call status a seed h s asked = absurd cc
+soak_headline (Some r) call status a seed h s asked = soak_shown r call status a seed s (same_request r (requests.Soak seed) asked) h

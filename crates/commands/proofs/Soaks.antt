@@ -1,7 +1,6 @@
 -- How a soak ends, and what it leaves.
 use Rattle.std.proofs.Common.{◌≡◌, ◌⊎◌, ℕ, List, [], ◌∷◌, ◌++◌, Some, IfSome, MatchOption, refl, sym, ap, subst, inl, inr}
 use Rattle.std.specs.Prelude.{Option}
-use Rattle.std.proofs.lemmas.List.{append-nil}
 use Rattle.byte_streams.specs.Causes.{Rose}
 use Rattle.bench_core.specs.Keeping.{Workbench, first_bench}
 use Rattle.bench_core.specs.Machine.{IsState}
@@ -13,6 +12,7 @@ use Rattle.commands.specs.Soaking.{DoesSoak, HoldsSoakMeshes, RunsLines, SoakLea
 use Rattle.endings.specs.Status.{status_of}
 use Rattle.endings.specs.declared.answer.Answer.{Answer}
 use Rattle.endings.specs.declared.answer.Answer.TheVariants as answers
+use Rattle.endings.specs.declared.answer.Status.{Status}
 use Rattle.endings.specs.declared.answer.Status.TheVariants as statuses
 use Rattle.commands.proofs.MeshTurns.{mesh_turns}
 
@@ -53,25 +53,66 @@ soaked_whole seed call a (same, inr h) writes = runs_whole (soak_lines seed) (so
 
 -- ---- the bench that is left
 
-pub led_to : (seed : ℕ) (call : Call) (last : Workbench) (a : Answer) → RunsLines (soak_lines seed) (soak_world seed call) (world_after call last) a → SoakLedTo seed call last
-led_to seed call last answers.Done h = record { lines = soak_lines seed; more = []; parts = sym (append-nil (soak_lines seed)); replies = h.replies; ran = h.ran }
-led_to seed call last answers.Memory h = record { lines = h.0; more = h.1 ∷ h.2; parts = h.3; replies = h.5.replies; ran = h.5.ran }
-led_to seed call last answers.OutputFault h = record { lines = h.0; more = h.1; parts = h.2; replies = h.3.replies ++ h.3.reply ∷ []; ran = h.3.ran }
-led_to seed call last answer h = absurd h
+pub led_to : (seed : ℕ) (call : Call) (status : Status) (last : Workbench) (a : Answer) → status ≡ status_of a → RunsLines (soak_lines seed) (soak_world seed call) (world_after call last) a → SoakLedTo seed call status last
+led_to seed call status last answers.Done s h = record {
+  answer = answers.Done;
+  status_is = s;
+  lines = soak_lines seed;
+  replies = h.replies;
+  ends = (refl, h.written);
+  ran = h.ran;
+}
+led_to seed call status last answers.Memory s h = record {
+  answer = answers.Memory;
+  status_is = s;
+  lines = h.0;
+  replies = h.5.replies;
+  ends = (h.1, h.2, h.3, h.4, h.5.written);
+  ran = h.5.ran;
+}
+led_to seed call status last answers.OutputFault s h =
+    let b = h.3 in
+    record {
+      answer = answers.OutputFault;
+      status_is = s;
+      lines = h.0;
+      replies = b.replies ++ b.reply ∷ [];
+      ends = (
+        h.1,
+        h.2,
+        record {
+          before = b.before;
+          line = b.line;
+          parts = b.parts;
+          ply = b.ply;
+          told = b.replies;
+          reply = b.reply;
+          replies_are = refl;
+          front = b.front;
+          back = b.back;
+          cut = b.cut;
+          written = b.written;
+          cause = b.cause;
+        },
+      );
+      ran = b.ran;
+    }
+led_to seed call status last answer s h = absurd h
 
-pub soak_leaves : (seed : ℕ) (call : Call) (a : Answer) → DoesSoak seed call a → SoakLeaves seed call
-soak_leaves seed call a (same, inl h) = subst (λ (o : Option Workbench). MatchOption o (call.steps_after ≡ call.steps) (SoakLedTo seed call)) (sym h.shelf.none) h.shelf.steps
-soak_leaves seed call a (same, inr h) = subst (λ (o : Option Workbench). MatchOption o (call.steps_after ≡ call.steps) (SoakLedTo seed call)) (sym h.left_is) (led_to seed call h.last a h.runs)
+pub soak_leaves : (seed : ℕ) (call : Call) (status : Status) (a : Answer) → status ≡ status_of a → DoesSoak seed call a → SoakLeaves seed call status
+soak_leaves seed call status a s (same, inl h) = subst (λ (o : Option Workbench). MatchOption o (call.steps_after ≡ call.steps) (SoakLedTo seed call status)) (sym h.shelf.none) h.shelf.steps
+soak_leaves seed call status a s (same, inr h) =
+    subst (λ (o : Option Workbench). MatchOption o (call.steps_after ≡ call.steps) (SoakLedTo seed call status)) (sym h.left_is) (led_to seed call status h.last a s h.runs)
 
 -- ---- its meshes
 
-meshes_of : (seed : ℕ) (call : Call) (last : Workbench) → IsState (first_bench (soak_volume seed) soak_level soak_limits).state → SoakLedTo seed call last → SoakMeshes seed call last
-meshes_of seed call last sound led = record { led = led; meshes = mesh_turns (soak_world seed call) (world_after call last) led.lines led.replies sound led.ran.kept }
+meshes_of : (seed : ℕ) (call : Call) (status : Status) (last : Workbench) → IsState (first_bench (soak_volume seed) soak_level soak_limits).state → SoakLedTo seed call status last → SoakMeshes seed call status last
+meshes_of seed call status last sound led = record { led = led; meshes = mesh_turns (soak_world seed call) (world_after call last) led.lines led.replies sound led.ran.kept }
 
-pub holds_meshes : (seed : ℕ) (call : Call) (a : Answer) → DoesSoak seed call a → HoldsSoakMeshes seed call
-holds_meshes seed call a (same, inl h) = subst (λ (o : Option Workbench). IfSome o (SoakMeshes seed call)) (sym h.shelf.none) tt
-holds_meshes seed call a (same, inr h) =
-    subst (λ (o : Option Workbench). IfSome o (SoakMeshes seed call)) (sym h.left_is) (meshes_of seed call h.last h.sound (led_to seed call h.last a h.runs))
+pub holds_meshes : (seed : ℕ) (call : Call) (status : Status) (a : Answer) → status ≡ status_of a → DoesSoak seed call a → HoldsSoakMeshes seed call status
+holds_meshes seed call status a s (same, inl h) = subst (λ (o : Option Workbench). IfSome o (SoakMeshes seed call status)) (sym h.shelf.none) tt
+holds_meshes seed call status a s (same, inr h) =
+    subst (λ (o : Option Workbench). IfSome o (SoakMeshes seed call status)) (sym h.left_is) (meshes_of seed call status h.last h.sound (led_to seed call status h.last a s h.runs))
 
 -- ---- from the opened bench on
 

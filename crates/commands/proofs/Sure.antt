@@ -1,5 +1,5 @@
 -- Replies where the shelf does not fail.
-use Rattle.std.proofs.Common.{ℕ, IfSome, sym, subst, inl, inr}
+use Rattle.std.proofs.Common.{ℕ, IfSome, refl, sym, subst, inl, inr}
 use Rattle.std.specs.Prelude.{Option}
 use Rattle.byte_streams.specs.Causes.{Rose}
 use Rattle.bench_core.specs.Keeping.{Workbench}
@@ -10,7 +10,9 @@ use Rattle.commands.specs.Outcome.{Call}
 use Rattle.commands.specs.Sessions.{Asked, RunsSession, session_between, world_after, world_before}
 use Rattle.commands.specs.Soaking.{DoesSoak, SoakLedTo, soak_world}
 use Rattle.commands.specs.Sure.{HasSureReplies, HasSureSoak, RepliesSurely, SoaksSurely}
+use Rattle.endings.specs.Status.{status_of}
 use Rattle.endings.specs.declared.answer.Answer.{Answer}
+use Rattle.endings.specs.declared.answer.Status.{Status}
 use Rattle.commands.proofs.Economy.{led}
 use Rattle.commands.proofs.Soaks.{led_to}
 
@@ -30,14 +32,15 @@ sure_replies asked call a (inr o) still =
       sure = surely o.lines _ _ _ _ l.replies (no_errors call.store.faults call.store_after.faults l.replies still l.counted) followed;
     })
 
-soaked_surely : (seed : ℕ) (call : Call) (last : Workbench) → (Rose call.store.faults call.store_after.faults → ⊥) → SoakLedTo seed call last → SoaksSurely seed call last
-soaked_surely seed call last still led = record {
+soaked_surely : (seed : ℕ) (call : Call) (status : Status) (last : Workbench) → (Rose call.store.faults call.store_after.faults → ⊥) → SoakLedTo seed call status last → SoaksSurely seed call status last
+soaked_surely seed call status last still led = record {
   led = led;
   sure = surely led.lines _ _ _ _ led.replies (no_errors call.store.faults call.store_after.faults led.replies still led.ran.counted)
       (kept_followed led.lines led.replies (scene_of (soak_world seed call)) (scene_of (world_after call last)) led.ran.kept);
 }
 
-pub sure_soak : (seed : ℕ) (call : Call) (a : Answer) → DoesSoak seed call a → HasSureSoak seed call
-sure_soak seed call a (same, inl h) still = subst (λ (o : Option Workbench). IfSome o (SoaksSurely seed call)) (sym h.shelf.none) tt
+pub sure_soak : (seed : ℕ) (call : Call) (a : Answer) → DoesSoak seed call a → HasSureSoak seed call (status_of a)
+sure_soak seed call a (same, inl h) still = subst (λ (o : Option Workbench). IfSome o (SoaksSurely seed call (status_of a))) (sym h.shelf.none) tt
 sure_soak seed call a (same, inr h) still =
-    subst (λ (o : Option Workbench). IfSome o (SoaksSurely seed call)) (sym h.left_is) (soaked_surely seed call h.last still (led_to seed call h.last a h.runs))
+    subst (λ (o : Option Workbench). IfSome o (SoaksSurely seed call (status_of a))) (sym h.left_is)
+    (soaked_surely seed call (status_of a) h.last still (led_to seed call (status_of a) h.last a refl h.runs))

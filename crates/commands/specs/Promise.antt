@@ -49,18 +49,22 @@ pub record RunsAs (words : List (List ℕ)) (call : Call) (status : Status) (bef
   pub session_headline : (level : ℤ) (pad : Option ℤ) (name : List ℕ) (bricks pages : ℕ)
       → request_of words ≡ Some (Session level pad name bricks pages)
       → HoldsWatertightMeshes (asked_for level pad name bricks pages) call status
-  -- So it is in a soak.
-  pub soak_headline : (seed : ℕ) → request_of words ≡ Some (Soak seed) → HoldsSoakMeshes seed call
+  -- So it is in a soak, at the lines that were run, whose replies to its lines `ply` were written.
+  pub soak_headline : (seed : ℕ) → request_of words ≡ Some (Soak seed) → HoldsSoakMeshes seed call status
   -- A bench that a session leaves is the one to which the lines run led with their replies, with what they keep of the
   -- mesh, and the counter rose by no more than they allow; where none is left, no cell was classified.
   pub economy : (level : ℤ) (pad : Option ℤ) (name : List ℕ) (bricks pages : ℕ)
       → request_of words ≡ Some (Session level pad name bricks pages)
       → LeavesBench (asked_for level pad name bricks pages) call
   -- So it is with the bench that a soak leaves.
-  pub soak_economy : (seed : ℕ) → request_of words ≡ Some (Soak seed) → SoakLeaves seed call
+  pub soak_economy : (seed : ℕ) → request_of words ≡ Some (Soak seed) → SoakLeaves seed call status
   -- Nothing else stands in the way of a command.
   pub complete : (request : Request) → request_of words ≡ Some request
       → CanServe request call
       → (Rose call.streams.input.faults call.streams.input_after.faults → ⊥)
       → (Rose call.streams.output.faults call.streams.output_after.faults → ⊥)
       → IsCarriedOut request call status
+
+-- A status by which `run` may end on these words: that of some call on them, over some streams and files.
+abbrev pub MayEnd : List (List ℕ) → Status → Type 0
+MayEnd words status = (call : Call) × (before : Tape) × (after : Tape) × RunsAs words call status before after

@@ -85,7 +85,7 @@ IsCarriedOut (requests.Session level pad name bricks pages) call status =
     × HasSureReplies (asked_for level pad name bricks pages) call
 IsCarriedOut (requests.Gen seed sizes) call status = (status ≡ statuses.Done) ⊎ (status ≡ statuses.Memory)
 IsCarriedOut (requests.Soak seed) call status = ((status ≡ statuses.Done) ⊎ (status ≡ statuses.Memory))
-    × HasSureSoak seed call
+    × HasSureSoak seed call status
 IsCarriedOut requests.Help call status = status ≡ statuses.Done
 IsCarriedOut requests.Version call status = status ≡ statuses.Done
 IsCarriedOut (requests.Check format) call status = (status ≡ statuses.Done) ⊎ (status ≡ statuses.MeshRefused)

@@ -4,6 +4,7 @@ use Rattle.std.specs.Io.KnownBytes.{Appends}
 use Rattle.iso_defs.specs.Grid.{Grid}
 use Rattle.iso_base.specs.Volume.{Volume, unpadded}
 use Rattle.byte_streams.specs.Causes.{Rose}
+use Rattle.byte_streams.specs.Seen.{Tape}
 use Rattle.mesh_cache.specs.Cache.{Limits}
 use Rattle.bench_core.specs.Keeping.{Workbench, first_bench}
 use Rattle.bench_core.specs.Machine.{IsState}
@@ -18,8 +19,10 @@ use Rattle.command_terms.specs.Outcome.{NothingWritten}
 use Rattle.commands.specs.Outcome.{Call, LeavesShelf}
 use Rattle.commands.specs.SessionMeshes.{MeshTurns}
 use Rattle.commands.specs.Sessions.{world_after}
+use Rattle.endings.specs.Status.{status_of}
 use Rattle.endings.specs.declared.answer.Answer.{Answer}
 use Rattle.endings.specs.declared.answer.Answer.TheVariants as answers
+use Rattle.endings.specs.declared.answer.Status.{Status}
 
 -- ---- what it runs on
 
@@ -138,25 +141,55 @@ DoesSoak seed call answer = (call.streams.input_after ≡ call.streams.input)
 
 -- ---- what it leaves of the mesh
 
--- The first lines of the script were run, with replies that led to the bench that is left.
-pub record SoakLedTo (seed : ℕ) (call : Call) (last : Workbench) : Type 0 where
+-- the replies that are shown were written
+abbrev pub WritesShown : Tape → Tape → List (List ℕ) → List (List ℕ) → Type 0
+WritesShown old new lines replies = Appends old.taken new.taken (replies_text (shown lines replies))
+
+-- so it is but for the last line, which asks for the mesh as PLY, and of its reply only a prefix was written
+pub record CutsShown (old new : Tape) (lines replies : List (List ℕ)) : Type 0 where
+  pub before : List (List ℕ)
+  pub line : List ℕ
+  pub parts : lines ≡ before ++ line ∷ []
+  pub ply : is_ply (read_of line) ≡ true
+  pub told : List (List ℕ)
+  pub reply : List ℕ
+  pub replies_are : replies ≡ told ++ reply ∷ []
+  pub front : List ℕ
+  pub back : List ℕ
+  pub cut : reply ≡ front ++ back
+  pub written : Appends old.taken new.taken (replies_text (shown before told) ++ front)
+  pub cause : Rose old.faults new.faults
+
+-- These lines of the script were run, and so much was written of their replies, by how the soak ended: all lines; or those
+-- before a `fill`, for which memory was wanting; or those up to and with a `ply`, whose reply could not be written whole.
+abbrev pub SoakEndsAfter : List (List ℕ) → Tape → Tape → Answer → List (List ℕ) → List (List ℕ) → Type 0
+SoakEndsAfter script old new answers.Done lines replies = (lines ≡ script) × WritesShown old new lines replies
+SoakEndsAfter script old new answers.Memory lines replies = (wanting : List ℕ) × (more : List (List ℕ))
+    × (script ≡ lines ++ wanting ∷ more) × (is_fill (read_of wanting) ≡ true) × WritesShown old new lines replies
+SoakEndsAfter script old new answers.OutputFault lines replies = (more : List (List ℕ))
+    × (script ≡ lines ++ more) × CutsShown old new lines replies
+SoakEndsAfter script old new answer lines replies = ⊥
+
+-- The lines that were run, with their replies, of which the shown ones were written, led to the bench that is left.
+pub record SoakLedTo (seed : ℕ) (call : Call) (status : Status) (last : Workbench) : Type 0 where
+  pub answer : Answer
+  pub status_is : status ≡ status_of answer
   pub lines : List (List ℕ)
-  pub more : List (List ℕ)
-  pub parts : soak_lines seed ≡ lines ++ more
   pub replies : List (List ℕ)
+  pub ends : SoakEndsAfter (soak_lines seed) call.streams.output call.streams.output_after answer lines replies
   pub ran : RanQuietly (soak_world seed call) (world_after call last) lines replies
 
 -- so it is where a bench is left; where none is, no cell was classified
-abbrev pub SoakLeaves : ℕ → Call → Type 0
-SoakLeaves seed call = MatchOption call.left (call.steps_after ≡ call.steps) (SoakLedTo seed call)
+abbrev pub SoakLeaves : ℕ → Call → Status → Type 0
+SoakLeaves seed call status = MatchOption call.left (call.steps_after ≡ call.steps) (SoakLedTo seed call status)
 
 -- ---- its meshes
 
--- and each line among them that asked for a mesh wrote it
-pub record SoakMeshes (seed : ℕ) (call : Call) (last : Workbench) : Type 0 where
-  pub led : SoakLedTo seed call last
+-- and each of these lines that asked for a mesh wrote it
+pub record SoakMeshes (seed : ℕ) (call : Call) (status : Status) (last : Workbench) : Type 0 where
+  pub led : SoakLedTo seed call status last
   pub meshes : MeshTurns (soak_world seed call) (world_after call last) led.lines led.replies
 
 -- in each soak that was begun
-abbrev pub HoldsSoakMeshes : ℕ → Call → Type 0
-HoldsSoakMeshes seed call = IfSome call.left (SoakMeshes seed call)
+abbrev pub HoldsSoakMeshes : ℕ → Call → Status → Type 0
+HoldsSoakMeshes seed call status = IfSome call.left (SoakMeshes seed call status)

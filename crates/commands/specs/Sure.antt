@@ -10,6 +10,7 @@ use Rattle.commands.specs.Outcome.{Call}
 use Rattle.commands.specs.SessionMeshes.{WritesReplies}
 use Rattle.commands.specs.Sessions.{Asked, HoldsFile, session_between}
 use Rattle.commands.specs.Soaking.{SoakLedTo, soak_level, soak_limits, soak_volume}
+use Rattle.endings.specs.declared.answer.Status.{Status}
 
 -- Lines of the script were run on the volume of the file, and their replies written. Each reply is the machine's, or says that
 -- memory was wanting, at a line that may ask for it.
@@ -29,11 +30,12 @@ abbrev pub HasSureReplies : Asked → Call → Type 0
 HasSureReplies asked call = (Rose call.store.faults call.store_after.faults → ⊥) →
     IfSome call.left (RepliesSurely asked call)
 
--- the same of the lines of a soak, none of whose replies says that memory was wanting
-pub record SoaksSurely (seed : ℕ) (call : Call) (last : Workbench) : Type 0 where
-  pub led : SoakLedTo seed call last
+-- the same of the lines of a soak that were run, none of whose replies says that memory was wanting
+pub record SoaksSurely (seed : ℕ) (call : Call) (status : Status) (last : Workbench) : Type 0 where
+  pub led : SoakLedTo seed call status last
   pub sure : SurelyFollowed (first_bench (soak_volume seed) soak_level soak_limits).state call.store.files led.lines
       led.replies last.state call.store_after.files
 
-abbrev pub HasSureSoak : ℕ → Call → Type 0
-HasSureSoak seed call = (Rose call.store.faults call.store_after.faults → ⊥) → IfSome call.left (SoaksSurely seed call)
+abbrev pub HasSureSoak : ℕ → Call → Status → Type 0
+HasSureSoak seed call status = (Rose call.store.faults call.store_after.faults → ⊥) →
+    IfSome call.left (SoaksSurely seed call status)

@@ -10,6 +10,10 @@ use std::process::ExitCode;
 struct Isopoints;
 
 impl Program for Isopoints {
+    ghost use Rattle.point_command.specs.Promise.{MayEnd};
+
+    ghost ends = { λ _. MayEnd };
+
     fn run<S: Source, K: Sink, N: Sink>(
         &self,
         rt: &HostRuntime,

@@ -33,3 +33,7 @@ pub record RunsPoints (words : List (List ℕ)) (call : Streams) (status : Statu
       → (Rose call.input.faults call.input_after.faults → ⊥)
       → (Rose call.output.faults call.output_after.faults → ⊥)
       → IsGiven asked status
+
+-- A status by which the program may end on these words: that of some call on them, over some streams.
+abbrev pub MayEnd : List (List ℕ) → Status → Type 0
+MayEnd words status = (call : Streams) × (before : Tape) × (after : Tape) × RunsPoints words call status before after

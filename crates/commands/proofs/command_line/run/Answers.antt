@@ -29,9 +29,9 @@ returns g c =
             asked_and_served _ _ answer HasBrokenMesh ends (not_rejected _ answer _ s (λ x. absurd cc)) (λ r h. why_mesh_refused r _ answer s h);
         headline = λ level pad format asked e. headline _ _ answer level pad format ends asked (sym c.status.ensures ∙ e);
         session_headline = λ level pad name bricks pages asked. session_headline _ _ answer _ level pad name bricks pages ends c.status.ensures asked;
-        soak_headline = λ seed asked. soak_headline _ _ answer seed ends asked;
+        soak_headline = λ seed asked. soak_headline _ _ _ answer seed ends c.status.ensures asked;
         economy = λ level pad name bricks pages asked. economy _ _ answer level pad name bricks pages ends asked;
-        soak_economy = λ seed asked. soak_economy _ _ answer seed ends asked;
+        soak_economy = λ seed asked. soak_economy _ _ _ answer seed ends c.status.ensures asked;
         complete = λ request asked can reads writes.
             rw c.status.ensures (completes _ request _ answer ends asked can reads writes);
       };
