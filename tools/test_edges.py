@@ -1,5 +1,5 @@
 #!/usr/bin/env python3
-"""Tests of the built program where it meets the system: closed streams, pipes with a name, two sessions, little stack.
+"""Tests of the built program where it meets the system: closed streams, named pipes, two sessions, little stack.
 
     python3 tools/test_edges.py [PROGRAM]
 
@@ -100,7 +100,7 @@ class ClosedStreams(Edges):
 
 
 class Targets(Edges):
-    def test_a_pipe_with_a_name(self):
+    def test_a_named_pipe(self):
         pipe = self.folder / "pipe"
         os.mkfifo(pipe)
         for _ in range(10):
