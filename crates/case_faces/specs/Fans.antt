@@ -1,10 +1,11 @@
 -- Loops as numbers, by which their centres are found from the places on the edges round a cell.
-use Rattle.std.specs.Prelude.{ℕ, ◌+◌, ◌*◌, ◌/◌, ◌==◌, List, [], ◌∷◌, ◌++◌, map, length, slice_index_or}
-use Rattle.std.specs.List.{count_by, sum_by}
+use Rattle.std.specs.Prelude.{ℕ, ◌+◌, ◌*◌, ◌/◌, ◌==◌, ◌&&◌, Bool, true, false, List, [], ◌∷◌, ◌++◌, map, length, slice_index_or, if◌then◌else◌}
+use Rattle.std.specs.List.{count_by, enumerate_from, filter, flat_map, list_any, sum_by}
 use Rattle.iso_defs.specs.Lists.{below}
-use Rattle.iso_defs.specs.Cell.{edge_corner}
+use Rattle.iso_defs.specs.Cell.{case_loops, edge_corner}
+use Rattle.iso_defs.specs.Scratch.{has_centre}
+use Rattle.case_table.specs.Cases.{cases}
 use Rattle.edge_points.specs.Points.{corner_offset}
-use Rattle.case_faces.specs.declared.fans.TheConstants.{NUMBERS}
 
 -- where an edge of a cell begins: in one of the four rows of points round the cell, eight numbers for each, and there at the first or the
 -- second point, three numbers for each, one for an axis
@@ -25,6 +26,24 @@ unfoldable pub fan_of : List ℕ → List ℕ
 fan_of edges = map (weight edges) (below 32)
     ++ (begins edges 0 ∷ begins edges 1 ∷ begins edges 2 ∷ 0 ∷ 0 ∷ 0 ∷ 0 ∷ length edges ∷ [])
 
--- the numbers of a loop in the table
+-- whether two lists are the same
+abbrev pub same : List ℕ → List ℕ → Bool
+same [] [] = true
+same [] (y ∷ ys) = false
+same (x ∷ xs) [] = false
+same (x ∷ xs) (y ∷ ys) = x == y && same xs ys
+
+-- some lists, and those of others that are not among them yet, each once
+abbrev pub each_once : List (List ℕ) → List (List ℕ) → List (List ℕ)
+each_once seen [] = seen
+each_once seen (x ∷ xs) = each_once (if list_any (same x) seen then seen else seen ++ x ∷ []) xs
+
+-- the loops with a centre of all cases as numbers, each list of numbers once, in the order of the cases
+unfoldable pub all_fans : List (List ℕ)
+all_fans = each_once []
+    (flat_map (λ (c : List Bool × List Bool). map (λ (l : ℕ × List ℕ). fan_of l.1)
+    (filter has_centre (enumerate_from 0 (case_loops c.0 c.1)))) cases)
+
+-- those at a place
 unfoldable pub fan_numbers : ℕ → List ℕ
-fan_numbers fan = slice_index_or NUMBERS fan []
+fan_numbers fan = slice_index_or all_fans fan []
