@@ -28,6 +28,7 @@ LONGEST_LINE = 64
 MARGIN = 16
 NEWLINE = ord("\n")
 MOST_THREADS = 4
+BYTES_PER_THREAD = 1 << 22
 CUT_SHORT = "the text of the mesh is cut short"
 WORD = np.uint64
 Fill = Callable[[np.ndarray, np.ndarray], None]
@@ -81,8 +82,8 @@ def read_mesh(text: bytes | memoryview) -> tuple[np.ndarray, np.ndarray]:
         raise MeshTextError(CUT_SHORT)
     positions, faces = np.empty((vertices, 3), np.int32), np.empty((triangles, 3), np.int32)
     reader = _c_reader() or NUMPY_READER
-    blocks = list(_blocks_of(data, at, positions, faces, reader))
-    threads = min(MOST_THREADS, len(blocks), len(os.sched_getaffinity(0)))
+    blocks = _blocks_of(data, at, positions, faces, reader)
+    threads = min(MOST_THREADS, len(data) // BYTES_PER_THREAD, len(os.sched_getaffinity(0)))
     if threads < 2:
         for fill, text, rows in blocks:
             fill(text, rows)
@@ -146,18 +147,26 @@ def load_reader(path: str | os.PathLike) -> Reader:
         If it cannot be loaded, or is another one.
     """
     library = ctypes.CDLL(os.fspath(path))
-    count, *fills = library.isobench_count_lines, library.isobench_read_vertices, library.isobench_read_faces
-    for call in (count, *fills):
+    count, vertices, faces = library.isobench_count_lines, library.isobench_read_vertices, library.isobench_read_faces
+    count.argtypes = ctypes.c_void_p, ctypes.c_ssize_t
+    vertices.argtypes = ctypes.c_void_p, ctypes.c_ssize_t, ctypes.c_ssize_t, ctypes.c_void_p
+    faces.argtypes = ctypes.c_void_p, ctypes.c_ssize_t, ctypes.c_ssize_t, ctypes.c_int64, ctypes.c_void_p
+    for call in (count, vertices, faces):
         call.restype = ctypes.c_ssize_t
-        call.argtypes = ctypes.c_void_p, ctypes.c_ssize_t
-    for call in fills:
-        call.argtypes += ctypes.c_ssize_t, ctypes.c_void_p
-    return Reader(*(functools.partial(_fill_by_c, call) for call in fills), lambda text: count(text.ctypes.data, len(text)), 1 << 19)
+
+    def fill_vertices(text: np.ndarray, out: np.ndarray) -> None:
+        body = text[MARGIN:]
+        _check_length(vertices(body.ctypes.data, len(body), len(out), out.ctypes.data), body)
+
+    def fill_faces(text: np.ndarray, out: np.ndarray) -> None:
+        body = text[MARGIN:]
+        _check_length(faces(body.ctypes.data, len(body), len(out), 1 << 31, out.ctypes.data), body)
+
+    return Reader(fill_vertices, fill_faces, lambda text: count(text.ctypes.data, len(text)), 1 << 19)
 
 
-def _fill_by_c(call: Callable[[int, int, int, int], int], text: np.ndarray, out: np.ndarray) -> None:
-    body = text[MARGIN:]
-    if call(body.ctypes.data, len(body), len(out), out.ctypes.data) != len(body):
+def _check_length(length: int, body: np.ndarray) -> None:
+    if length != len(body):
         raise MeshTextError("a line is in another form")
 
 

@@ -44,8 +44,8 @@ ptrdiff_t isobench_read_vertices(const uint8_t *text, ptrdiff_t length, ptrdiff_
     return at - text;
 }
 
-// Reads `count` lines `3 A B C`, each number of 31 bits, into `out`. Returns the number of bytes read, or -1.
-ptrdiff_t isobench_read_faces(const uint8_t *text, ptrdiff_t length, ptrdiff_t count, int32_t *out) {
+// Reads `count` lines `3 A B C`, each number below `limit`, at most 2^31, into `out`. Returns the number of bytes read, or -1.
+ptrdiff_t isobench_read_faces(const uint8_t *text, ptrdiff_t length, ptrdiff_t count, int64_t limit, int32_t *out) {
     const uint8_t *at = text, *end = text + length;
     for (ptrdiff_t face = 0; face < count; face++) {
         if (end - at < 2 || at[0] != '3' || at[1] != ' ') return -1;
@@ -57,7 +57,7 @@ ptrdiff_t isobench_read_faces(const uint8_t *text, ptrdiff_t length, ptrdiff_t c
                 value = 10 * value + (*at++ - '0');
                 if (value > INT32_MAX) return -1;
             }
-            if (at >= end || *at != (corner == 2 ? '\n' : ' ')) return -1;
+            if (at >= end || *at != (corner == 2 ? '\n' : ' ') || value >= limit) return -1;
             at++;
             *out++ = (int32_t)value;
         }

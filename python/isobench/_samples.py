@@ -13,6 +13,7 @@ LEAST, GREATEST = -(2 ** 31), 2 ** 31 - 1
 LEAST_PAD, GREATEST_PAD = -(2 ** 31), 2 ** 32 - 1
 LONGEST_AXIS, MOST_SAMPLES = 1026, 160_000_000
 OUTLIER = 2.0 ** 20
+FAR = 2.0 ** 21
 KEPT_LESSER_ENDS = 2000
 
 
@@ -151,20 +152,22 @@ def samples_of(volume: np.ndarray, level: float, pad: float | str | None = None,
     """
     array = np.asanyarray(volume)
     _check_shape(array, pad is not None)
+    if np.ma.is_masked(array):
+        raise ValueError("some samples are masked: give them a value below the level, as in volume.filled(..)")
     if array.dtype == bool:
         array = array.view(np.uint8)
-    has_decimals = not thousandths_of(level)[1]
-    if array.dtype.name in TYPES:
-        return _scaled(array, level, pad, room) if has_decimals and array.itemsize < 4 else Samples(array)
-    if array.dtype.kind in "iu":
-        return Samples(_narrowed(array))
-    if array.dtype.kind != "f":
+    if array.dtype.kind not in "iuf":
         raise ValueError(f"samples of type {array.dtype} have no level: take their real part, their length or one of their components")
-    least, greatest = float(array.min()), float(array.max())
-    if math.isnan(least):
+    least, greatest = array.min(), array.max()
+    if np.isnan(least):
         raise ValueError("some samples are no numbers (NaN): give them a value below the level, as in np.nan_to_num(volume, nan=..)")
-    is_whole = not has_decimals and (pad is None or isinstance(pad, str) or float(pad).is_integer())
-    return (_whole(array, least, greatest) if is_whole else None) or _scaled(array, level, pad, room)
+    reach = max(abs(float(least) - level), abs(float(greatest) - level))
+    whole = _whole(array, least, greatest)
+    is_exact = thousandths_of(level)[1] and (pad is None or isinstance(pad, str) or float(pad).is_integer())
+    # Where samples are far from the level, its next three decimals move a vertex less than a scale does.
+    if whole is not None and (is_exact or reach >= FAR):
+        return Samples(whole)
+    return _scaled(array, level, pad, reach, room)
 
 
 def _check_shape(array: np.ndarray, is_padded: bool) -> None:
@@ -188,19 +191,17 @@ def _type_for(least: int, greatest: int) -> str | None:
     return next((name for name in TYPES if np.iinfo(name).min <= least and greatest <= np.iinfo(name).max), None)
 
 
-def _narrowed(array: np.ndarray) -> np.ndarray:
-    """64-bit integers in a type of the program."""
-    least, greatest = int(array.min()), int(array.max())
-    name = _type_for(least, greatest)
-    if name is None:
-        raise ValueError(f"the samples lie between {least} and {greatest}, which no 32-bit integers do: subtract a constant from them, "
-                         "or convert them by astype(float)")
-    return array.astype(name)
-
-
-def _whole(array: np.ndarray, least: float, greatest: float) -> Samples | None:
-    """Floats that are whole numbers of 32 bits, as such: nothing is lost then."""
-    name = _type_for(least, greatest) if math.isfinite(least) and math.isfinite(greatest) else None
+def _whole(array: np.ndarray, least: np.number, greatest: np.number) -> np.ndarray | None:
+    """Whole numbers of 32 bits in a type of the program; None if some are not whole."""
+    if array.dtype.name in TYPES:
+        return array
+    is_finite = np.isfinite(least) and np.isfinite(greatest)
+    name = _type_for(int(least), int(greatest)) if is_finite else None
+    if array.dtype.kind in "iu":
+        if name is None:
+            raise ValueError(f"the samples lie between {least} and {greatest}, which no 32-bit integers do: subtract a constant from them, "
+                             "or convert them by astype(float)")
+        return array.astype(name)
     if name is None:
         return None
     out = np.empty(array.shape, name)
@@ -208,10 +209,10 @@ def _whole(array: np.ndarray, least: float, greatest: float) -> Samples | None:
         to[...] = part.astype(name)
         if (to != part).any():
             return None
-    return Samples(out)
+    return out
 
 
-def _scaled(array: np.ndarray, level: float, pad: float | str | None, room: float) -> Samples:
+def _scaled(array: np.ndarray, level: float, pad: float | str | None, reach: float, room: float) -> Samples:
     """floor((v - level) * 2 ** exponent), by the greatest exponent with which all samples fit; the level is then -0.5.
 
     The difference is rounded correctly and the product is exact, so each sample stays on its side. An outlier takes the
@@ -220,7 +221,7 @@ def _scaled(array: np.ndarray, level: float, pad: float | str | None, room: floa
     half a thousandth of the nearer end anyway. Infinite samples are cut off likewise.
     """
     far = 0.0 if pad is None or isinstance(pad, str) else abs(float(pad) - level)
-    reach = max(far, abs(float(array.min()) - level), abs(float(array.max()) - level))
+    reach = max(far, reach)
     usual = float(np.median(np.abs(_from_level(_some_of(array), level))))
     is_cut = not math.isfinite(reach) or reach > OUTLIER * usual
     if is_cut:

@@ -17,6 +17,7 @@ MEANINGS = {
     7: "out of memory: close other programs, take a part of the volume, or every second sample",
     8: "its file could not be read",
     -signal.SIGSEGV: "is the stack too small? It needs 2 MB (`ulimit -s`)",
+    -signal.SIGXFSZ: "its mesh is larger than a file may be (`ulimit -f`)",
     -signal.SIGKILL: "another process or the system ended it, as the system does when memory runs out",
 }
 

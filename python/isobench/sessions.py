@@ -99,7 +99,8 @@ class Session:
             write_whole(given, samples.pieces())
             command = [program(), "session", *words, f"/dev/fd/{given}"]
             pipes = {"stdin": subprocess.PIPE, "stdout": subprocess.PIPE, "stderr": subprocess.PIPE}
-            self._process = subprocess.Popen(command, bufsize=0, pass_fds=(given, mesh), **pipes)
+            # A session of its own: Ctrl-C at a prompt does not end the program.
+            self._process = subprocess.Popen(command, bufsize=0, pass_fds=(given, mesh), start_new_session=True, **pipes)
             self._replies = io.BufferedReader(self._process.stdout)
             # A session that is dropped ends its program too.
             self._end = weakref.finalize(self, _end, self._process, self._replies, self._file)
@@ -141,20 +142,28 @@ class Session:
             if self._process.stdin.closed:
                 raise ValueError("the session is closed")
             try:
-                self._process.stdin.write(line.encode("ascii") + b"\n")
-            except BrokenPipeError:
+                return self._reply_to(line)
+            except KeyboardInterrupt:
+                # Its reply would be taken for that of the next line.
+                self._process.kill()
+                raise
+
+    def _reply_to(self, line: str) -> tuple[list[str], str]:
+        try:
+            self._process.stdin.write(line.encode("ascii") + b"\n")
+        except BrokenPipeError:
+            self._raise_ended()
+        lines: list[str] = []
+        while True:
+            reply = self._replies.readline().decode("ascii")
+            if not reply.endswith("\n"):
                 self._raise_ended()
-            lines: list[str] = []
-            while True:
-                reply = self._replies.readline().decode("ascii")
-                if not reply.endswith("\n"):
-                    self._raise_ended()
-                word, _, rest = reply.rstrip("\n").partition(" ")
-                if word == "ok":
-                    return lines, rest
-                if word == "error":
-                    raise Refused(rest)
-                lines.append(reply.rstrip("\n"))
+            word, _, rest = reply.rstrip("\n").partition(" ")
+            if word == "ok":
+                return lines, rest
+            if word == "error":
+                raise Refused(rest)
+            lines.append(reply.rstrip("\n"))
 
     def _raise_ended(self) -> None:
         message = self._process.stderr.read().decode("utf-8", "replace")

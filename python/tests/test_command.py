@@ -2,6 +2,7 @@
 import os
 import pty
 import re
+import resource
 import shutil
 import subprocess
 import sys
@@ -96,6 +97,20 @@ def test_refusals(tmp_path, name):
     ran = subprocess.run(command, cwd=tmp_path, env=environment, capture_output=True, text=True)
     assert ran.returncode == status and text in ran.stderr and "Traceback" not in ran.stderr
     assert not list(tmp_path.iterdir())
+
+
+@pytest.mark.parametrize("most, text", [(300_000, "File too large"), (1_000_000, "ulimit -f"), (2_000_000, "File too large")])
+def test_a_full_disk_leaves_no_half_file(run_isomesh, tmp_path, most, text):
+    """First the volume, then the program's mesh, then the file of the mesh is longer than any file may be."""
+    ran = run_isomesh(HEAD, "--level", "100.5", "-o", tmp_path / "a.stl", preexec_fn=lambda: resource.setrlimit(resource.RLIMIT_FSIZE, (most, most)))
+    assert ran.returncode == 1 and text in ran.stderr and "Traceback" not in ran.stderr
+    assert not list(tmp_path.iterdir())
+
+
+def test_negative_levels_and_paddings(run_isomesh, tmp_path):
+    np.save(tmp_path / "a.npy", np.random.default_rng(0).integers(-1000, 1000, (5, 5, 5)).astype(np.int16))
+    ran = run_isomesh(tmp_path / "a.npy", "--level", "-500.5", "--pad", "-1024", "-o", tmp_path / "a.ply")
+    assert ran.returncode == 0, ran.stderr
 
 
 def test_no_program(run_isomesh, tmp_path):

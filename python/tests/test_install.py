@@ -7,6 +7,7 @@ import subprocess
 import sys
 
 import pytest
+from isobench import _program
 
 PYTHON = pathlib.Path(__file__).resolve().parents[1]
 EXAMPLES = PYTHON.parent / "examples"
@@ -28,7 +29,7 @@ def test_pip_installs_it(tmp_path, compiler):
     installed = tmp_path / "packages" / "isobench"
     assert (installed / "_ply_reader.so").exists() == (compiler == "cc")
     assert {path.name for path in installed.glob("*.py")} == {path.name for path in (PYTHON / "isobench").glob("*.py")}
-    environment = {**os.environ, "PYTHONPATH": str(tmp_path / "packages")}
+    environment = {**os.environ, "PYTHONPATH": str(tmp_path / "packages"), "ISOBENCH": _program.program()}
     command = [tmp_path / "packages" / "bin" / "isomesh", EXAMPLES / "knot.nrrd", "--level", "100.5", "-o", tmp_path / "knot.ply"]
     ran = subprocess.run([sys.executable, *command], cwd=tmp_path, env=environment, capture_output=True, text=True)
     assert ran.stdout == f"{tmp_path}/knot.ply: 18626 vertices, 37252 triangles\n", ran.stderr

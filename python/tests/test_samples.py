@@ -67,6 +67,8 @@ def volumes():
         "whole numbers as floats": (whole.astype(np.float32), 12.3456),
         "int16, four decimals": (whole.astype(np.int16), 12.3456),
         "int32, four decimals": (whole.astype(np.int32) * 1_000_000, 12.3456),
+        "int32, small, four decimals": (whole.astype(np.int32), 12.3456),
+        "great whole floats, four decimals": (whole * 1e6, 12.3456),
         "uint8, four decimals": (random.integers(90, 110, (24, 24, 24)).astype(np.uint8), 99.9999),
     }
 
@@ -109,6 +111,12 @@ def test_a_far_padding_takes_no_room(waves):
     at = near.thousandths[inside]
     is_within = ((at >= 0) & (at <= 1000 * (np.array(waves.shape[::-1]) - 1))).all(1)
     assert np.abs(at[is_within] - far.thousandths[inside][is_within]).max() <= 1
+
+
+def test_a_fraction_as_padding():
+    volume = np.full((2, 2, 2), 3, np.uint8)
+    places = extract(volume, 2.5, pad=1.5).thousandths
+    assert (places.min(), places.max()) == (-333, 1333)
 
 
 @pytest.mark.parametrize("level, words", [

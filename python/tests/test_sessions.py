@@ -196,6 +196,21 @@ def test_a_session_that_ended_or_was_closed(knot):
         session.undo()
 
 
+def test_an_interrupt_ends_the_session(knot, monkeypatch):
+    """The reply of the line that was interrupted must not be taken for that of the next one."""
+    with Session(knot, 100.5) as session:
+        def interrupted():
+            raise KeyboardInterrupt
+
+        monkeypatch.setattr(session, "_replies", type("Replies", (), {"readline": staticmethod(interrupted), "close": lambda self: None})())
+        with pytest.raises(KeyboardInterrupt):
+            session.undo()
+        monkeypatch.undo()
+        session._process.wait()
+        with pytest.raises(ProgramFailed):
+            session.report()
+
+
 def test_several_threads(knot):
     with Session(knot, 100.5) as session, concurrent.futures.ThreadPoolExecutor(4) as pool:
         wanted = session.mesh()
