@@ -5,7 +5,7 @@ use Rattle.iso_defs.specs.Bytes.{line_feed, space}
 
 -- the version of the programs
 abbrev pub version : List ℕ
-version = codes "1.0.0"
+version = codes "1.1.0"
 
 -- whether a word is one of the commands
 abbrev pub is_among : List ℕ → List (List ℕ) → Bool

@@ -8,7 +8,7 @@ ghost use Rattle.program_words.specs.Questions.{asks_help, asks_version, is_amon
 use arrayvec::ArrayString;
 
 /// The version of the programs. CHANGELOG.md says what came with each.
-const VERSION: &str = "1.0.0";
+const VERSION: &str = "1.1.0";
 
 /// Whether a word is one of the commands.
 fn is_among(command: &[u8], commands: &[&[u8]]) -> bool

@@ -64,7 +64,7 @@ fn help_is_told(rt: HostRuntime) -> Result<(), Fail> {
 #[test]
 fn the_version_is_told(rt: HostRuntime) -> Result<(), Fail> {
     let text = told(&rt, rt.alloc(), &["--version"])?;
-    assert!(rt; text.as_slice() == b"isobench 1.0.0\n".as_slice());
+    assert!(rt; text.as_slice() == b"isobench 1.1.0\n".as_slice());
     Ok(())
 }
 
