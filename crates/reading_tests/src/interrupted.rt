@@ -1,5 +1,7 @@
 //! Calls of the system that fail at first.
 
+ghost use Rattle.std.specs.Prelude.{◌≡◌, IfOk};
+
 use iso_io::{Failed, Sink, Source, StdSink, StdSource};
 use std::io::{self, ErrorKind, Read, Write};
 use std::process::Abort;
@@ -12,7 +14,9 @@ struct FailsFirst {
 }
 
 impl FailsFirst {
-    fn call(&mut self, count: usize) -> io::Result<usize> {
+    fn call(&mut self, count: usize) -> io::Result<usize>
+        ensures { IfOk result (λ n. n ≡ count) }
+    {
         if self.times == 0 {
             return Ok(count);
         }
@@ -37,33 +41,31 @@ impl Write for FailsFirst {
     }
 }
 
-/// How often a call of the system fails, for which reason, and what is answered to the first call and the next.
-const CALLS: &[(u32, ErrorKind, [Result<usize, Failed>; 2])] = &[
-    (0, ErrorKind::Interrupted, [Ok(3), Ok(3)]),
-    (100, ErrorKind::Interrupted, [Ok(3), Ok(3)]),
-    (101, ErrorKind::Interrupted, [Err(Failed), Ok(3)]),
-    (1, ErrorKind::WouldBlock, [Err(Failed), Ok(3)]),
-    (1, ErrorKind::BrokenPipe, [Err(Failed), Ok(3)]),
-];
-
-fn check_reads(rt: &impl Abort, times: u32, kind: ErrorKind, wants: &[Result<usize, Failed>]) {
+/// What is read first, and then.
+fn check_reads(rt: &impl Abort, times: u32, kind: ErrorKind, want: Result<usize, Failed>) {
     let mut source = StdSource::new(FailsFirst { times, kind });
-    for want in wants {
-        assert!(rt; source.read(&mut [0; 3]) == *want, "{times}");
-    }
+    assert!(rt; source.read(&mut [0; 3]) == want, "{times}");
+    assert!(rt; source.read(&mut [0; 3]) == Ok(3), "{times}");
 }
 
-fn check_writes(rt: &impl Abort, times: u32, kind: ErrorKind, wants: &[Result<usize, Failed>]) {
+/// What is written first, and then.
+fn check_writes(rt: &impl Abort, times: u32, kind: ErrorKind, want: Result<usize, Failed>) {
     let mut sink = StdSink::new(FailsFirst { times, kind });
-    for want in wants {
-        assert!(rt; sink.write(b"abc") == *want, "{times}");
-    }
+    assert!(rt; sink.write(b"abc") == want, "{times}");
+    assert!(rt; sink.write(b"abc") == Ok(3), "{times}");
+}
+
+/// The system fails so often, for one reason: what is answered to the first call.
+fn check(rt: &impl Abort, times: u32, kind: ErrorKind, want: Result<usize, Failed>) {
+    check_reads(rt, times, kind, want);
+    check_writes(rt, times, kind, want);
 }
 
 #[test]
 fn a_call_is_tried_again_where_a_signal_interrupted_it(rt: HostRuntime) {
-    for (times, kind, wants) in CALLS {
-        check_reads(&rt, *times, *kind, wants);
-        check_writes(&rt, *times, *kind, wants);
-    }
+    check(&rt, 0, ErrorKind::Interrupted, Ok(3));
+    check(&rt, 100, ErrorKind::Interrupted, Ok(3));
+    check(&rt, 101, ErrorKind::Interrupted, Err(Failed));
+    check(&rt, 1, ErrorKind::WouldBlock, Err(Failed));
+    check(&rt, 1, ErrorKind::BrokenPipe, Err(Failed));
 }
