@@ -20,3 +20,4 @@ pub mod AddedLaws
 pub mod FirstLaws
 pub mod BegunLaws
 pub mod ComponentLaws
+pub mod AskedLaws

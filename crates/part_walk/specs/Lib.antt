@@ -8,3 +8,4 @@ pub mod Begun
 pub mod Components
 pub mod Shares
 pub mod Local
+pub mod Asked

@@ -1,12 +1,13 @@
 //! The numbers of a mesh and of its components.
 
-ghost use Rattle.std.specs.Prelude.{◌≡◌, ℕ, ◌<◌, All, IfOk, length, map, slice_index_or};
+ghost use Rattle.std.specs.Prelude.{◌≡◌, ℕ, ◌+◌, ◌*◌, ◌<◌, ◌≤◌, All, IfOk, length, map, slice_index_or};
 ghost use Rattle.indexmap.specs.IndexMap.{values};
+ghost use Rattle.iso_defs.specs.Bricks.{brick_count};
 ghost use Rattle.iso_defs.specs.Scratch.{triangles, vertices};
 ghost use Rattle.iso_base.specs.Shifted.{field};
 ghost use Rattle.mesh_report.specs.Report.{summary_of};
 ghost use Rattle.span_tree.specs.Spans.{IsRightFor};
-ghost use Rattle.stitch_rows.specs.Named.{NamesCases};
+ghost use Rattle.stitch_rows.specs.Named.{NamesCases, asked_among};
 ghost use Rattle.part_walk.specs.Counts.{AreFew, part_with};
 ghost use Rattle.part_walk.specs.declared.components.Component.{Component as ComponentOf};
 ghost use Rattle.part_walk.specs.declared.tally.Counts.{Counts as CountsOf};
@@ -58,7 +59,8 @@ fn parts_of(alloc: Global, components: &[Component<Counts>]) -> Result<IndexMap<
     Ok(parts)
 }
 
-/// The numbers of the mesh of a volume at a level, and of each of its components.
+/// The numbers of the mesh of a volume at a level, and of each of its components. Each row of an active brick is asked for at
+/// most once, and no other row.
 pub fn part_numbers<R: CellRows, L: Ledger>(
     alloc: Global,
     store: &BrickStore,
@@ -69,9 +71,13 @@ pub fn part_numbers<R: CellRows, L: Ledger>(
 ) -> Result<Report, Memory>
     requires tree { IsRightFor tree.now store.now }
     requires named { NamesCases (R.named rows.old) store.now.grid (field store.now.samples level) }
-    ensures { IfOk result (λ r. r ≡ summary_of
+    ensures report { IfOk result (λ r. r ≡ summary_of
         (length (vertices store.now.grid (field store.now.samples level)))
         (triangles store.now.grid (field store.now.samples level))) }
+    ensures same { R.named rows.new ≡ R.named rows.old }
+    ensures least { steps.old ≤ steps.new }
+    ensures most { steps.new ≤ steps.old + 512 * asked_among store.now.grid (field store.now.samples level)
+        (R.named rows.old) 0 (brick_count store.now.grid) }
 {
     // Reading the sizes brings in what is true of every volume.
     let _ = store.sizes();

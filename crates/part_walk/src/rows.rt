@@ -3,13 +3,14 @@
 ghost use Rattle.std.specs.Prelude.{◌≡◌, ℕ, ◌+◌, ◌*◌, ◌<◌, ◌≤◌, IfOk, OnOk, length};
 ghost use Rattle.flat_mesh.specs.Lattice.{heights};
 ghost use Rattle.flat_mesh.specs.Rows.{row_start};
-ghost use Rattle.iso_defs.specs.Bricks.{bricks_along};
+ghost use Rattle.iso_defs.specs.Bricks.{brick_count, bricks_along};
 ghost use Rattle.span_tree.specs.Spans.{IsRightFor};
 ghost use Rattle.iso_base.specs.Shifted.{field as field_of};
 ghost use Rattle.stitch_rows.specs.Bricks.{AreMarked};
-ghost use Rattle.stitch_rows.specs.Named.{NamesCases};
+ghost use Rattle.stitch_rows.specs.Named.{NamesCases, asked_among};
 ghost use Rattle.stitch_rows.specs.Rows.{at_level};
 ghost use Rattle.mesh_rows.specs.Rows.{AreCases};
+ghost use Rattle.part_walk.specs.Asked.{asked_at, asked_before};
 ghost use Rattle.part_walk.specs.Components.{IsWhole};
 ghost use Rattle.part_walk.specs.Rows.{IsAt, first_point};
 ghost use Rattle.part_walk.specs.Walks.{IsWalked, loops_before};
@@ -133,6 +134,9 @@ impl<'a, T: Tally> RowWalk<'a, T> {
         requires state { let v = self.old.field in let at = self.old.active in
             IsAt T.value T.fits T.of_loop v (at.y + v.grid.ny * at.z) (row_start v.grid at.y at.z) self.old }
         ensures same { R.named rows.new ≡ R.named rows.old }
+        ensures least { steps.old ≤ steps.new }
+        ensures most { let at = self.old.active in
+            steps.new ≤ steps.old + 8 * asked_at self.old.field (R.named rows.old) at.z at.y }
         ensures active { self.new.active ≡ self.old.active }
         ensures state { let v = self.old.field in let at = self.old.active in
             OnOk result (IsAt T.value T.fits T.of_loop v (at.y + v.grid.ny * at.z)
@@ -164,6 +168,8 @@ impl<'a, T: Tally> RowWalk<'a, T> {
         requires state { IsAt T.value T.fits T.of_loop self.old.field (y + self.old.field.grid.ny * z)
             (row_start self.old.field.grid y z) self.old }
         ensures same { R.named rows.new ≡ R.named rows.old }
+        ensures least { steps.old ≤ steps.new }
+        ensures most { steps.new ≤ steps.old + 8 * asked_at self.old.field (R.named rows.old) z y }
         ensures state { OnOk result (IsAt T.value T.fits T.of_loop self.old.field
             (y + self.old.field.grid.ny * z + 1) (row_start self.old.field.grid y z + self.old.field.grid.nx)
             self.new) }
@@ -189,7 +195,10 @@ impl<'a, T: Tally> RowWalk<'a, T> {
         requires named { NamesCases (R.named rows.old) self.old.field.grid (heights self.old.field) }
         requires state { IsAt T.value T.fits T.of_loop self.old.field (self.old.field.grid.ny * z)
             (row_start self.old.field.grid 0 z) self.old }
-        ensures same { OnOk result (R.named rows.new ≡ R.named rows.old) }
+        ensures same { R.named rows.new ≡ R.named rows.old }
+        ensures least { steps.old ≤ steps.new }
+        ensures most { let v = self.old.field in
+            steps.new ≤ steps.old + 8 * asked_before v (R.named rows.old) z v.grid.ny }
         ensures state { OnOk result (IsAt T.value T.fits T.of_loop self.old.field (self.old.field.grid.ny * (z + 1))
             (row_start self.old.field.grid 0 (z + 1)) self.new) }
     {
@@ -201,7 +210,7 @@ impl<'a, T: Tally> RowWalk<'a, T> {
     }
 }
 
-/// Labels the loops of all cells.
+/// Labels the loops of all cells. Each row of an active brick is asked for at most once, and no other row.
 pub fn walk<T: Tally, R: CellRows, L: Ledger>(
     alloc: Global,
     store: &BrickStore,
@@ -212,8 +221,12 @@ pub fn walk<T: Tally, R: CellRows, L: Ledger>(
 ) -> Result<Walked<T>, Memory>
     requires tree { IsRightFor tree.now store.now }
     requires named { NamesCases (R.named rows.old) store.now.grid (field_of store.now.samples level) }
-    ensures { IfOk result (λ w. IsWhole T.value T.fits T.of_loop (at_level store.now level) w.labels w.tallies.items
-        w.edges) }
+    ensures whole { IfOk result (λ w. IsWhole T.value T.fits T.of_loop (at_level store.now level) w.labels
+        w.tallies.items w.edges) }
+    ensures same { R.named rows.new ≡ R.named rows.old }
+    ensures least { steps.old ≤ steps.new }
+    ensures most { steps.new ≤ steps.old + 512 * asked_among store.now.grid (field_of store.now.samples level)
+        (R.named rows.old) 0 (brick_count store.now.grid) }
 {
     let sizes = store.sizes();
     let walked = Walked::new(alloc, sizes)?;

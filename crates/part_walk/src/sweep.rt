@@ -2,7 +2,8 @@
 //!
 //! Why: DECISIONS.md, "Report and measures without a mesh".
 
-ghost use Rattle.std.specs.Prelude.{◌≡◌, ℕ, ◌+◌, ◌<◌, ◌^◌, ◌+ℤ◌, IfOk, length};
+ghost use Rattle.std.specs.Prelude.{◌≡◌, ℕ, ◌+◌, ◌*◌, ◌<◌, ◌≤◌, ◌^◌, ◌+ℤ◌, IfOk, length};
+ghost use Rattle.iso_defs.specs.Bricks.{brick_count};
 ghost use Rattle.cell_loops.specs.Loops.{IsLoop};
 ghost use Rattle.flat_mesh.specs.Centres.{IsCellAt};
 ghost use Rattle.part_laws.specs.Loops.{Loop};
@@ -11,7 +12,7 @@ ghost use Rattle.mesh_measures.specs.Printed.{measures_at};
 ghost use Rattle.iso_base.specs.Shifted.{field as field_of};
 ghost use Rattle.span_tree.specs.Spans.{IsRightFor};
 ghost use Rattle.part_walk.specs.Sweep.{AreSmall, measure_at, measured_of};
-ghost use Rattle.stitch_rows.specs.Named.{NamesCases};
+ghost use Rattle.stitch_rows.specs.Named.{NamesCases, asked_among};
 
 use crate::borders::border_steps;
 use crate::components::components;
@@ -100,7 +101,8 @@ impl Tally for Swept {
     }
 }
 
-/// The measures of the mesh of a volume at a level, at the positions that are printed.
+/// The measures of the mesh of a volume at a level, at the positions that are printed. Each row of an active brick is asked for
+/// at most once, and no other row.
 pub fn part_measures<R: CellRows, L: Ledger>(
     alloc: Global,
     store: &BrickStore,
@@ -111,7 +113,11 @@ pub fn part_measures<R: CellRows, L: Ledger>(
 ) -> Result<Measures, Memory>
     requires tree { IsRightFor tree.now store.now }
     requires named { NamesCases (R.named rows.old) store.now.grid (field_of store.now.samples level) }
-    ensures { IfOk result (λ m. m ≡ measures_at store.now level) }
+    ensures measures { IfOk result (λ m. m ≡ measures_at store.now level) }
+    ensures same { R.named rows.new ≡ R.named rows.old }
+    ensures least { steps.old ≤ steps.new }
+    ensures most { steps.new ≤ steps.old + 512 * asked_among store.now.grid (field_of store.now.samples level)
+        (R.named rows.old) 0 (brick_count store.now.grid) }
 {
     // Reading the sizes brings in what is true of every volume.
     let _ = store.sizes();

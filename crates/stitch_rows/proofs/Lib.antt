@@ -15,3 +15,5 @@ pub mod Corners
 pub mod EightLanes
 pub mod OneSide
 pub mod EdgeEnds
+pub mod Uptos
+pub mod AskedAll

@@ -22,7 +22,7 @@ use Rattle.stitch_rows.proofs.QuietBricks.{unmixed_loops}
 use Rattle.mesh_rows.specs.declared.counts.Counts.{Counts}
 use Rattle.mesh_rows.specs.Counts.{AreCounts, centres_among, triangles_among}
 use Rattle.store_rows.proofs.BrickSums.{of_all, span_sum}
-use Rattle.store_rows.proofs.Uptos.{upto, upto_append, upto_low, upto_more, zeros}
+use Rattle.stitch_rows.proofs.Uptos.{upto, upto_append, upto_low, upto_more, zeros}
 
 none_pass : (p : ℕ → Bool) (xs : List ℕ) → list_any p xs ≡ false → filter p xs ≡ []
 none_pass p [] none = refl

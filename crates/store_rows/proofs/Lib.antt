@@ -1,4 +1,3 @@
-pub mod Uptos
 pub mod BrickSums
 pub mod BrickCounts
 pub mod AskedRows

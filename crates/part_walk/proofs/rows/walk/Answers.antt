@@ -1,11 +1,14 @@
-use Rattle.std.proofs.Common.{◌≡◌, ◌∙◌, ◌+◌, ◌*◌, ℕ, refl, sym, ap, subst, arith}
+use Rattle.std.proofs.Common.{◌≡◌, ◌∙◌, ◌+◌, ◌*◌, ◌≤◌, ℕ, refl, sym, ap, subst, arith}
+use Rattle.iso_defs.specs.Bricks.{brick_count}
 use Rattle.iso_defs.specs.Grid.{Grid}
 use Rattle.iso_base.specs.Sizing.{IsGrid}
 use Rattle.flat_mesh.specs.Lattice.{Leveled, heights}
 use Rattle.flat_mesh.specs.Rows.{row_start}
-use Rattle.stitch_rows.specs.Named.{NamesCases}
+use Rattle.stitch_rows.specs.Named.{Named, NamesCases, asked_among}
 use Rattle.stitch_rows.specs.Rows.{at_level}
+use Rattle.part_walk.specs.Asked.{asked_before, asked_below}
 use Rattle.part_walk.specs.Rows.{IsAt}
+use Rattle.part_walk.proofs.AskedLaws.{all_asked, slice_more, slices_grow}
 use Rattle.part_walk.proofs.RowLaws.{at_moved, moved, whole_of}
 use Rattle.part_walk.proofs.rows.walk.Goals as goal
 
@@ -17,6 +20,8 @@ loop-z-init g c =
     let nx : c.nx.result ≡ v.grid.nx = c.nx.ensures.value ∙ ap (λ (s : Grid). s.nx) (sym grid) in
     record {
       same = refl;
+      least = omega arith;
+      most = omega arith;
       at = record {
         field = refl;
         active = c.new-3.ensures v (subst IsGrid (sym grid) c.nx.ensures.grid);
@@ -43,13 +48,20 @@ walk_slice-requires-clause-state g c =
 pub loop-z-preserved : goal.loop-z-preserved
 loop-z-preserved g c =
     let z : ℕ = c.loop-z.z in
+    let v = c.new-2.result in
+    let names : Named = g.R.CellRows.named c.args.rows.now in
+    let one : c.walk_slice.new.steps ≤ c.loop-z.steps + 8 * asked_before v names z v.grid.ny
+    = subst (λ (u : Leveled). c.walk_slice.new.steps ≤ c.loop-z.steps + 8 * asked_before u names z u.grid.ny) c.loop-z.invariant.at.field
+    (subst (λ (n : Named). c.walk_slice.new.steps ≤ c.loop-z.steps + 8 * asked_before c.loop-z.walk.field n z c.loop-z.walk.field.grid.ny) c.loop-z.invariant.same c.in_ok-walk_slice.ensures.most) in
     record {
       same = c.in_ok-walk_slice.ensures.same ∙ c.loop-z.invariant.same;
+      least = omega (arith, c.loop-z.invariant.least, c.in_ok-walk_slice.ensures.least);
+      most = omega (arith, one, slice_more v names z, c.loop-z.invariant.most);
       at = subst (λ (v : Leveled). IsAt g.T.Tally.value g.T.Tally.fits g.T.Tally.of_loop v (v.grid.ny * (z + 1)) (row_start v.grid 0 (z + 1)) c.walk_slice.new.self) c.loop-z.invariant.at.field c.in_ok-walk_slice.ensures.state;
     }
 
-pub returns : goal.returns
-returns g c =
+pub returns-clause-whole : goal.returns-clause-whole
+returns-clause-whole g c =
     let v = at_level c.args.store.now c.args.level in
     let l = c.loop-z.walk.walked in
     let nz = c.nz-z-end.ensures.value ∙ ap (λ (s : Grid). s.nz) c.sizes-sizes.ensures.value in
@@ -59,3 +71,29 @@ returns g c =
     whole_of g.T.Tally.value g.T.Tally.fits g.T.Tally.of_loop v l.labels l.tallies.items l.edges (subst IsGrid c.sizes-sizes.ensures.value c.nx.ensures.grid)
     (at_moved g.T.Tally.value g.T.Tally.fits g.T.Tally.of_loop v (v.grid.ny * c.loop-z.z) (v.grid.ny * v.grid.nz) (row_start v.grid 0 c.loop-z.z) (row_start v.grid 0 v.grid.nz) c.loop-z.walk
     (ap (λ n. v.grid.ny * n) z) (ap (λ n. row_start v.grid 0 n) z) h).walked
+
+pub returns-in_err-walk_slice-clause-most : goal.returns-in_err-walk_slice-clause-most
+returns-in_err-walk_slice-clause-most g c =
+    let z : ℕ = c.loop-z.z in
+    let v = c.new-2.result in
+    let names : Named = g.R.CellRows.named c.args.rows.now in
+    let grid : v.grid ≡ c.sizes-sizes.result = ap (λ (w : Leveled). w.grid) c.new-2.ensures ∙ sym c.sizes-sizes.ensures.value in
+    let nz : c.nz-z-end.result ≡ v.grid.nz = c.nz-z-end.ensures.value ∙ ap (λ (s : Grid). s.nz) (sym grid) in
+    let one : c.walk_slice.new.steps ≤ c.loop-z.steps + 8 * asked_before v names z v.grid.ny
+    = subst (λ (u : Leveled). c.walk_slice.new.steps ≤ c.loop-z.steps + 8 * asked_before u names z u.grid.ny) c.loop-z.invariant.at.field
+    (subst (λ (n : Named). c.walk_slice.new.steps ≤ c.loop-z.steps + 8 * asked_before c.loop-z.walk.field n z c.loop-z.walk.field.grid.ny) c.loop-z.invariant.same c.walk_slice.ensures.most) in
+    let grow = slices_grow v names (z + 1) v.grid.nz (omega (arith, c.loop-z-test.true, nz)) in
+    let all = all_asked v names (subst IsGrid (sym grid) c.nx.ensures.grid) in
+    let same = ap (λ (w : Leveled). asked_among w.grid (heights w) names 0 (brick_count w.grid)) c.new-2.ensures in
+    omega (arith, one, slice_more v names z, grow, c.loop-z.invariant.most, all, same)
+
+pub returns-clause-most : goal.returns-clause-most
+returns-clause-most g c =
+    let v = c.new-2.result in
+    let names : Named = g.R.CellRows.named c.args.rows.now in
+    let grid : v.grid ≡ c.sizes-sizes.result = ap (λ (w : Leveled). w.grid) c.new-2.ensures ∙ sym c.sizes-sizes.ensures.value in
+    let nz : c.nz-z-end.result ≡ v.grid.nz = c.nz-z-end.ensures.value ∙ ap (λ (s : Grid). s.nz) (sym grid) in
+    let z : c.loop-z.z ≡ v.grid.nz = omega (arith, c.loop-z.auto.z-end, c.loop-z-test.false, nz) in
+    let all = all_asked v names (subst IsGrid (sym grid) c.nx.ensures.grid) in
+    let same = ap (λ (w : Leveled). asked_among w.grid (heights w) names 0 (brick_count w.grid)) c.new-2.ensures in
+    omega (arith, c.loop-z.invariant.most, ap (asked_below v names) z, all, same)

@@ -1,5 +1,6 @@
-use Rattle.std.proofs.Common.{◌≡◌, ◌*◌}
+use Rattle.std.proofs.Common.{◌≡◌, ◌+◌, ◌*◌, ◌≤◌}
 use Rattle.flat_mesh.specs.Rows.{row_start}
+use Rattle.part_walk.specs.Asked.{asked_below}
 use Rattle.part_walk.specs.Rows.{IsAt}
 use Rattle.part_walk.proofs.rows.walk.Given as goal
 
@@ -8,5 +9,7 @@ invariant-loop-z g l =
     let v = l.initial.walk.field in
     record {
       same : g.R.CellRows.named l.rows ≡ g.R.CellRows.named l.initial.rows;
+      least : l.initial.steps ≤ l.steps;
+      most : l.steps ≤ l.initial.steps + 8 * asked_below v (g.R.CellRows.named l.initial.rows) l.z;
       at : IsAt g.T.Tally.value g.T.Tally.fits g.T.Tally.of_loop v (v.grid.ny * l.z) (row_start v.grid 0 l.z) l.walk;
     }

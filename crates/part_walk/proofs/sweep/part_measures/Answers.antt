@@ -10,13 +10,13 @@ use Rattle.part_walk.proofs.sweep.part_measures.Goals as goal
 pub shares_of-requires : goal.shares_of-requires
 shares_of-requires g c =
     let v = at_level c.args.store.now c.args.level in
-    let are : AreComponents measure_at AreSmall measured_of v c.in_ok-components.components.items = c.in_ok-components.ensures v c.in_ok-walked.ensures in
+    let are : AreComponents measure_at AreSmall measured_of v c.in_ok-components.components.items = c.in_ok-components.ensures v c.in_ok-walked.ensures.whole in
     subst (All CanMove) (sym c.as_slice.ensures.value) (components_move v c.in_ok-components.components.items are c.sizes.ensures.volume.grid)
 
-pub returns : goal.returns
-returns g c =
+pub returns-clause-measures : goal.returns-clause-measures
+returns-clause-measures g c =
     let v = at_level c.args.store.now c.args.level in
-    let are : AreComponents measure_at AreSmall measured_of v c.in_ok-components.components.items = c.in_ok-components.ensures v c.in_ok-walked.ensures in
+    let are : AreComponents measure_at AreSmall measured_of v c.in_ok-components.components.items = c.in_ok-components.ensures v c.in_ok-walked.ensures.whole in
     c.new.ensures
     ∙ (c.in_ok-shares.ensures
     ∙ (ap₂ (λ b cs. map (share_at b) cs) (c.is_some.ensures ∙ ap is_some c.pad.ensures.value) c.as_slice.ensures.value

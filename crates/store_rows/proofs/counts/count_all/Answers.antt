@@ -5,7 +5,7 @@ use Rattle.stitch_rows.specs.Named.{Named, asked_among, counts_of_entries, row_c
 use Rattle.mesh_rows.specs.declared.counts.Counts.{Counts}
 use Rattle.stitch_rows.proofs.Asked.{asked_more, asked_one}
 use Rattle.store_rows.proofs.BrickCounts.{all_counted, asked_grow, brick_centres, brick_triangles, centres_fit, centres_stay, one_more, triangles_fit, triangles_stay}
-use Rattle.store_rows.proofs.Uptos.{upto}
+use Rattle.stitch_rows.proofs.Uptos.{upto}
 use Rattle.store_rows.proofs.counts.count_all.Goals as goal
 
 pub loop-brick-init : goal.loop-brick-init

@@ -3,7 +3,7 @@ use Rattle.iso_defs.specs.Bricks.{brick_count, is_active}
 use Rattle.flat_mesh.specs.Lattice.{heights}
 use Rattle.stitch_rows.specs.Named.{asked_among}
 use Rattle.store_rows.proofs.BrickCounts.{brick_centres, brick_triangles}
-use Rattle.store_rows.proofs.Uptos.{upto}
+use Rattle.stitch_rows.proofs.Uptos.{upto}
 use Rattle.store_rows.proofs.counts.count_all.Given as goal
 
 abbrev pub invariant-loop-brick : goal.invariant-loop-brick

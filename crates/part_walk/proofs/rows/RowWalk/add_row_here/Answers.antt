@@ -2,7 +2,9 @@ use Rattle.std.proofs.Common.{◌≡◌, ◌∙◌, ◌+◌, ◌*◌, ◌<◌, l
 use Rattle.iso_defs.specs.Grid.{Grid}
 use Rattle.flat_mesh.specs.Rows.{row_start}
 use Rattle.mesh_rows.specs.Rows.{AreCases}
+use Rattle.stitch_rows.specs.Named.{Named}
 use Rattle.part_walk.specs.Walks.{IsWalked, loops_before}
+use Rattle.part_walk.proofs.AskedLaws.{asked_inner}
 use Rattle.part_walk.proofs.RowLaws.{all_written, quiet_to}
 use Rattle.part_walk.proofs.rows.RowWalk.add_row_here.Goals as goal
 use Rattle.part_walk.proofs.rows.RowWalk.add_row_here.Goals.{then-y-ny-via-then-y-ny, then-y-ny-via-else-y-ny+then-z-nz}
@@ -44,3 +46,21 @@ returns-clause-state g c =
       count = ap length (all_written cases.len cases.items c.case_row.new.cases cases.ok.0 size) ∙ (size ∙ c.requires.state.count);
       walked = c.in_ok-add_row.ensures;
     }
+
+pub returns-in_err-add_row-clause-most : goal.returns-in_err-add_row-clause-most
+returns-in_err-add_row-clause-most g c =
+    let v = c.args.self.now.field in
+    let at = c.args.self.now.active in
+    let names : Named = g.R.CellRows.named c.args.rows.now in
+    let ny : c.ny.result ≡ v.grid.ny = c.ny.ensures.value ∙ ap (λ (s : Grid). s.ny) c.sizes-sizes.ensures.value in
+    let nz : c.nz.result ≡ v.grid.nz = c.nz.ensures.value ∙ ap (λ (s : Grid). s.nz) c.sizes-sizes.ensures.value in
+    omega (arith, c.case_row.ensures.most, asked_inner v names at.z at.y (omega (arith, c.if-y-ny.false, ny)) (omega (arith, c.if-z-nz.false, nz)))
+
+pub returns-clause-most : goal.returns-clause-most
+returns-clause-most g c =
+    let v = c.args.self.now.field in
+    let at = c.args.self.now.active in
+    let names : Named = g.R.CellRows.named c.args.rows.now in
+    let ny : c.ny.result ≡ v.grid.ny = c.ny.ensures.value ∙ ap (λ (s : Grid). s.ny) c.sizes-sizes.ensures.value in
+    let nz : c.nz.result ≡ v.grid.nz = c.nz.ensures.value ∙ ap (λ (s : Grid). s.nz) c.sizes-sizes.ensures.value in
+    omega (arith, c.case_row.ensures.most, asked_inner v names at.z at.y (omega (arith, c.if-y-ny.false, ny)) (omega (arith, c.if-z-nz.false, nz)))
