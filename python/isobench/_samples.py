@@ -45,7 +45,10 @@ class Scale:
 
     def value_of(self, value: float) -> int:
         """The integer of a sample's value."""
-        value = float(value)
+        try:
+            value = float(value)
+        except (TypeError, OverflowError) as fault:
+            raise ValueError(f"the value {value!r} is not a number") from fault
         if math.isnan(value):
             raise ValueError("the value is no number (NaN)")
         if self.is_exact:
@@ -124,9 +127,13 @@ def checked_pad(pad: float | str | None, level: float) -> float | str | None:
     """A padding, if there is one below the level, or ``"auto"``."""
     if pad is None or isinstance(pad, str) and pad == "auto":
         return pad
-    if isinstance(pad, str) or not float(pad) < level:
+    try:
+        number = math.nan if isinstance(pad, str) else float(pad)
+    except (TypeError, OverflowError):
+        number = math.nan
+    if not number < level:
         raise ValueError(f"pad is {pad!r}: it must be a number below the level {level}, 'auto' or None")
-    return pad
+    return number
 
 
 def samples_of(volume: np.ndarray, level: float, pad: float | str | None = None, room: float = 1.0) -> Samples:
@@ -163,7 +170,7 @@ def samples_of(volume: np.ndarray, level: float, pad: float | str | None = None,
         raise ValueError("some samples are no numbers (NaN): give them a value below the level, as in np.nan_to_num(volume, nan=..)")
     reach = max(abs(float(least) - level), abs(float(greatest) - level))
     whole = _whole(array, least, greatest)
-    is_exact = thousandths_of(level)[1] and (pad is None or isinstance(pad, str) or float(pad).is_integer())
+    is_exact = thousandths_of(level)[1] and (pad is None or isinstance(pad, str) or pad.is_integer())
     # Where samples are far from the level, its next three decimals move a vertex less than a scale does.
     if whole is not None and (is_exact or reach >= FAR):
         return Samples(whole)
@@ -220,7 +227,7 @@ def _scaled(array: np.ndarray, level: float, pad: float | str | None, reach: flo
     distance that the nearer end of a crossing edge has. No vertex moves by that, since on such an edge it lies within
     half a thousandth of the nearer end anyway. Infinite samples are cut off likewise.
     """
-    far = 0.0 if pad is None or isinstance(pad, str) else abs(float(pad) - level)
+    far = 0.0 if pad is None or isinstance(pad, str) else abs(pad - level)
     reach = max(far, reach)
     usual = float(np.median(np.abs(_from_level(_some_of(array), level))))
     is_cut = not math.isfinite(reach) or reach > OUTLIER * usual
