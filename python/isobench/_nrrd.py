@@ -12,6 +12,7 @@ import shutil
 import subprocess
 import tempfile
 import zlib
+from typing import BinaryIO
 
 import numpy as np
 
@@ -97,12 +98,13 @@ def _vectors_of(text: str) -> list[list[float] | None]:
     return [None if word == "none" else [float(number) for number in word[1:-1].split(",")] for word in words]
 
 
-def _fields_of(file, path: str) -> dict[str, str]:
+def _fields_of(file: BinaryIO, path: str) -> dict[str, str]:
     """The fields of a header, up to the blank line behind it, where the file then stands."""
     if not file.readline(80).startswith(b"NRRD000"):
         raise ValueError(f"{path} is not an NRRD file: it does not begin with NRRD000")
-    fields, length = {}, 0
-    for line in iter(lambda: file.readline(LONGEST_HEADER), b""):
+    fields: dict[str, str] = {}
+    length = 0
+    while line := file.readline(LONGEST_HEADER):
         text, length = line.decode("utf-8", "replace").strip(), length + len(line)
         if not text:
             break
@@ -114,7 +116,7 @@ def _fields_of(file, path: str) -> dict[str, str]:
     return fields
 
 
-def _samples_of(file, path: str, fields: dict[str, str]) -> np.ndarray:
+def _samples_of(file: BinaryIO, path: str, fields: dict[str, str]) -> np.ndarray:
     """The samples of a file whose header was read."""
     try:
         kind = TYPE_OF[fields["type"].lower()]
@@ -143,7 +145,7 @@ def _samples_of(file, path: str, fields: dict[str, str]) -> np.ndarray:
     return np.frombuffer(text, dtype, math.prod(sizes)).reshape(sizes[::-1])
 
 
-def _bytes_of(file, encoding: str, length: int) -> bytes:
+def _bytes_of(file: BinaryIO, encoding: str, length: int) -> bytes:
     """So many bytes of samples, or as many as there are."""
     if encoding == "raw":
         return file.read(length)

@@ -7,6 +7,7 @@ import sys
 from dataclasses import dataclass
 
 import numpy as np
+from numpy.typing import ArrayLike
 
 TYPES = ("uint8", "int8", "uint16", "int16", "uint32", "int32")
 LEAST, GREATEST = -(2 ** 31), 2 ** 31 - 1
@@ -40,7 +41,7 @@ class Scale:
 
     def _thousandths_of(self, level: float) -> int:
         """A scaled level in thousandths; a far one is as far as the program's limit."""
-        scaled = _times(level - self.zero, self.exponent)
+        scaled = _float_times(level - self.zero, self.exponent)
         return round(1000 * min(max(scaled - 0.5, -(2.0 ** 33)), 2.0 ** 33))
 
     def value_of(self, value: float) -> int:
@@ -55,7 +56,7 @@ class Scale:
             if not value.is_integer():
                 raise ValueError(f"the value {value} is not a whole number, and all samples are")
             return int(value)
-        scaled = _times(value - self.zero, self.exponent)
+        scaled = _float_times(value - self.zero, self.exponent)
         if not (LEAST <= scaled <= GREATEST or self.is_cut or math.isinf(value)):
             least, greatest = self.values_of(np.array([LEAST, GREATEST]))
             raise ValueError(f"the value {value} is not between {least:.6g} and {greatest:.6g}, for which these samples were scaled: "
@@ -69,7 +70,7 @@ class Scale:
 
     def error(self) -> float:
         """How far at most a value lies from that which stands for it, in the units of the samples."""
-        return 0.0 if self.is_exact else float(_times(0.5, -self.exponent))
+        return 0.0 if self.is_exact else _float_times(0.5, -self.exponent)
 
 
 @dataclass(frozen=True)
@@ -136,7 +137,7 @@ def checked_pad(pad: float | str | None, level: float) -> float | str | None:
     return number
 
 
-def samples_of(volume: np.ndarray, level: float, pad: float | str | None = None, room: float = 1.0) -> Samples:
+def samples_of(volume: ArrayLike, level: float, pad: float | str | None = None, room: float = 1.0) -> Samples:
     """Integers that stand for the samples of an array.
 
     Parameters
@@ -252,8 +253,16 @@ def _scaled(array: np.ndarray, level: float, pad: float | str | None, reach: flo
     return Samples(out, Scale(False, level, exponent, is_cut))
 
 
-def _times(numbers: np.ndarray | float, exponent: int) -> np.ndarray:
-    """Numbers times a power of two, an array in place. `ldexp` is slow, and needed only where that power is no float."""
+def _float_times(number: float, exponent: int) -> float:
+    """A number times a power of two."""
+    try:
+        return math.ldexp(number, exponent)
+    except OverflowError:
+        return math.copysign(math.inf, number)
+
+
+def _times(numbers: np.ndarray, exponent: int) -> np.ndarray:
+    """Numbers times a power of two, in place. `ldexp` is slow, and needed only where that power is no float."""
     if abs(exponent) > 1000:
         return np.ldexp(numbers, exponent)
     numbers *= 2.0 ** exponent
