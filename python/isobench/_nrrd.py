@@ -79,17 +79,16 @@ def frame_of(fields: dict[str, str]) -> tuple[np.ndarray, np.ndarray]:
     ValueError
         If the header gives other than three vectors of three numbers.
     """
-    origin = _vectors_of(fields.get("space origin", ""))
-    start = np.asarray(origin[0] if origin else (0, 0, 0), float)
+    origin = next(filter(None, _vectors_of(fields.get("space origin", ""))), [0.0, 0.0, 0.0])
     vectors = _vectors_of(fields.get("space directions", ""))
     if not vectors:
         words = fields.get("spacings", "1 1 1").split()
         steps = [1.0 if number != number else number for number in map(float, words)]
         vectors = np.diag(steps).tolist()
     directions = [vector for vector in vectors if vector is not None]
-    if [len(vector) for vector in [*directions, start]] != [3, 3, 3, 3]:
+    if [len(vector) for vector in [*directions, origin]] != [3, 3, 3, 3]:
         raise ValueError("the header does not give three directions and an origin of three numbers: correct `space directions`, `space origin`")
-    return np.asarray(directions, float), start
+    return np.asarray(directions, float), np.asarray(origin, float)
 
 
 def _vectors_of(text: str) -> list[list[float] | None]:
