@@ -12,6 +12,7 @@ import shutil
 import subprocess
 import tempfile
 import zlib
+from typing import BinaryIO
 
 import numpy as np
 
@@ -78,17 +79,16 @@ def frame_of(fields: dict[str, str]) -> tuple[np.ndarray, np.ndarray]:
     ValueError
         If the header gives other than three vectors of three numbers.
     """
-    origin = _vectors_of(fields.get("space origin", ""))
-    start = np.asarray(origin[0] if origin else (0, 0, 0), float)
+    origin = next(filter(None, _vectors_of(fields.get("space origin", ""))), [0.0, 0.0, 0.0])
     vectors = _vectors_of(fields.get("space directions", ""))
     if not vectors:
         words = fields.get("spacings", "1 1 1").split()
         steps = [1.0 if number != number else number for number in map(float, words)]
         vectors = np.diag(steps).tolist()
     directions = [vector for vector in vectors if vector is not None]
-    if [len(vector) for vector in [*directions, start]] != [3, 3, 3, 3]:
+    if [len(vector) for vector in [*directions, origin]] != [3, 3, 3, 3]:
         raise ValueError("the header does not give three directions and an origin of three numbers: correct `space directions`, `space origin`")
-    return np.asarray(directions, float), start
+    return np.asarray(directions, float), np.asarray(origin, float)
 
 
 def _vectors_of(text: str) -> list[list[float] | None]:
@@ -97,12 +97,13 @@ def _vectors_of(text: str) -> list[list[float] | None]:
     return [None if word == "none" else [float(number) for number in word[1:-1].split(",")] for word in words]
 
 
-def _fields_of(file, path: str) -> dict[str, str]:
+def _fields_of(file: BinaryIO, path: str) -> dict[str, str]:
     """The fields of a header, up to the blank line behind it, where the file then stands."""
     if not file.readline(80).startswith(b"NRRD000"):
         raise ValueError(f"{path} is not an NRRD file: it does not begin with NRRD000")
-    fields, length = {}, 0
-    for line in iter(lambda: file.readline(LONGEST_HEADER), b""):
+    fields: dict[str, str] = {}
+    length = 0
+    while line := file.readline(LONGEST_HEADER):
         text, length = line.decode("utf-8", "replace").strip(), length + len(line)
         if not text:
             break
@@ -114,7 +115,7 @@ def _fields_of(file, path: str) -> dict[str, str]:
     return fields
 
 
-def _samples_of(file, path: str, fields: dict[str, str]) -> np.ndarray:
+def _samples_of(file: BinaryIO, path: str, fields: dict[str, str]) -> np.ndarray:
     """The samples of a file whose header was read."""
     try:
         kind = TYPE_OF[fields["type"].lower()]
@@ -143,7 +144,7 @@ def _samples_of(file, path: str, fields: dict[str, str]) -> np.ndarray:
     return np.frombuffer(text, dtype, math.prod(sizes)).reshape(sizes[::-1])
 
 
-def _bytes_of(file, encoding: str, length: int) -> bytes:
+def _bytes_of(file: BinaryIO, encoding: str, length: int) -> bytes:
     """So many bytes of samples, or as many as there are."""
     if encoding == "raw":
         return file.read(length)

@@ -8,6 +8,7 @@ from __future__ import annotations
 import concurrent.futures
 import ctypes
 import functools
+import mmap
 import os
 import pathlib
 import re
@@ -57,7 +58,7 @@ def counts_of(head: bytes) -> tuple[int, int, int]:
     return int(found[1]), int(found[2]), found.end()
 
 
-def read_mesh(text: bytes | memoryview) -> tuple[np.ndarray, np.ndarray]:
+def read_mesh(text: bytes | mmap.mmap) -> tuple[np.ndarray, np.ndarray]:
     """Read a mesh.
 
     Parameters
@@ -85,8 +86,8 @@ def read_mesh(text: bytes | memoryview) -> tuple[np.ndarray, np.ndarray]:
     blocks = _blocks_of(data, at, positions, faces, reader)
     threads = min(MOST_THREADS, len(data) // BYTES_PER_THREAD, len(os.sched_getaffinity(0)))
     if threads < 2:
-        for fill, text, rows in blocks:
-            fill(text, rows)
+        for fill, lines, rows in blocks:
+            fill(lines, rows)
     else:
         with concurrent.futures.ThreadPoolExecutor(threads) as pool:
             # Both readers release Python's lock. The list raises what a thread has raised.
@@ -225,7 +226,7 @@ def _fill_faces(text: np.ndarray, out: np.ndarray) -> None:
     if _fill_faces_alike(text, out):
         return
     ends = _ends_of(body, 4, len(out))
-    starts = np.concatenate(([0], ends[:-1, 3] + 1))
+    starts = np.r_[0, ends[:-1, 3] + 1]
     if (ends[:, 0] - starts != 1).any() or (body[starts] != ord("3")).any():
         raise MeshTextError("a face has other than three corners")
     spans = ends[:, 1:] - ends[:, :3]
@@ -259,7 +260,7 @@ def _fill_faces_alike(text: np.ndarray, out: np.ndarray) -> bool:
     if (rows[:, 0] != ord("3")).any():
         raise MeshTextError("a face has other than three corners")
     for corner in range(3):
-        column = np.ndarray((len(out),), WORD, text, 8 + int(ends[corner + 1]), (width,)).copy()
+        column: np.ndarray = np.ndarray((len(out),), WORD, text, 8 + int(ends[corner + 1]), (width,)).copy()
         shift = WORD(64 - 8 * lengths[corner + 1])
         column >>= shift
         column <<= shift

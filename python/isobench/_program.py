@@ -57,7 +57,7 @@ def _checked(path: str) -> str:
 def write_whole(descriptor: int, pieces: Iterable[bytes | np.ndarray]) -> None:
     """Write bytes and contiguous arrays to a file, one behind the other."""
     for piece in pieces:
-        view = memoryview(piece).cast("B")
+        view = (piece.data if isinstance(piece, np.ndarray) else memoryview(piece)).cast("B")
         while view:
             # One write of Linux takes at most 2 GiB.
             view = view[os.write(descriptor, view[:1 << 30]):]

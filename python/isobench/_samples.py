@@ -7,6 +7,7 @@ import sys
 from dataclasses import dataclass
 
 import numpy as np
+from numpy.typing import ArrayLike
 
 TYPES = ("uint8", "int8", "uint16", "int16", "uint32", "int32")
 LEAST, GREATEST = -(2 ** 31), 2 ** 31 - 1
@@ -40,19 +41,22 @@ class Scale:
 
     def _thousandths_of(self, level: float) -> int:
         """A scaled level in thousandths; a far one is as far as the program's limit."""
-        scaled = _times(level - self.zero, self.exponent)
+        scaled = _float_times(level - self.zero, self.exponent)
         return round(1000 * min(max(scaled - 0.5, -(2.0 ** 33)), 2.0 ** 33))
 
     def value_of(self, value: float) -> int:
         """The integer of a sample's value."""
-        value = float(value)
+        try:
+            value = float(value)
+        except (TypeError, OverflowError) as fault:
+            raise ValueError(f"the value {value!r} is not a number") from fault
         if math.isnan(value):
             raise ValueError("the value is no number (NaN)")
         if self.is_exact:
             if not value.is_integer():
                 raise ValueError(f"the value {value} is not a whole number, and all samples are")
             return int(value)
-        scaled = _times(value - self.zero, self.exponent)
+        scaled = _float_times(value - self.zero, self.exponent)
         if not (LEAST <= scaled <= GREATEST or self.is_cut or math.isinf(value)):
             least, greatest = self.values_of(np.array([LEAST, GREATEST]))
             raise ValueError(f"the value {value} is not between {least:.6g} and {greatest:.6g}, for which these samples were scaled: "
@@ -66,7 +70,7 @@ class Scale:
 
     def error(self) -> float:
         """How far at most a value lies from that which stands for it, in the units of the samples."""
-        return 0.0 if self.is_exact else float(_times(0.5, -self.exponent))
+        return 0.0 if self.is_exact else _float_times(0.5, -self.exponent)
 
 
 @dataclass(frozen=True)
@@ -124,12 +128,16 @@ def checked_pad(pad: float | str | None, level: float) -> float | str | None:
     """A padding, if there is one below the level, or ``"auto"``."""
     if pad is None or isinstance(pad, str) and pad == "auto":
         return pad
-    if isinstance(pad, str) or not float(pad) < level:
+    try:
+        number = math.nan if isinstance(pad, str) else float(pad)
+    except (TypeError, OverflowError):
+        number = math.nan
+    if not number < level:
         raise ValueError(f"pad is {pad!r}: it must be a number below the level {level}, 'auto' or None")
-    return pad
+    return number
 
 
-def samples_of(volume: np.ndarray, level: float, pad: float | str | None = None, room: float = 1.0) -> Samples:
+def samples_of(volume: ArrayLike, level: float, pad: float | str | None = None, room: float = 1.0) -> Samples:
     """Integers that stand for the samples of an array.
 
     Parameters
@@ -163,7 +171,7 @@ def samples_of(volume: np.ndarray, level: float, pad: float | str | None = None,
         raise ValueError("some samples are no numbers (NaN): give them a value below the level, as in np.nan_to_num(volume, nan=..)")
     reach = max(abs(float(least) - level), abs(float(greatest) - level))
     whole = _whole(array, least, greatest)
-    is_exact = thousandths_of(level)[1] and (pad is None or isinstance(pad, str) or float(pad).is_integer())
+    is_exact = thousandths_of(level)[1] and (pad is None or isinstance(pad, str) or pad.is_integer())
     # Where samples are far from the level, its next three decimals move a vertex less than a scale does.
     if whole is not None and (is_exact or reach >= FAR):
         return Samples(whole)
@@ -220,7 +228,7 @@ def _scaled(array: np.ndarray, level: float, pad: float | str | None, reach: flo
     distance that the nearer end of a crossing edge has. No vertex moves by that, since on such an edge it lies within
     half a thousandth of the nearer end anyway. Infinite samples are cut off likewise.
     """
-    far = 0.0 if pad is None or isinstance(pad, str) else abs(float(pad) - level)
+    far = 0.0 if pad is None or isinstance(pad, str) else abs(pad - level)
     reach = max(far, reach)
     usual = float(np.median(np.abs(_from_level(_some_of(array), level))))
     is_cut = not math.isfinite(reach) or reach > OUTLIER * usual
@@ -245,8 +253,16 @@ def _scaled(array: np.ndarray, level: float, pad: float | str | None, reach: flo
     return Samples(out, Scale(False, level, exponent, is_cut))
 
 
-def _times(numbers: np.ndarray | float, exponent: int) -> np.ndarray:
-    """Numbers times a power of two, an array in place. `ldexp` is slow, and needed only where that power is no float."""
+def _float_times(number: float, exponent: int) -> float:
+    """A number times a power of two."""
+    try:
+        return math.ldexp(number, exponent)
+    except OverflowError:
+        return math.copysign(math.inf, number)
+
+
+def _times(numbers: np.ndarray, exponent: int) -> np.ndarray:
+    """Numbers times a power of two, in place. `ldexp` is slow, and needed only where that power is no float."""
     if abs(exponent) > 1000:
         return np.ldexp(numbers, exponent)
     numbers *= 2.0 ** exponent

@@ -30,6 +30,8 @@ def summary_of(volume: Volume, rows: int = 24) -> str:
     lines = [f"points     {sizes} (x y z)", f"spacing    {spacing}", f"origin     {' '.join(f'{number:.6g}' for number in volume.origin)}"]
     lines += [f"space      {volume.space or 'not said'}{', left-handed' if np.linalg.det(volume.directions) < 0 else ''}"]
     lines += [f"type       {array.dtype.name}"]
+    if array.dtype.kind not in "iufb":
+        return "\n".join(lines) + "\n"
     finite = array[np.isfinite(array)] if array.dtype.kind == "f" else np.ravel(array)
     if len(finite) < array.size:
         lines.append(f"not finite {array.size - len(finite)} samples are NaN or infinite")

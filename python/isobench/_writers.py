@@ -11,6 +11,7 @@ import zipfile
 from collections.abc import Iterator
 
 import numpy as np
+from numpy.typing import ArrayLike
 
 __all__ = ["coinciding_in_stl", "write_mesh"]
 
@@ -43,7 +44,7 @@ MODEL_BEGIN = XML + (
 MODEL_END = '</triangles></mesh></object></resources><build><item objectid="1"/></build></model>\n'
 
 
-def write_mesh(path: str | os.PathLike, points: np.ndarray, faces: np.ndarray) -> None:
+def write_mesh(path: str | os.PathLike, points: ArrayLike, faces: ArrayLike) -> None:
     """Write a mesh in the format that the end of the name says.
 
     ``.stl`` (binary), ``.ply`` (binary), ``.obj`` and ``.3mf`` (in millimetres) are written here, any other format by
@@ -81,7 +82,7 @@ def write_mesh(path: str | os.PathLike, points: np.ndarray, faces: np.ndarray) -
         write(beside, positions, corners)
 
 
-def coinciding_in_stl(points: np.ndarray) -> int:
+def coinciding_in_stl(points: ArrayLike) -> int:
     """How many points lie where another one does, as floats of 32 bits.
 
     Parameters
@@ -98,7 +99,7 @@ def coinciding_in_stl(points: np.ndarray) -> int:
     return int(np.count_nonzero((first[1:] == first[:-1]) & (last[1:] == last[:-1])))
 
 
-def _checked(points: np.ndarray, faces: np.ndarray) -> tuple[np.ndarray, np.ndarray]:
+def _checked(points: ArrayLike, faces: ArrayLike) -> tuple[np.ndarray, np.ndarray]:
     positions, corners = np.asanyarray(points), np.asanyarray(faces)
     if positions.dtype.name not in ("float32", "float64"):
         positions = positions.astype(np.float64)

@@ -1,10 +1,11 @@
 """The surface of an array, as arrays."""
 from __future__ import annotations
 
-from collections.abc import Callable, Sequence
+from collections.abc import Callable
 from dataclasses import dataclass
 
 import numpy as np
+from numpy.typing import ArrayLike
 
 from . import _ply
 from ._program import extract_text
@@ -36,7 +37,7 @@ class Mesh:
     faces: np.ndarray
     error: float = 0.0
 
-    def spaced(self, spacing: Sequence[float] = (1.0, 1.0, 1.0)) -> np.ndarray:
+    def spaced(self, spacing: ArrayLike = (1.0, 1.0, 1.0)) -> np.ndarray:
         """Positions in the order of an array's axes.
 
         Parameters
@@ -56,7 +57,7 @@ class Mesh:
             np.multiply(self.thousandths[:, 2 - axis], steps[axis] / 1000.0, out=out[:, axis], casting="unsafe")
         return out
 
-    def placed(self, directions: np.ndarray | None = None, origin: Sequence[float] = (0.0, 0.0, 0.0)) -> tuple[np.ndarray, np.ndarray]:
+    def placed(self, directions: ArrayLike | None = None, origin: ArrayLike = (0.0, 0.0, 0.0)) -> tuple[np.ndarray, np.ndarray]:
         """The mesh in space.
 
         Parameters
@@ -91,7 +92,7 @@ class Mesh:
         return len(keys) - len(np.unique(keys))
 
 
-def checked_spacing(spacing: Sequence[float]) -> np.ndarray:
+def checked_spacing(spacing: ArrayLike) -> np.ndarray:
     """The spacing of three axes, if it is one."""
     steps = np.asarray(spacing, float)
     if steps.shape != (3,) or not (np.isfinite(steps) & (steps > 0)).all():
@@ -100,7 +101,7 @@ def checked_spacing(spacing: Sequence[float]) -> np.ndarray:
 
 
 def extract(
-    volume: np.ndarray, level: float, *, pad: float | str | None = None, watch: Callable[[int], None] | None = None
+    volume: ArrayLike, level: float, *, pad: float | str | None = None, watch: Callable[[int], None] | None = None
 ) -> Mesh:
     """The surface of an array at a level.
 
@@ -138,7 +139,7 @@ def extract(
 
 
 def marching_cubes(
-    volume: np.ndarray, level: float, *, spacing: Sequence[float] = (1.0, 1.0, 1.0), pad: float | str | None = None
+    volume: ArrayLike, level: float, *, spacing: ArrayLike = (1.0, 1.0, 1.0), pad: float | str | None = None
 ) -> tuple[np.ndarray, np.ndarray]:
     """The surface of an array at a level, by the conventions of ``skimage.measure.marching_cubes``.
 

@@ -1,7 +1,7 @@
 """Sessions: a volume that is edited, with undo and redo, and its mesh at any time."""
 from __future__ import annotations
 
-import io
+import contextlib
 import mmap
 import operator
 import os
@@ -9,9 +9,10 @@ import subprocess
 import threading
 import weakref
 from collections.abc import Sequence
-from typing import Any
+from typing import IO, Any
 
 import numpy as np
+from numpy.typing import ArrayLike
 
 from . import _ply
 from ._program import program, text_of, write_whole
@@ -62,13 +63,13 @@ class Session:
 
     def __init__(
         self,
-        volume: np.ndarray | Volume | str | os.PathLike,
+        volume: ArrayLike | Volume | str | os.PathLike,
         level: float,
         *,
         pad: float | str | None = None,
         bricks: int | None = None,
         pages: int | None = None,
-        spacing: Sequence[float] | None = None,
+        spacing: ArrayLike | None = None,
     ) -> None:
         if isinstance(volume, (str, os.PathLike)):
             volume = read_volume(volume)
@@ -98,12 +99,14 @@ class Session:
         try:
             write_whole(given, samples.pieces())
             command = [program(), "session", *words, f"/dev/fd/{given}"]
-            pipes = {"stdin": subprocess.PIPE, "stdout": subprocess.PIPE, "stderr": subprocess.PIPE}
             # A session of its own: Ctrl-C at a prompt does not end the program.
-            self._process = subprocess.Popen(command, bufsize=0, pass_fds=(given, mesh), start_new_session=True, **pipes)
-            self._replies = io.BufferedReader(self._process.stdout)
+            self._process = subprocess.Popen(command, stdin=subprocess.PIPE, stdout=subprocess.PIPE, stderr=subprocess.PIPE,
+                                             pass_fds=(given, mesh), start_new_session=True)
+            commands, replies, messages = self._process.stdin, self._process.stdout, self._process.stderr
+            assert commands and replies and messages
+            self._commands, self._replies, self._messages = commands, replies, messages
             # A session that is dropped ends its program too.
-            self._end = weakref.finalize(self, _end, self._process, self._replies, self._file)
+            self._end = weakref.finalize(self, _end, self._process, commands, [replies, messages, self._file])
             try:
                 self.ask("work 0")
             except BaseException:
@@ -139,7 +142,7 @@ class Session:
         if not line.strip() or line.strip().startswith("#") or "\n" in line or not line.isascii():
             raise ValueError(f"{line!r} is not one command: comments and blank lines have no reply")
         with self._lock:
-            if self._process.stdin.closed:
+            if self._commands.closed:
                 raise ValueError("the session is closed")
             try:
                 return self._reply_to(line)
@@ -150,7 +153,8 @@ class Session:
 
     def _reply_to(self, line: str) -> tuple[list[str], str]:
         try:
-            self._process.stdin.write(line.encode("ascii") + b"\n")
+            self._commands.write(line.encode("ascii") + b"\n")
+            self._commands.flush()
         except BrokenPipeError:
             self._raise_ended()
         lines: list[str] = []
@@ -166,7 +170,7 @@ class Session:
             lines.append(reply.rstrip("\n"))
 
     def _raise_ended(self) -> None:
-        message = self._process.stderr.read().decode("utf-8", "replace")
+        message = self._messages.read().decode("utf-8", "replace")
         status = self._process.wait()
         if status == 3:
             raise VolumeRefused(f"isobench refuses the volume: {message.strip().removeprefix('isobench: ')}")
@@ -282,7 +286,8 @@ class Session:
             else:
                 first, last = box
                 self.ask(f"window {self._point_of(first)} {self._point_of(last)} ply {name}")
-            return Mesh(*self._read(_ply.read_mesh), self._scale.error())
+            positions, faces = self._read(_ply.read_mesh)
+        return Mesh(positions, faces, self._scale.error())
 
     def mesh(self, box: tuple[Point, Point] | None = None) -> tuple[np.ndarray, np.ndarray]:
         """The mesh as it now is, as `marching_cubes` gives it: `verts` and `faces`, in units of the spacing."""
@@ -368,11 +373,12 @@ class Session:
         self.close()
 
 
-def _end(process: subprocess.Popen, replies: io.BufferedReader, file: io.FileIO) -> None:
+def _end(process: subprocess.Popen, commands: IO[bytes], others: list[IO[bytes]]) -> None:
     """End a program by the end of its input, and close what was open."""
-    process.stdin.close()
+    with contextlib.suppress(BrokenPipeError):
+        commands.close()
     process.wait()
-    for stream in (replies, process.stderr, file):
+    for stream in others:
         stream.close()
 
 

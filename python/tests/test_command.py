@@ -140,7 +140,7 @@ def test_summaries():
     floats = random.random((5, 5, 5))
     floats[0, 0, 0], floats[0, 0, 1] = np.nan, np.inf
     assert "2 samples are NaN or infinite" in _summary.summary_of(isobench.Volume(floats))
-    for flat in (np.full((2, 2, 2), np.nan), np.ones((2, 2, 2)), np.ones((2, 2, 2), bool)):
+    for flat in (np.zeros((2, 2, 2), complex), np.zeros((2, 2, 2), "u1,u1,u1"), np.full((2, 2, 2), np.nan), np.ones((2, 2, 2)), np.ones((2, 2, 2), bool)):
         assert "to begin with" not in _summary.summary_of(isobench.Volume(flat))
     two = np.r_[np.full(500, 10), np.full(500, 90)].reshape(10, 10, 10).astype(np.int16)
     assert 10 < _summary.level_of(two) < 90 and _summary.level_of(two) % 1 == 0.5

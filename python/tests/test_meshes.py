@@ -110,6 +110,7 @@ REFUSED = {
     "a padding NaN": (np.zeros((3, 3, 3), np.uint8), 5, {"pad": float("nan")}, "below the level"),
     "a fraction as padding": (np.full((3, 3, 3), 2 ** 30), 5, {"pad": 1.5}, "not a whole number"),
     "a far padding": (np.zeros((3, 3, 3), np.uint8), 5, {"pad": -2 ** 40}, "out of range"),
+    "a list as padding": (np.zeros((3, 3, 3), np.uint8), 5, {"pad": [1]}, "below the level"),
     "another padding": (np.zeros((3, 3, 3), np.uint8), 5, {"pad": "none"}, "'auto' or None"),
     "a spacing of two": (np.zeros((3, 3, 3), np.uint8), 5, {"spacing": (1, 2)}, "three positive"),
     "a negative spacing": (np.zeros((3, 3, 3), np.uint8), 5, {"spacing": (1, 2, -1)}, "three positive"),

@@ -91,10 +91,15 @@ def test_spacings_and_directions(tmp_path):
     for fields, spacing in (
         ("spacings: 0.5 1 nan\n", (1, 1, 0.5)),
         ("space directions: (0,2,0) (3,0,0) (0,0,4)\nspace origin: (10,20,30)\nspace: RAS\n", (4, 3, 2)),
+        ("space directions: none (3,0,0) (0,0,4)\nspace origin: none\n", None),
         ("", (1, 1, 1)),
     ):
         (tmp_path / "a.nrrd").write_bytes(FIELDS.format("uint8", fields, "raw").encode() + b"\n" + bytes(24))
-        assert read_volume(tmp_path / "a.nrrd").spacing == spacing
+        if spacing is None:
+            with pytest.raises(ValueError, match="three directions"):
+                read_volume(tmp_path / "a.nrrd")
+        else:
+            assert read_volume(tmp_path / "a.nrrd").spacing == spacing
 
 
 def test_nifti(tmp_path):
