@@ -279,7 +279,8 @@ def _fill_vertices(text: np.ndarray, out: np.ndarray) -> None:
     spans = np.empty_like(ends)                           # of a number with the blank before it
     spans[0] = ends[0] + 1
     np.subtract(ends[1:], ends[:-1], out=spans[1:])
-    is_negative = body[ends - spans + 1] == ord("-")
+    # Only the padding's coordinates are negative.
+    is_negative = body[ends - spans + 1] == ord("-") if (body == ord("-")).any() else np.False_
     spans -= is_negative
     if _count_others(body) != 6 * count + np.count_nonzero(is_negative):
         raise MeshTextError("a line of a vertex is in another form")

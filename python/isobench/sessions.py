@@ -30,7 +30,8 @@ Point = Sequence[int]
 class Session:
     """A volume and a level, open in a program of its own.
 
-    Each mesh is byte for byte the one that `extract` gives of the edited array. All indices and boxes are in the order
+    Each mesh is the one that `extract` gives of the edited array; of floats, of the samples as they were scaled at the
+    beginning. All indices and boxes are in the order
     of the array, ``[z, y, x]``. The newest 128 edits can be undone; a box of more than 1,048,576 points is several edits.
 
     Parameters

@@ -5,6 +5,7 @@ import os
 import signal
 import subprocess
 import sys
+import time
 
 import isobench
 import numpy as np
@@ -217,12 +218,18 @@ def test_several_threads(knot):
         assert all(is_same(found, wanted) for found in pool.map(lambda _: session.mesh(), range(12)))
 
 
+def shared_files_of(process):
+    """The files with a name in /dev/shm that a process has open."""
+    links = [os.readlink(entry.path) for entry in os.scandir(f"/proc/{process}/fd")]
+    return [link for link in links if link.startswith("/dev/shm/")]
+
+
 def test_nothing_is_left_behind(knot):
     gc.collect()
-    files, descriptors = set(os.listdir("/dev/shm")), len(os.listdir("/proc/self/fd"))
+    descriptors = len(os.listdir("/proc/self/fd"))
     with Session(knot, 100.5) as session:
         session.mesh()
-        assert set(os.listdir("/dev/shm")) == files
+        assert not shared_files_of(os.getpid()) and not shared_files_of(session._process.pid)
     dropped = Session(knot, 100.5)
     process = dropped._process
     del dropped
@@ -233,10 +240,21 @@ def test_nothing_is_left_behind(knot):
     assert len(os.listdir("/proc/self/fd")) == descriptors
 
 
-def test_a_python_that_is_killed_leaves_nothing():
-    files = set(os.listdir("/dev/shm"))
-    code = ("import numpy, isobench, os, signal\nsession = isobench.Session(numpy.eye(3)[None].repeat(3, 0), 0.5)\nsession.mesh()\n"
-            "print(session._process.pid, flush=True)\nos.kill(os.getpid(), signal.SIGKILL)")
-    folder = os.path.dirname(os.path.dirname(isobench.__file__))
-    ran = subprocess.run([sys.executable, "-c", code], cwd=folder, capture_output=True, text=True)
-    assert ran.returncode == -9 and set(os.listdir("/dev/shm")) == files
+def test_a_python_that_is_killed_leaves_nothing(tmp_path):
+    code = ("import numpy, isobench, os, signal, sys\nsession = isobench.Session(numpy.eye(3)[None].repeat(3, 0), 0.5)\nsession.mesh()\n"
+            "print(session._process.pid, flush=True)\nsys.stdin.read(1)\nos.kill(os.getpid(), signal.SIGKILL)")
+    environment = {**os.environ, "TMPDIR": str(tmp_path), "PYTHONPATH": os.path.dirname(os.path.dirname(isobench.__file__))}
+    with subprocess.Popen([sys.executable, "-c", code], env=environment, stdin=subprocess.PIPE, stdout=subprocess.PIPE, text=True) as python:
+        program = int(python.stdout.readline())
+        assert not shared_files_of(python.pid) and not shared_files_of(program)
+        python.stdin.write("x")
+    assert python.returncode == -9 and not list(tmp_path.iterdir())
+    for _ in range(200):
+        try:
+            with open(f"/proc/{program}/stat", encoding="ascii") as file:
+                if file.read().split()[2] == "Z":
+                    return
+        except (FileNotFoundError, ProcessLookupError):
+            return
+        time.sleep(0.05)
+    raise AssertionError("the program has not ended")
