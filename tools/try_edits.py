@@ -3,14 +3,16 @@
 
     python3 tools/try_edits.py             all of them, and those that the gate tries: a few hours of one processor
     python3 tools/try_edits.py NAME ..     those of these crates
-    python3 tools/try_edits.py --look      tries none, and ends with 1 if one cannot be applied
+    python3 tools/try_edits.py --look      tries none, and ends with 1 if one cannot be applied, or docs/trust.md counts others
 
 The gate tries the edits in crates/NAME/must-fail/. Those in crates/NAME/edits/ have the same form, and are tried by this script
 alone: before a crate whose code or contracts changed is handed in. It puts them beside the gate's, in a copy of the crates,
-and runs `rt ci NAME ..` there, which proves what it has not proved on this machine before. It ends with the status of that,
-and with 1 if an edit could not be tried.
+and runs `rt ci NAME ..` there, which proves what it has not proved on this machine before; in a kit whose gate takes no names
+`rt must-fail NAME ..`, which proves the crates below first. It ends with the status of that, and with 1 if an edit could not
+be tried.
 """
 import pathlib
+import re
 import shutil
 import subprocess
 import sys
@@ -29,7 +31,7 @@ def copy_to(room, names):
     for file in ("crates.txt", "HANDLES"):
         shutil.copyfile(TOP / file, room / file)
     left_out = shutil.ignore_patterns("out", "must-fail", "edits")
-    for crate in sorted((TOP / "crates").iterdir()):
+    for crate in sorted(it for it in (TOP / "crates").iterdir() if it.is_dir()):
         to = room / "crates" / crate.name
         shutil.copytree(crate, to, ignore=left_out)
         if crate.name in names:
@@ -62,7 +64,29 @@ def look():
     bad = [edit for edit in sorted(TOP.glob("crates/*/*/*.edit")) if cannot_be_applied(edit)]
     for edit in bad:
         print(f"{edit.relative_to(TOP)}: what it replaces does not stand once in its file")
-    return int(bool(bad))
+    return int(bool(bad) | has_other_counts())
+
+
+def has_other_counts():
+    """Says whether docs/trust.md counts other edits than there are."""
+    page = (TOP / "docs" / "trust.md").read_text(encoding="utf-8")
+    counts = {folder: len([*TOP.glob(f"crates/*/{folder}/*.edit")]) for folder in ("must-fail", "edits")}
+    other = [folder for folder, count in counts.items() if not re.search(rf"`crates/\*/{folder}/\*\.edit` hold {count} ", page)]
+    for folder in other:
+        print(f"docs/trust.md: there are {counts[folder]} edits in {folder}/")
+    return bool(other)
+
+
+def tried(command, room):
+    """What a command came to: its status, whether an edit could not be tried, and whether it said anything."""
+    ran = subprocess.Popen(command, cwd=room, stdout=subprocess.PIPE, stderr=subprocess.STDOUT, text=True)
+    is_bad = has_said = False
+    for line in ran.stdout:
+        is_bad = is_bad or "BAD EDIT" in line
+        if "must-fail" in line or "NOT PROVED" in line or line.startswith("rt: FAILED") or " passed, " in line:
+            has_said = True
+            print(line, end="", flush=True)
+    return ran.wait(), is_bad, has_said
 
 
 def main():
@@ -75,13 +99,10 @@ def main():
     with tempfile.TemporaryDirectory() as folder:
         room = pathlib.Path(folder)
         copy_to(room, names)
-        ran = subprocess.Popen(["rt", "ci", *names], cwd=room, stdout=subprocess.PIPE, stderr=subprocess.STDOUT, text=True)
-        is_bad = False
-        for line in ran.stdout:
-            is_bad = is_bad or "BAD EDIT" in line
-            if "must-fail" in line or "NOT PROVED" in line or line.startswith("rt: FAILED") or " passed, " in line:
-                print(line, end="", flush=True)
-        sys.exit(ran.wait() or int(is_bad))
+        status, is_bad, has_said = tried(["rt", "ci", *names], room)
+        if status == 2 and not has_said:
+            status, is_bad, _ = tried(["rt", "must-fail", *names], room)
+        sys.exit(status or int(is_bad))
 
 
 if __name__ == "__main__":
