@@ -5,8 +5,8 @@ use Rattle.span_tree.specs.Spans.{IsRightFor}
 use Rattle.kept_mesh.specs.declared.files.KeptVolume.{KeptVolume}
 use Rattle.kept_mesh.proofs.files.write_mesh.Goals as goal
 
-pub write_file-requires-text : goal.write_file-requires-text
-write_file-requires-text g c =
+pub write_file-requires-clause-text : goal.write_file-requires-clause-text
+write_file-requires-clause-text g c =
     let text = c.new-text.ensures in
     record {
       tree = subst (λ (v : KeptVolume). IsRightFor v.tree.now v.store.now) (sym text.volume) c.requires.tree;
