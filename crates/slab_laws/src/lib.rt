@@ -1,0 +1,2 @@
+//! Laws of slabs: the mesh of a volume is the meshes of its slabs, one behind the other.
+#![tactic(auto)]
