@@ -8,7 +8,8 @@ use Rattle.iso_defs.specs.Outside.{IsSolid}
 use Rattle.iso_defs.specs.Scratch.{crossing_edges, number_of, vertex_names, vertex_name}
 use Rattle.verdict_laws.proofs.Lists.{In}
 use Rattle.mesh_laws.proofs.Names.{edge_in, name_of_edge, name_of_centre}
-use Rattle.slab_laws.specs.Slabs.{slices, slice_size, above, keys, renumbered}
+use Rattle.slab_laws.specs.Slabs.{slices, slice_size, renumbered}
+use Rattle.slab_laws.proofs.Parts.{above, keys}
 use Rattle.slab_laws.proofs.Joined.{own_edges}
 use Rattle.slab_laws.proofs.CellsJoined.{own_cells}
 use Rattle.slab_laws.proofs.Numbers.{number_low, number_high}
@@ -16,10 +17,10 @@ use Rattle.slab_laws.proofs.Keys.{number_of_key, own_keys}
 use Rattle.slab_laws.proofs.Renumbered.{number_under, own_low, own_in, keys_low, keys_high}
 
 -- renumbering, by whether a number is that of an edge
-under : (edges first second n : ℕ) → n < edges → renumbered edges first second n ≡ first + n
+pub under : (edges first second n : ℕ) → n < edges → renumbered edges first second n ≡ first + n
 under edges first second n l = ap (λ b. cond b (first + n) (second + (n - edges))) (lt-ltb n edges l)
 
-over : (edges first second c : ℕ) → renumbered edges first second (edges + c) ≡ second + c
+pub over : (edges first second c : ℕ) → renumbered edges first second (edges + c) ≡ second + c
 over edges first second c =
     ap (λ b. cond b (first + (edges + c)) (second + (edges + c - edges))) (le-ltb (edges + c) edges (omega arith)) ∙ ap (λ m. second + m) (back edges c)
   where

@@ -9,7 +9,8 @@ use Rattle.iso_defs.specs.Signs.{is_crossing}
 use Rattle.iso_defs.specs.Outside.{IsSolid}
 use Rattle.iso_defs.specs.Scratch.{crossing_edges}
 use Rattle.iso_defs.proofs.Ranges.{range_append}
-use Rattle.slab_laws.specs.Slabs.{slices, slice_size, above}
+use Rattle.slab_laws.specs.Slabs.{slices, slice_size}
+use Rattle.slab_laws.proofs.Parts.{above}
 use Rattle.slab_laws.proofs.Slices.{filter_moved, filter_alike, same_crossing, next_at_top, next_below, height_low}
 
 -- numbers of three each, and of one: what passes a test below a bound, and above it
@@ -72,27 +73,11 @@ module _ (g : Grid) (solid : IsSolid g) (s : ℕ → ℤ) (z : ℕ) (fits : z + 
           third : (a r n : ℕ) → n < 3 * (a * r) → n / 3 < r * a
           third a r n l = omega arith
 
--- so the whole's crossing edges are the first of the lower slab's, as many as it has more than the seam, and those above, moved
-pub edges_joined : (g : Grid) → IsSolid g → (s : ℕ → ℤ) (z : ℕ) → z + 2 ≤ g.nz →
-    crossing_edges g s ≡
-    take (length (crossing_edges (slices g (z + 2)) s) - length (crossing_edges (slices g 2) (above g z s))) (crossing_edges (slices g (z + 2)) s)
-    ++ map (λ n. n + 3 * (slice_size g * z)) (crossing_edges (slices g (g.nz - z)) (above g z s))
-unfolding own_edges
-edges_joined g solid s z fits =
-    let own : List ℕ = own_edges g solid s z fits in
-    let moved : List ℕ → List ℕ = map (λ n. n + 3 * (slice_size g * z)) in
-    let seam : List ℕ = crossing_edges (slices g 2) (above g z s) in
-    let two : (z + 2) - z ≡ 2 = omega arith in
-    let lower : crossing_edges (slices g (z + 2)) s ≡ own ++ moved seam
-    = subst (λ n. crossing_edges (slices g (z + 2)) s ≡ own ++ moved (crossing_edges (slices g n) (above g z s))) two
-    (edges_cut (slices g (z + 2)) (solid_slices g solid z) s z (omega arith)) in
-    let count : length (crossing_edges (slices g (z + 2)) s) - length seam ≡ length own
-    = let a : length (crossing_edges (slices g (z + 2)) s) ≡ length own + length (moved seam) = ap length lower ∙ length-append own (moved seam) in
-    let b : length (moved seam) ≡ length seam = length-map seam (λ n. n + 3 * (slice_size g * z)) in
-    omega (arith, a, b) in
-    let front : take (length (crossing_edges (slices g (z + 2)) s) - length seam) (crossing_edges (slices g (z + 2)) s) ≡ own
-    = ap (λ n. take n (crossing_edges (slices g (z + 2)) s)) count ∙ (ap (take (length own)) lower ∙ take-append_seam own (moved seam)) in
-    edges_cut g solid s z fits ∙ ap (λ l. l ++ moved (crossing_edges (slices g (g.nz - z)) (above g z s))) (sym front)
-  where
-    solid_slices : (g : Grid) → IsSolid g → (z : ℕ) → IsSolid (slices g (z + 2))
-    solid_slices g solid z = record { x = solid.x; y = solid.y; z = omega arith }
+  -- so many edges the whole has
+  pub edge_sum : length (crossing_edges g s)
+      ≡ length own_edges + length (crossing_edges (slices g (g.nz - z)) (above g z s))
+  edge_sum =
+      let up : List ℕ = crossing_edges (slices g (g.nz - z)) (above g z s) in
+      ap length edges_cut
+      ∙ (length-append own_edges (map (λ n. n + 3 * (slice_size g * z)) up)
+      ∙ ap (λ n. length own_edges + n) (length-map up (λ n. n + 3 * (slice_size g * z))))

@@ -15,7 +15,8 @@ use Rattle.verdict_laws.proofs.Counts.{count-append, count_agree, count-map}
 use Rattle.mesh_laws.proofs.Cells.{range_at_least}
 use Rattle.mesh_laws.proofs.Rows.{count_all}
 use Rattle.window_laws.proofs.Ascents.{map_agree_in, flat_map_agree_in, map-map, map-flat_map, flat_map-map}
-use Rattle.slab_laws.specs.Slabs.{slices, slice_size, above, cell_keys, keys}
+use Rattle.slab_laws.specs.Slabs.{slices, slice_size}
+use Rattle.slab_laws.proofs.Parts.{above, cell_keys, keys}
 use Rattle.slab_laws.proofs.CellsJoined.{own_cells, cells_cut}
 
 -- sums with the same first part are in the order of their second ones

@@ -13,7 +13,8 @@ use Rattle.verdict_laws.proofs.Lists.{In, In-map, In-flat_map, In-filter}
 use Rattle.verdict_laws.proofs.Counts.{count-append, count_agree, count_none, count-map}
 use Rattle.mesh_laws.proofs.Cells.{range_at_least}
 use Rattle.mesh_laws.proofs.Rows.{count_all, count_zero}
-use Rattle.slab_laws.specs.Slabs.{slices, slice_size, above}
+use Rattle.slab_laws.specs.Slabs.{slices, slice_size}
+use Rattle.slab_laws.proofs.Parts.{above}
 use Rattle.slab_laws.proofs.Slices.{filter_alike}
 use Rattle.slab_laws.proofs.Joined.{own_edges, edges_cut, below_top}
 

@@ -16,18 +16,19 @@ use Rattle.verdict_laws.proofs.Lists.{In, In-filter, list_all_at}
 use Rattle.mesh_laws.proofs.Names.{corner_in}
 use Rattle.mesh_laws.proofs.TwoCells.{corner_below}
 use Rattle.window_laws.proofs.Ascents.{map_agree_in, map-map}
-use Rattle.slab_laws.specs.Slabs.{slices, slice_size, lifted, cell_places}
+use Rattle.slab_laws.specs.Slabs.{slices, slice_size, lifted}
+use Rattle.slab_laws.proofs.Parts.{cell_places}
 use Rattle.slab_laws.proofs.Slices.{same_stride, same_x, same_y, higher, height}
 
 pub position : (a b c d e f : ℕ) → a ≡ d → b ≡ e → c ≡ f → ◌≡◌ {A = Position} (a, b, c) (d, e, f)
 position a b c d e f x y z = ap (λ u. (u, b, c)) x ∙ (ap (λ u. (d, u, c)) y ∙ ap (λ u. (d, e, u)) z)
 
 -- a loop with a centre: its edges, and that it has some
-record Loop (l : ℕ × List ℕ) : Type 0 where
-  edges : (e : ℕ) → In e l.1 → e < 12
-  some : 0 < length l.1
+pub record Loop (l : ℕ × List ℕ) : Type 0 where
+  pub edges : (e : ℕ) → In e l.1 → e < 12
+  pub some : 0 < length l.1
 
-loop_is : (g : Grid) (s : ℕ → ℤ) (q : ℕ) (l : ℕ × List ℕ) → In l (filter has_centre (cell_loops g s q)) → Loop l
+pub loop_is : (g : Grid) (s : ℕ → ℤ) (q : ℕ) (l : ℕ × List ℕ) → In l (filter has_centre (cell_loops g s q)) → Loop l
 loop_is g s q l i =
     let r : In l (cell_loops g s q) × (has_centre l ≡ true) = In-filter has_centre l (cell_loops g s q) i in
     let t = and_parts _ _ (list_all_at _ (cell_loops g s q) l (cell_passes centre_test centre_all g s q) r.0) in

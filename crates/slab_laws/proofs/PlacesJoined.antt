@@ -12,22 +12,22 @@ use Rattle.iso_defs.specs.Scratch.{crossing_edges, vertices, cell_centres, has_c
 use Rattle.verdict_laws.proofs.Lists.{In, In-filter}
 use Rattle.mesh_laws.proofs.Cells.{range_at_least}
 use Rattle.window_laws.proofs.Ascents.{map_agree_in, flat_map_agree_in, map-map, map-append, map-flat_map, flat_map-map}
-use Rattle.slab_laws.specs.Slabs.{slices, slice_size, above, keys, cell_keys, lifted, cell_places}
+use Rattle.slab_laws.specs.Slabs.{slices, slice_size, lifted}
+use Rattle.slab_laws.proofs.Parts.{above, keys, cell_keys, cell_places}
 use Rattle.slab_laws.proofs.Joined.{own_edges, edges_cut}
 use Rattle.slab_laws.proofs.CellsJoined.{own_cells, cells_cut}
 use Rattle.slab_laws.proofs.Keys.{own_keys}
-use Rattle.slab_laws.proofs.Triangles.{own_in_lower, length_flat}
-use Rattle.slab_laws.proofs.TrianglesJoined.{count_edges, count_centres}
+use Rattle.slab_laws.proofs.Triangles.{own_in_lower}
 use Rattle.slab_laws.proofs.Places.{position, edge_lifted, centres_lifted}
 
 -- where the vertices on edges are, and the centres
-abbrev pub edge_places : Grid → (ℕ → ℤ) → List Position
-edge_places g s = map (edge_position g s) (crossing_edges g s)
+abbrev pub places_on_edges : Grid → (ℕ → ℤ) → List Position
+places_on_edges g s = map (edge_position g s) (crossing_edges g s)
 
-abbrev pub centre_places : Grid → (ℕ → ℤ) → List Position
-centre_places g s = flat_map (cell_places g s) (cells g)
+abbrev pub places_of_centres : Grid → (ℕ → ℤ) → List Position
+places_of_centres g s = flat_map (cell_places g s) (cells g)
 
-pub places_are : (g : Grid) (s : ℕ → ℤ) → map (λ (v : ℕ × Position). v.1) (vertices g s) ≡ edge_places g s ++ centre_places g s
+pub places_are : (g : Grid) (s : ℕ → ℤ) → map (λ (v : ℕ × Position). v.1) (vertices g s) ≡ places_on_edges g s ++ places_of_centres g s
 places_are g s =
     map-append (λ (v : ℕ × Position). v.1) (map (λ n. (n, edge_position g s n)) (crossing_edges g s)) (flat_map (cell_centres g s) (cells g))
     ∙ ap₂ (λ a b. a ++ b) (map-map (λ (v : ℕ × Position). v.1) (λ n. (n, edge_position g s n)) (crossing_edges g s))
@@ -36,6 +36,10 @@ places_are g s =
 
 unmoved : (p : Position) → lifted 0 p ≡ p
 unmoved p = position _ _ _ _ _ _ refl refl (omega arith)
+
+pub all_unmoved : (ps : List Position) → map (lifted 0) ps ≡ ps
+all_unmoved [] = refl
+all_unmoved (p ∷ ps) = ap₂ (λ a l. a ∷ l) (unmoved p) (all_unmoved ps)
 
 module _ (g : Grid) (solid : IsSolid g) (s : ℕ → ℤ) (z : ℕ) (fits : z + 2 ≤ g.nz) where
   still : (a p : ℕ) → p ≡ p + a * 0
@@ -57,73 +61,48 @@ module _ (g : Grid) (solid : IsSolid g) (s : ℕ → ℤ) (z : ℕ) (fits : z + 
   low_centres q i =
       ap (cell_places g s) (still (slice_size g) q)
       ∙ (centres_lifted g solid s s (z + 2) 0 (λ p. ap s (still (slice_size g) p)) (omega arith) q (own_in_lower g solid s z fits q i)
-      ∙ id_map (cell_places (slices g (z + 2)) s q))
-    where
-      id_map : (ps : List Position) → map (lifted 0) ps ≡ ps
-      id_map ps = map_agree_in (lifted 0) (λ p. p) ps (λ p _. unmoved p) ∙ plain ps
-        where
-          plain : (ps : List Position) → map (λ p. p) ps ≡ ps
-          plain [] = refl
-          plain (p ∷ ps) = ap (λ l. p ∷ l) (plain ps)
-
-  lower_solid : IsSolid (slices g (z + 2))
-  lower_solid = record { x = solid.x; y = solid.y; z = omega arith }
+      ∙ all_unmoved (cell_places (slices g (z + 2)) s q))
 
   -- the law of places, for vertices on edges
-  pub edges_placed : edge_places g s ≡
-      take (length (crossing_edges (slices g (z + 2)) s) - length (crossing_edges (slices g 2) (above g z s))) (edge_places (slices g (z + 2)) s)
-      ++ map (lifted z) (edge_places (slices g (g.nz - z)) (above g z s))
+  pub edges_placed : places_on_edges g s ≡
+      map (edge_position (slices g (z + 2)) s) (own_edges g solid s z fits)
+      ++ map (lifted z) (places_on_edges (slices g (g.nz - z)) (above g z s))
   unfolding own_edges
   edges_placed =
       let k : ℕ = 3 * (slice_size g * z) in
       let own : List ℕ = own_edges g solid s z fits in
       let up : List ℕ = crossing_edges (slices g (g.nz - z)) (above g z s) in
       let here : ℕ → Position = edge_position (slices g (z + 2)) s in
-      let seam : List ℕ = map (λ n. n + k) (crossing_edges (slices g (z + 2 - z)) (above g z s)) in
       let first : map (edge_position g s) own ≡ map here own
-      = map_agree_in (edge_position g s) here own (λ m i. low_edge m (let r : (0 ≤ m) × (m < 0 + k) = range_at_least 0 k m (In-filter (is_crossing (slices g (z + 2)) s) m _ i).0 in omega arith)) in
-      let whole : edge_places (slices g (z + 2)) s ≡ map here own ++ map here seam
-      = ap (map here) (edges_cut (slices g (z + 2)) lower_solid s z (omega arith)) ∙ map-append here own seam in
-      let count : length (crossing_edges (slices g (z + 2)) s) - length (crossing_edges (slices g 2) (above g z s)) ≡ length (map here own)
-      = sym (count_edges g solid s z fits) ∙ sym (length-map own here) in
-      let front : take (length (crossing_edges (slices g (z + 2)) s) - length (crossing_edges (slices g 2) (above g z s))) (edge_places (slices g (z + 2)) s) ≡ map here own
-      = ap (λ n. take n (edge_places (slices g (z + 2)) s)) count ∙ (ap (take (length (map here own))) whole ∙ take-append_seam (map here own) (map here seam)) in
-      let second : map (edge_position g s) (map (λ n. n + k) up) ≡ map (lifted z) (edge_places (slices g (g.nz - z)) (above g z s))
+      = map_agree_in (edge_position g s) here own (λ m i. low_edge m
+      (let r : (0 ≤ m) × (m < 0 + k) = range_at_least 0 k m (In-filter (is_crossing (slices g (z + 2)) s) m _ i).0 in omega arith)) in
+      let second : map (edge_position g s) (map (λ n. n + k) up) ≡ map (lifted z) (places_on_edges (slices g (g.nz - z)) (above g z s))
       = map-map (edge_position g s) (λ n. n + k) up
       ∙ (map_agree_in (λ n. edge_position g s (n + k)) (λ n. lifted z (edge_position (slices g (g.nz - z)) (above g z s) n)) up
       (λ n i. edge_lifted g solid s (above g z s) (g.nz - z) z (λ p. refl) (omega arith) n
       (third (g.nx * g.ny) (g.nz - z) n (let r : (0 ≤ n) × (n < 0 + name_bound (slices g (g.nz - z))) = range_at_least 0 (name_bound (slices g (g.nz - z))) n (In-filter (is_crossing (slices g (g.nz - z)) (above g z s)) n _ i).0 in omega arith)))
       ∙ sym (map-map (lifted z) (edge_position (slices g (g.nz - z)) (above g z s)) up)) in
       ap (map (edge_position g s)) (edges_cut g solid s z fits)
-      ∙ (map-append (edge_position g s) own (map (λ n. n + k) up) ∙ ap₂ (λ a b. a ++ b) (first ∙ sym front) second)
+      ∙ (map-append (edge_position g s) own (map (λ n. n + k) up) ∙ ap₂ (λ a b. a ++ b) first second)
     where
       third : (a r n : ℕ) → n < 3 * (a * r) → n / 3 < r * a
       third a r n l = omega arith
 
   -- and of centres
-  pub centres_placed : centre_places g s ≡
-      take (length (keys (slices g (z + 2)) s) - length (keys (slices g 2) (above g z s))) (centre_places (slices g (z + 2)) s)
-      ++ map (lifted z) (centre_places (slices g (g.nz - z)) (above g z s))
-  unfolding own_cells own_keys
+  pub centres_placed : places_of_centres g s ≡
+      flat_map (cell_places (slices g (z + 2)) s) (own_cells g solid z fits)
+      ++ map (lifted z) (places_of_centres (slices g (g.nz - z)) (above g z s))
+  unfolding own_cells
   centres_placed =
       let k : ℕ = slice_size g * z in
       let own : List ℕ = own_cells g solid z fits in
       let up : List ℕ = cells (slices g (g.nz - z)) in
       let here : ℕ → List Position = cell_places (slices g (z + 2)) s in
-      let seam : List ℕ = map (λ q. q + k) (cells (slices g (z + 2 - z))) in
       let first : flat_map (cell_places g s) own ≡ flat_map here own = flat_map_agree_in (cell_places g s) here own low_centres in
-      let whole : centre_places (slices g (z + 2)) s ≡ flat_map here own ++ flat_map here seam
-      = ap (flat_map here) (cells_cut (slices g (z + 2)) lower_solid z (omega arith)) ∙ flat_map-append here own seam in
-      let same : length (flat_map here own) ≡ length (own_keys g solid s z fits)
-      = length_flat here (cell_keys (slices g (z + 2)) s) own (λ q. (length-map (filter has_centre (cell_loops (slices g (z + 2)) s q)) _ ∙ sym (length-map (filter has_centre (cell_loops (slices g (z + 2)) s q)) _))) in
-      let count : length (keys (slices g (z + 2)) s) - length (keys (slices g 2) (above g z s)) ≡ length (flat_map here own)
-      = sym (count_centres g solid s z fits) ∙ sym same in
-      let front : take (length (keys (slices g (z + 2)) s) - length (keys (slices g 2) (above g z s))) (centre_places (slices g (z + 2)) s) ≡ flat_map here own
-      = ap (λ n. take n (centre_places (slices g (z + 2)) s)) count ∙ (ap (take (length (flat_map here own))) whole ∙ take-append_seam (flat_map here own) (flat_map here seam)) in
-      let second : flat_map (cell_places g s) (map (λ q. q + k) up) ≡ map (lifted z) (centre_places (slices g (g.nz - z)) (above g z s))
+      let second : flat_map (cell_places g s) (map (λ q. q + k) up) ≡ map (lifted z) (places_of_centres (slices g (g.nz - z)) (above g z s))
       = flat_map-map (cell_places g s) (λ q. q + k) up
       ∙ (flat_map_agree_in (λ q. cell_places g s (q + k)) (λ q. map (lifted z) (cell_places (slices g (g.nz - z)) (above g z s) q)) up
       (λ q i. centres_lifted g solid s (above g z s) (g.nz - z) z (λ p. refl) (omega arith) q i)
       ∙ sym (map-flat_map (lifted z) (cell_places (slices g (g.nz - z)) (above g z s)) up)) in
       ap (flat_map (cell_places g s)) (cells_cut g solid z fits)
-      ∙ (flat_map-append (cell_places g s) own (map (λ q. q + k) up) ∙ ap₂ (λ a b. a ++ b) (first ∙ sym front) second)
+      ∙ (flat_map-append (cell_places g s) own (map (λ q. q + k) up) ∙ ap₂ (λ a b. a ++ b) first second)

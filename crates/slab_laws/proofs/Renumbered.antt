@@ -13,7 +13,8 @@ use Rattle.verdict_laws.proofs.Counts.{count-append, count_agree, count-map}
 use Rattle.mesh_laws.proofs.Cells.{range_at_least, range_in}
 use Rattle.mesh_laws.proofs.Numbers.{count_less}
 use Rattle.mesh_laws.proofs.Rows.{count_all, count_zero}
-use Rattle.slab_laws.specs.Slabs.{slices, slice_size, above, cell_keys, keys}
+use Rattle.slab_laws.specs.Slabs.{slices, slice_size}
+use Rattle.slab_laws.proofs.Parts.{above, cell_keys, keys}
 use Rattle.slab_laws.proofs.Slices.{same_cell, next_below, height_low}
 use Rattle.slab_laws.proofs.CellsJoined.{own_cells}
 use Rattle.slab_laws.proofs.Keys.{number_of_key, own_keys, keys_cut, ltb_more}

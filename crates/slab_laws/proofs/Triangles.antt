@@ -13,7 +13,8 @@ use Rattle.mesh_laws.proofs.Cells.{range_in}
 use Rattle.mesh_laws.proofs.Directed.{LowCorners, low_corners}
 use Rattle.mesh_laws.proofs.Numbers.{Vertices, triangle_vertices}
 use Rattle.window_laws.proofs.Ascents.{map_agree_in, flat_map_agree_in, map-map, map-flat_map, flat_map-map}
-use Rattle.slab_laws.specs.Slabs.{slices, slice_size, above, renumbered}
+use Rattle.slab_laws.specs.Slabs.{slices, slice_size, renumbered}
+use Rattle.slab_laws.proofs.Parts.{above}
 use Rattle.slab_laws.proofs.Joined.{own_edges}
 use Rattle.slab_laws.proofs.CellsJoined.{own_cells, cells_cut}
 use Rattle.slab_laws.proofs.Keys.{own_keys, same_values}

@@ -1,10 +1,12 @@
--- Slabs: boxes of whole slices of a grid, each meshed by itself, and their meshes joined.
-use Rattle.std.specs.Prelude.{ℕ, ◌+◌, ◌-◌, ◌*◌, ℤ, List, map, nat_lt, if◌then◌else◌}
+-- Slabs: whole slices of a grid, each slab meshed by itself, and what each owns of the whole mesh.
+use Rattle.std.specs.Prelude.{◌≡◌, ℕ, ◌+◌, ◌-◌, ◌*◌, ◌<◌, ◌≤◌, ℤ, List, [], ◌∷◌, map, length, nat_lt, if◌then◌else◌}
 use Rattle.std.specs.List.{filter, flat_map}
-use Rattle.iso_defs.specs.Grid.{Grid, cells}
-use Rattle.iso_defs.specs.Cell.{cell_edge}
-use Rattle.iso_defs.specs.Place.{Position, centre_position}
-use Rattle.iso_defs.specs.Scratch.{cell_loops, has_centre}
+use Rattle.iso_defs.specs.Lists.{below}
+use Rattle.iso_defs.specs.Grid.{Grid, point_count, is_cell}
+use Rattle.iso_defs.specs.Cell.{Triangle}
+use Rattle.iso_defs.specs.Place.{Position, edge_position}
+use Rattle.iso_defs.specs.Scratch.{crossing_edges, cell_centres, cell_triangles, number_of, on_corners}
+use Rattle.iso_defs.specs.Signs.{is_crossing}
 
 -- so many slices of a grid
 abbrev pub slices : Grid → ℕ → Grid
@@ -14,26 +16,69 @@ slices g n = record { nx = g.nx; ny = g.ny; nz = n }
 abbrev pub slice_size : Grid → ℕ
 slice_size g = g.nx * g.ny
 
--- the field from slice z on
-abbrev pub above : Grid → ℕ → (ℕ → ℤ) → ℕ → ℤ
-above g z s p = s (p + slice_size g * z)
+-- a slab: a grid and a field of its own, the slice of the whole that is its lowest, and how many of its slices it owns
+pub record Slab : Type 0 where
+  pub grid : Grid
+  pub field : ℕ → ℤ
+  pub height : ℕ
+  pub owned : ℕ
 
--- what the names of a cell's centres have beyond the names of edges
-abbrev pub cell_keys : Grid → (ℕ → ℤ) → ℕ → List ℕ
-cell_keys g s q = map (λ (l : ℕ × List ℕ). 4 * q + l.0) (filter has_centre (cell_loops g s q))
+-- it has whole slices of a grid, with the values of the field there
+pub record IsSlab (g : Grid) (s : ℕ → ℤ) (b : Slab) : Type 0 where
+  pub grid : b.grid ≡ slices g b.grid.nz
+  pub fits : b.height + b.grid.nz ≤ g.nz
+  pub values : (p : ℕ) → p < point_count b.grid → b.field p ≡ s (p + slice_size g * b.height)
 
--- and those of all centres
-abbrev pub keys : Grid → (ℕ → ℤ) → List ℕ
-keys g s = flat_map (cell_keys g s) (cells g)
+-- the slabs of a grid from slice z on, the lowest first: each owns the slices up to the next one and has two more,
+-- the last one has and owns all that are left
+abbrev pub AreSlabs : Grid → (ℕ → ℤ) → ℕ → List Slab → Type 0
+AreSlabs g s z [] = ⊥
+AreSlabs g s z (b ∷ []) = IsSlab g s b × (b.height ≡ z) × (b.owned ≡ b.grid.nz) × (z + b.owned ≡ g.nz)
+AreSlabs g s z (b ∷ c ∷ bs) =
+    IsSlab g s b × (b.height ≡ z) × (b.owned + 2 ≡ b.grid.nz) × AreSlabs g s (z + b.owned) (c ∷ bs)
 
--- the number in the whole of a vertex of a slab, by how many of the slab's vertices lie on edges: those follow one number, centres another
-abbrev pub renumbered : ℕ → ℕ → ℕ → ℕ → ℕ
-renumbered edges first second n = if nat_lt n edges then first + n else second + (n - edges)
+-- it owns the crossing edges that begin in its owned slices
+abbrev pub owned_edges : Slab → List ℕ
+owned_edges b = filter (is_crossing b.grid b.field) (below (3 * (slice_size b.grid * b.owned)))
+
+-- and the cells there
+abbrev pub owned_cells : Slab → List ℕ
+owned_cells b = filter (is_cell b.grid) (below (slice_size b.grid * b.owned))
 
 -- a position so many slices further up
 abbrev pub lifted : ℕ → Position → Position
 lifted z p = (p.0, p.1, 1000 * z + p.2)
 
--- where the centres of a cell are
-abbrev pub cell_places : Grid → (ℕ → ℤ) → ℕ → List Position
-cell_places g s q = map (λ (l : ℕ × List ℕ). centre_position g s (map (cell_edge g q) l.1)) (filter has_centre (cell_loops g s q))
+-- where the vertices on its owned edges are in the whole
+abbrev pub edge_places : Slab → List Position
+edge_places b = map (λ n. lifted b.height (edge_position b.grid b.field n)) (owned_edges b)
+
+-- and the centres of its owned cells
+abbrev pub centre_places : Slab → List Position
+centre_places b =
+    map (λ (v : ℕ × Position). lifted b.height v.1) (flat_map (cell_centres b.grid b.field) (owned_cells b))
+
+-- how many it owns of both
+abbrev pub edge_count : Slab → ℕ
+edge_count b = length (edge_places b)
+
+abbrev pub centre_count : Slab → ℕ
+centre_count b = length (centre_places b)
+
+-- the triangles of its owned cells, by the numbers of vertices in the slab
+abbrev pub owned_triangles : Slab → List Triangle
+owned_triangles b =
+    map (on_corners (number_of b.grid b.field)) (flat_map (cell_triangles b.grid b.field) (owned_cells b))
+
+abbrev pub triangle_count : Slab → ℕ
+triangle_count b = length (owned_triangles b)
+
+-- a number in a mesh whose first vertices, so many, are on edges: those are counted from one number, the centres from another
+abbrev pub renumbered : ℕ → ℕ → ℕ → ℕ → ℕ
+renumbered edges first_edge first_centre n =
+    if nat_lt n edges then first_edge + n else first_centre + (n - edges)
+
+-- the same by numbers in the whole, where the slab's first vertex on an edge and its first centre have these
+abbrev pub slab_triangles : ℕ → ℕ → Slab → List Triangle
+slab_triangles first_edge first_centre b =
+    map (on_corners (renumbered (length (crossing_edges b.grid b.field)) first_edge first_centre)) (owned_triangles b)
