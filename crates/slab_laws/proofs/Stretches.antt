@@ -13,7 +13,7 @@ use Rattle.iso_defs.specs.Scratch.{crossing_edges, vertices, triangles, on_corne
 use Rattle.iso_defs.specs.Texts.{line, vertex_head, face_head, ply_text, obj_text}
 use Rattle.window_laws.proofs.Ascents.{append-group, flat_map-map}
 use Rattle.slab_laws.specs.Slabs.{slice_size, Slab, AreSlabs, edge_places, centre_places, edge_count, centre_count, triangle_count, renumbered, slab_triangles, owned_triangles}
-use Rattle.slab_laws.specs.SlabTexts.{Lines, ply_lines, obj_lines, edge_text, centre_text, triangle_text, triangle_texts, stretches, ply_head, TextBySlabs}
+use Rattle.slab_laws.specs.SlabTexts.{Lines, ply_lines, obj_lines, edge_text, centre_text, triangle_text, triangle_texts, stretches, ply_head}
 use Rattle.slab_laws.proofs.Places.{position}
 use Rattle.slab_laws.proofs.PlacesJoined.{places_on_edges, places_of_centres, places_are, all_unmoved}
 use Rattle.slab_laws.proofs.Composed.{unnumbered}
@@ -91,7 +91,7 @@ module _ (g : Grid) (solid : IsSolid g) (s : ℕ → ℤ) (bs : List Slab) (slab
       (ap (flat_map f.triangle) faces ∙ texts_are f 0 (sum_by edge_count bs) bs)
       ∙ append-group (flat_map (edge_text f padded) bs) (flat_map (centre_text f padded) bs) (triangle_texts f 0 (sum_by edge_count bs) bs)
 
-  ply_by_slabs : (padded : Bool) → ply_text padded (vertices g s) (triangles g s)
+  pub ply_by_slabs : (padded : Bool) → ply_text padded (vertices g s) (triangles g s)
       ≡ ply_head (sum_by edge_count bs + sum_by centre_count bs) (sum_by triangle_count bs) ++ stretches ply_lines padded bs
   ply_by_slabs padded =
       let end : List ℕ = line (codes "end_header") in
@@ -104,6 +104,5 @@ module _ (g : Grid) (solid : IsSolid g) (s : ℕ → ℤ) (bs : List Slab) (slab
       ∙ sym (append-group (vertex_head v) (face_head t ++ end) text
       ∙ ap (λ l. vertex_head v ++ l) (append-group (face_head t) end text)))
 
-pub text_by_slabs : TextBySlabs
-text_by_slabs g s padded bs solid slabs =
-    (ply_by_slabs g solid s bs slabs padded, all_lines g solid s bs slabs obj_lines padded)
+  pub obj_by_slabs : (padded : Bool) → obj_text padded (vertices g s) (triangles g s) ≡ stretches obj_lines padded bs
+  obj_by_slabs padded = all_lines obj_lines padded

@@ -1,6 +1,6 @@
 -- The texts of slabs, and the text of the whole mesh put together from them.
-use Rattle.std.specs.Prelude.{◌≡◌, ℕ, ◌+◌, ℤ, Bool, List, [], ◌∷◌, ◌++◌, length, codes}
-use Rattle.std.specs.List.{flat_map, sum_by}
+use Rattle.std.specs.Prelude.{◌≡◌, ℕ, ◌+◌, ◌<◌, ◌≤◌, ℤ, Bool, List, [], ◌∷◌, ◌++◌, length, codes}
+use Rattle.std.specs.List.{flat_map, sum, sum_by}
 use Rattle.iso_defs.specs.Bytes.{space, digit_three, lower_f, lower_v}
 use Rattle.iso_defs.specs.Cell.{Triangle}
 use Rattle.iso_defs.specs.Grid.{Grid}
@@ -8,7 +8,7 @@ use Rattle.iso_defs.specs.Outside.{IsSolid}
 use Rattle.iso_defs.specs.Place.{Position}
 use Rattle.iso_defs.specs.Scratch.{vertices, triangles}
 use Rattle.iso_defs.specs.Texts.{line, position_text, numbers_text, vertex_head, face_head, ply_text, obj_text}
-use Rattle.slab_laws.specs.Slabs.{Slab, AreSlabs, edge_places, centre_places, edge_count, centre_count, triangle_count, slab_triangles}
+use Rattle.slab_laws.specs.Slabs.{Slab, AreSlabs, slabs_of, edge_places, centre_places, edge_count, centre_count, triangle_count, slab_triangles}
 
 -- the lines of a format: of a vertex by its position, with padding or without, and of a triangle
 pub record Lines : Type 0 where
@@ -55,10 +55,18 @@ stretches f padded bs =
 abbrev pub ply_head : ℕ → ℕ → List ℕ
 ply_head vertices triangles = vertex_head vertices ++ (face_head triangles ++ line (codes "end_header"))
 
--- The text of a mesh is the stretches of its slabs, as PLY behind the head with their sums.
-abbrev pub TextBySlabs : Type 0
-TextBySlabs = (g : Grid) (s : ℕ → ℤ) (padded : Bool) (bs : List Slab) → IsSolid g → AreSlabs g s 0 bs →
-    (ply_text padded (vertices g s) (triangles g s)
-        ≡ ply_head (sum_by edge_count bs + sum_by centre_count bs) (sum_by triangle_count bs)
-          ++ stretches ply_lines padded bs)
-    × (obj_text padded (vertices g s) (triangles g s) ≡ stretches obj_lines padded bs)
+-- The text of a mesh as PLY is the head with the sums of its slabs' counts, and their stretches.
+abbrev pub PlyBySlabs : Type 0
+PlyBySlabs = (g : Grid) (s : ℕ → ℤ) (padded : Bool) (bs : List Slab) → IsSolid g → AreSlabs g s 0 bs →
+    ply_text padded (vertices g s) (triangles g s)
+    ≡ ply_head (sum_by edge_count bs + sum_by centre_count bs) (sum_by triangle_count bs)
+      ++ stretches ply_lines padded bs
+
+-- As OBJ, which has no head, it is their stretches.
+abbrev pub ObjBySlabs : Type 0
+ObjBySlabs = (g : Grid) (s : ℕ → ℤ) (padded : Bool) (bs : List Slab) → IsSolid g → AreSlabs g s 0 bs →
+    obj_text padded (vertices g s) (triangles g s) ≡ stretches obj_lines padded bs
+
+-- A grid can be cut so that all slabs but the last own these numbers of slices, if they leave two slices.
+abbrev pub CutsAreSlabs : Type 0
+CutsAreSlabs = (g : Grid) (s : ℕ → ℤ) (owned : List ℕ) → sum owned + 2 ≤ g.nz → AreSlabs g s 0 (slabs_of g s 0 owned)

@@ -37,7 +37,17 @@ AreSlabs g s z (b ∷ []) = IsSlab g s b × (b.height ≡ z) × (b.owned ≡ b.g
 AreSlabs g s z (b ∷ c ∷ bs) =
     IsSlab g s b × (b.height ≡ z) × (b.owned + 2 ≡ b.grid.nz) × AreSlabs g s (z + b.owned) (c ∷ bs)
 
--- it owns the crossing edges that begin in its owned slices
+-- n slices of a grid from slice z on, of which it owns some
+abbrev pub slab_at : Grid → (ℕ → ℤ) → ℕ → ℕ → ℕ → Slab
+slab_at g s z n owned =
+    record { grid = slices g n; field = λ p. s (p + slice_size g * z); height = z; owned = owned }
+
+-- the slabs from slice z on of which all but the last own these numbers of slices
+abbrev pub slabs_of : Grid → (ℕ → ℤ) → ℕ → List ℕ → List Slab
+slabs_of g s z [] = slab_at g s z (g.nz - z) (g.nz - z) ∷ []
+slabs_of g s z (n ∷ ns) = slab_at g s z (n + 2) n ∷ slabs_of g s (z + n) ns
+
+-- a slab owns the crossing edges that begin in its owned slices
 abbrev pub owned_edges : Slab → List ℕ
 owned_edges b = filter (is_crossing b.grid b.field) (below (3 * (slice_size b.grid * b.owned)))
 

@@ -1,2 +1,6 @@
-//! Laws of slabs: the mesh of a volume is the meshes of its slabs, one behind the other.
+//! Laws of slabs: the mesh of a volume is what its slabs own, one behind the other. A call says its law and does nothing else.
 #![tactic(auto)]
+
+mod texts;
+
+pub use texts::text_by_slabs;
