@@ -1,5 +1,5 @@
 -- Fields that agree at the points of a grid have the same mesh there.
-use Rattle.std.proofs.Common.{◌≡◌, ℕ, zero, suc, ◌+◌, ◌-◌, ◌*◌, ◌/◌, ◌%◌, ◌<◌, ◌≤◌, Bool, true, false, ◌&&◌, cond, List, ◌++◌, map, refl, sym, ap, ap₂, ◌∙◌, subst, arith, eqb, ltb, ℤ}
+use Rattle.std.proofs.Common.{◌≡◌, ℕ, ◌+◌, ◌-◌, ◌*◌, ◌/◌, ◌%◌, ◌<◌, ◌≤◌, Bool, true, false, ◌&&◌, cond, List, ◌++◌, map, refl, sym, ap, ap₂, ◌∙◌, subst, arith, eqb, ltb, ℤ}
 use Rattle.std.specs.List.{filter, flat_map, range_with_len, enumerate_from, count_by}
 use Rattle.std.proofs.lemmas.Bool.{ltb-true}
 use Rattle.std.proofs.lemmas.Nat.{mod_below, div_below}
@@ -29,7 +29,8 @@ behind true x y h = h refl
 behind false x y h = refl
 
 -- the upper end of an edge is a point of the grid
-upper_in : (g : Grid) (p a : ℕ) → IsSolid g → a < 3 → p < point_count g → has_next g a p ≡ true → p + stride g a < point_count g
+upper_in : (g : Grid) (p a : ℕ) → IsSolid g → a < 3 → p < point_count g → has_next g a p ≡ true
+    → p + stride g a < point_count g
 upper_in g p a solid small low next =
     let area : 0 < g.nx * g.ny = positive g.nx g.ny solid.x solid.y in
     let height : p / (g.nx * g.ny) < g.nz = div_below p (g.nx * g.ny) g.nz area (turn g.nx g.ny g.nz p low) in
@@ -70,7 +71,8 @@ upper_in g p a solid small low next =
     turn_back a b c n h = omega arith
 
 -- so is that of a cell's edge
-far_in : (g : Grid) (q e : ℕ) → In q (cells g) → e < 12 → corner_point g q (edge_corner e) + stride g (e / 4) < point_count g
+far_in : (g : Grid) (q e : ℕ) → In q (cells g) → e < 12
+    → corner_point g q (edge_corner e) + stride g (e / 4) < point_count g
 far_in g q e i =
     by_twelve (λ e. corner_point g q (edge_corner e) + stride g (e / 4) < point_count g)
     (at 1 _ (omega arith) (omega arith)) (at 3 _ (omega arith) (omega arith)) (at 5 _ (omega arith) (omega arith))
@@ -92,13 +94,16 @@ module _ (g : Grid) (solid : IsSolid g) (s t : ℕ → ℤ) (same : (p : ℕ) �
   same_coordinate : (n axis : ℕ) → n / 3 < point_count g → edge_upper g n < point_count g
       → edge_coordinate g t n axis ≡ edge_coordinate g s n axis
   same_coordinate n axis lower upper =
-      ap₂ (λ a b. 1000 * coordinate g axis (n / 3) + cond (eqb axis (n % 3)) (place a b) 0) (same (n / 3) lower) (same (edge_upper g n) upper)
+      ap₂ (λ a b. 1000 * coordinate g axis (n / 3) + cond (eqb axis (n % 3)) (place a b) 0) (same (n / 3) lower)
+      (same (edge_upper g n) upper)
 
   same_position : (n : ℕ) → n < name_bound g → is_crossing g s n ≡ true → edge_position g t n ≡ edge_position g s n
   same_position n low crossing =
       let lower : n / 3 < point_count g = omega (arith, low) in
-      let upper : edge_upper g n < point_count g = upper_in g (n / 3) (n % 3) solid (omega arith) lower (first (is_edge g n) _ crossing) in
-      position _ _ _ _ _ _ (same_coordinate n 0 lower upper) (same_coordinate n 1 lower upper) (same_coordinate n 2 lower upper)
+      let upper : edge_upper g n < point_count g = upper_in g (n / 3) (n % 3) solid (omega arith) lower
+      (first (is_edge g n) _ crossing) in
+      position _ _ _ _ _ _ (same_coordinate n 0 lower upper) (same_coordinate n 1 lower upper)
+      (same_coordinate n 2 lower upper)
     where
       first : (a b : Bool) → (a && b) ≡ true → a ≡ true
       first true b h = refl
@@ -118,38 +123,45 @@ module _ (g : Grid) (solid : IsSolid g) (s t : ℕ → ℤ) (same : (p : ℕ) �
 
   pub same_triangles : (q : ℕ) → In q (cells g) → cell_triangles g t q ≡ cell_triangles g s q
   same_triangles q i =
-      ap (λ values. map (on_corners (vertex_name g q)) (case_triangles (signs_of values) (joined_of values))) (same_values q i)
+      ap (λ values. map (on_corners (vertex_name g q)) (case_triangles (signs_of values) (joined_of values)))
+      (same_values q i)
 
   same_centre : (q : ℕ) → In q (cells g) → (l : ℕ × List ℕ) → Loop l
       → centre_position g t (map (cell_edge g q) l.1) ≡ centre_position g s (map (cell_edge g q) l.1)
   same_centre q i l k = position _ _ _ _ _ _ (along 0) (along 1) (along 2)
     where
-      each : (e axis : ℕ) → e < 12 → edge_coordinate g t (cell_edge g q e) axis ≡ edge_coordinate g s (cell_edge g q e) axis
+      each : (e axis : ℕ) → e < 12 → edge_coordinate g t (cell_edge g q e) axis
+          ≡ edge_coordinate g s (cell_edge g q e) axis
       each e axis few =
           let c : ℕ = corner_point g q (edge_corner e) in
           let lower : (3 * c + e / 4) / 3 ≡ c = omega arith in
           let turn : (3 * c + e / 4) % 3 ≡ e / 4 = omega arith in
           same_coordinate (cell_edge g q e) axis
           (subst (λ p. p < point_count g) (sym lower) (corner_in g q (edge_corner e) i (corner_below e few)))
-          (subst (λ p. p < point_count g) (sym (ap (λ p. p + stride g ((3 * c + e / 4) % 3)) lower ∙ ap (λ a. c + stride g a) turn)) (far_in g q e i few))
+          (subst (λ p. p < point_count g) (sym (ap (λ p. p + stride g ((3 * c + e / 4) % 3)) lower
+          ∙ ap (λ a. c + stride g a) turn)) (far_in g q e i few))
 
       along : (axis : ℕ) → mean (map (λ n. edge_coordinate g t n axis) (map (cell_edge g q) l.1))
           ≡ mean (map (λ n. edge_coordinate g s n axis) (map (cell_edge g q) l.1))
       along axis =
           ap mean (map-map (λ n. edge_coordinate g t n axis) (cell_edge g q) l.1
-          ∙ (map_agree_in (λ e. edge_coordinate g t (cell_edge g q e) axis) (λ e. edge_coordinate g s (cell_edge g q e) axis) l.1
+          ∙ (map_agree_in (λ e. edge_coordinate g t (cell_edge g q e) axis)
+          (λ e. edge_coordinate g s (cell_edge g q e) axis) l.1
           (λ e j. each e axis (k.edges e j))
           ∙ sym (map-map (λ n. edge_coordinate g s n axis) (cell_edge g q) l.1)))
 
   pub same_centres : (q : ℕ) → In q (cells g) → cell_centres g t q ≡ cell_centres g s q
   same_centres q i =
-      ap (λ ls. map (λ (l : ℕ × List ℕ). (centre_name g q l.0, centre_position g t (map (cell_edge g q) l.1))) (filter has_centre ls)) (same_loops q i)
+      ap (λ ls. map (λ (l : ℕ × List ℕ). (centre_name g q l.0, centre_position g t (map (cell_edge g q) l.1)))
+      (filter has_centre ls)) (same_loops q i)
       ∙ map_agree_in (λ (l : ℕ × List ℕ). (centre_name g q l.0, centre_position g t (map (cell_edge g q) l.1)))
-      (λ (l : ℕ × List ℕ). (centre_name g q l.0, centre_position g s (map (cell_edge g q) l.1))) (filter has_centre (cell_loops g s q))
+      (λ (l : ℕ × List ℕ). (centre_name g q l.0, centre_position g s (map (cell_edge g q) l.1)))
+      (filter has_centre (cell_loops g s q))
       (λ l j. ap (λ (p : Position). (centre_name g q l.0, p)) (same_centre q i l (loop_is g s q l j)))
 
   -- a vertex on one of the first edges
-  first_place : (k n : ℕ) → k ≤ name_bound g → In n (filter (is_crossing g s) (range_with_len 0 k)) → edge_position g t n ≡ edge_position g s n
+  first_place : (k n : ℕ) → k ≤ name_bound g → In n (filter (is_crossing g s) (range_with_len 0 k))
+      → edge_position g t n ≡ edge_position g s n
   first_place k n few i =
       let r : In n (range_with_len 0 k) × (is_crossing g s n ≡ true) = In-filter (is_crossing g s) n _ i in
       same_position n (let b : (0 ≤ n) × (n < 0 + k) = range_at_least 0 k n r.0 in omega arith) r.1
@@ -165,8 +177,8 @@ module _ (g : Grid) (solid : IsSolid g) (s t : ℕ → ℤ) (same : (p : ℕ) �
 
   -- what a slab owns
   module _ (z o : ℕ) (owned : o ≤ g.nz) where
-    abbrev mine : (ℕ → ℤ) → Slab
-    mine f = record { grid = g; field = f; height = z; owned = o }
+    abbrev slab_of : (ℕ → ℤ) → Slab
+    slab_of f = record { grid = g; field = f; height = z; owned = o }
 
     few_edges : 3 * (slice_size g * o) ≤ name_bound g
     few_edges = scaled (g.nx * g.ny) o g.nz owned
@@ -174,28 +186,34 @@ module _ (g : Grid) (solid : IsSolid g) (s t : ℕ → ℤ) (same : (p : ℕ) �
         scaled : (a o m : ℕ) → o ≤ m → 3 * (a * o) ≤ 3 * (a * m)
         scaled a o m l =
             let k : m ≡ o + (m - o) = omega arith in
-            subst (λ m. 3 * (a * o) ≤ 3 * (a * m)) (sym k) (let e : a * (o + (m - o)) ≡ a * o + a * (m - o) = omega arith in omega arith)
+            subst (λ m. 3 * (a * o) ≤ 3 * (a * m)) (sym k) (let e : a * (o + (m - o))
+            ≡ a * o + a * (m - o) = omega arith in omega arith)
 
-    cell_owned : (q : ℕ) → In q (owned_cells (mine s)) → In q (cells g)
+    cell_owned : (q : ℕ) → In q (owned_cells (slab_of s)) → In q (cells g)
     cell_owned q i =
         let r : In q (range_with_len 0 (slice_size g * o)) × (is_cell g q ≡ true) = In-filter (is_cell g) q _ i in
         let b : (0 ≤ q) × (q < 0 + slice_size g * o) = range_at_least 0 (slice_size g * o) q r.0 in
-        in_filter (is_cell g) q (below (point_count g)) (range_in 0 (point_count g) q (omega arith) (omega (arith, few_edges))) r.1
+        in_filter (is_cell g) q (below (point_count g))
+        (range_in 0 (point_count g) q (omega arith) (omega (arith, few_edges))) r.1
 
-    pub same_edge_places : edge_places (mine t) ≡ edge_places (mine s)
+    pub same_edge_places : edge_places (slab_of t) ≡ edge_places (slab_of s)
     same_edge_places =
         ap (map (λ n. lifted z (edge_position g t n))) (same_edges (3 * (slice_size g * o)) few_edges)
-        ∙ map_agree_in (λ n. lifted z (edge_position g t n)) (λ n. lifted z (edge_position g s n)) (owned_edges (mine s))
+        ∙ map_agree_in (λ n. lifted z (edge_position g t n)) (λ n. lifted z (edge_position g s n))
+        (owned_edges (slab_of s))
         (λ n i. ap (lifted z) (first_place (3 * (slice_size g * o)) n few_edges i))
 
-    pub same_centre_places : centre_places (mine t) ≡ centre_places (mine s)
+    pub same_centre_places : centre_places (slab_of t) ≡ centre_places (slab_of s)
     same_centre_places =
         ap (map (λ (v : ℕ × Position). lifted z v.1))
-        (flat_map_agree_in (cell_centres g t) (cell_centres g s) (owned_cells (mine s)) (λ q i. same_centres q (cell_owned q i)))
+        (flat_map_agree_in (cell_centres g t) (cell_centres g s) (owned_cells (slab_of s))
+        (λ q i. same_centres q (cell_owned q i)))
 
-    pub same_owned_triangles : owned_triangles (mine t) ≡ owned_triangles (mine s)
+    pub same_owned_triangles : owned_triangles (slab_of t) ≡ owned_triangles (slab_of s)
     same_owned_triangles =
-        let number : List (ℕ × Position) → ℕ → ℕ = λ vs v. count_by (λ u. ltb u v) (map (λ (v : ℕ × Position). v.0) vs) in
-        ap (λ vs. map (on_corners (number vs)) (flat_map (cell_triangles g t) (owned_cells (mine s)))) same_vertices
+        let number : List (ℕ × Position) → ℕ → ℕ = λ vs v. count_by (λ u. ltb u v)
+        (map (λ (v : ℕ × Position). v.0) vs) in
+        ap (λ vs. map (on_corners (number vs)) (flat_map (cell_triangles g t) (owned_cells (slab_of s)))) same_vertices
         ∙ ap (map (on_corners (number_of g s)))
-        (flat_map_agree_in (cell_triangles g t) (cell_triangles g s) (owned_cells (mine s)) (λ q i. same_triangles q (cell_owned q i)))
+        (flat_map_agree_in (cell_triangles g t) (cell_triangles g s) (owned_cells (slab_of s))
+        (λ q i. same_triangles q (cell_owned q i)))

@@ -1,5 +1,5 @@
 -- Every grid can be cut into slabs.
-use Rattle.std.proofs.Common.{◌≡◌, ℕ, ◌+◌, ◌-◌, ◌*◌, ◌<◌, ◌≤◌, List, [], ◌∷◌, refl, arith, ℤ}
+use Rattle.std.proofs.Common.{◌≡◌, ℕ, ◌+◌, ◌-◌, ◌≤◌, List, [], ◌∷◌, refl, arith, ℤ}
 use Rattle.std.specs.List.{sum}
 use Rattle.std.proofs.lemmas.List.Sums.{sum_by-cons}
 use Rattle.iso_defs.specs.Grid.{Grid}
@@ -16,8 +16,12 @@ module _ (g : Grid) (s : ℕ → ℤ) where
   are_slabs [] z fits = (slab_is z (g.nz - z) (g.nz - z) (omega arith), refl, refl, omega arith)
   are_slabs (n ∷ []) z fits =
       (slab_is z (n + 2) n (omega (arith, more n [])), refl, refl, are_slabs [] (z + n) (omega (arith, more n [])))
-  are_slabs (n ∷ m ∷ ns) z fits =
-      (slab_is z (n + 2) n (omega (arith, more n (m ∷ ns))), refl, refl, are_slabs (m ∷ ns) (z + n) (omega (arith, more n (m ∷ ns))))
+  are_slabs (n ∷ m ∷ ns) z fits = (
+    slab_is z (n + 2) n (omega (arith, more n (m ∷ ns))),
+    refl,
+    refl,
+    are_slabs (m ∷ ns) (z + n) (omega (arith, more n (m ∷ ns))),
+  )
 
   pub cuts_are_slabs : (ns : List ℕ) → sum ns + 2 ≤ g.nz → AreSlabs g s 0 (slabs_of g s 0 ns)
   cuts_are_slabs ns fits = are_slabs ns 0 (omega (arith, fits))

@@ -16,10 +16,11 @@ use Rattle.mesh_laws.proofs.Rows.{count_all, count_zero}
 use Rattle.slab_laws.specs.Slabs.{slices, slice_size}
 use Rattle.slab_laws.proofs.Parts.{above}
 use Rattle.slab_laws.proofs.Slices.{filter_alike}
-use Rattle.slab_laws.proofs.Joined.{own_edges, edges_cut, below_top}
+use Rattle.slab_laws.proofs.EdgesCut.{own_edges, edges_cut, below_top}
 
 -- the number of an edge counts the crossing edges before it
-pub number_of_edge : (g : Grid) (s : ℕ → ℤ) (n : ℕ) → n < name_bound g → number_of g s n ≡ count_by (λ u. ltb u n) (crossing_edges g s)
+pub number_of_edge : (g : Grid) (s : ℕ → ℤ) (n : ℕ) → n < name_bound g
+    → number_of g s n ≡ count_by (λ u. ltb u n) (crossing_edges g s)
 number_of_edge g s n h =
     let test : ℕ → Bool = λ u. ltb u n in
     let name : ℕ × Position → ℕ = λ (v : ℕ × Position). v.0 in
@@ -28,7 +29,8 @@ number_of_edge g s n h =
     let none : count_by (λ (v : ℕ × Position). ltb v.0 n) vs ≡ 0
     = count_none (λ (v : ℕ × Position). ltb v.0 n) vs (λ v i e.
     (let q : (q : ℕ) × In q (cells g) × In v (cell_centres g s q) = In-flat_map (cell_centres g s) v (cells g) i in
-    let l : (l : ℕ × List ℕ) × In l (filter has_centre (cell_loops g s q.0)) × (v ≡ _) = In-map _ v (filter has_centre (cell_loops g s q.0)) q.2 in
+    let l : (l : ℕ × List ℕ) × In l (filter has_centre (cell_loops g s q.0)) × (v ≡ _)
+    = In-map _ v (filter has_centre (cell_loops g s q.0)) q.2 in
     let high : v.0 ≡ name_bound g + (4 * q.0 + l.0.0) = ap (λ (z : ℕ × Position). z.0) l.2 in
     clash (ltb v.0 n) e (le-ltb v.0 n (omega (arith, high))))) in
     count-map test name (us ++ vs)
@@ -42,14 +44,18 @@ number_of_edge g s n h =
     clash false e f = cc
 
 -- how many of the numbers below a bound pass a test and are below a lesser bound
-count_below : (p : ℕ → Bool) (n r : ℕ) → count_by (λ u. ltb u n) (filter p (range_with_len 0 (n + r))) ≡ length (filter p (range_with_len 0 n))
+count_below : (p : ℕ → Bool) (n r : ℕ) → count_by (λ u. ltb u n) (filter p (range_with_len 0 (n + r)))
+    ≡ length (filter p (range_with_len 0 n))
 count_below p n r =
     let test : ℕ → Bool = λ u. ltb u n in
     let first : List ℕ = filter p (range_with_len 0 n) in
     let last : List ℕ = filter p (range_with_len (0 + n) r) in
-    let c1 : count_by test first ≡ length first = count_all n first (λ x i. (let k : (0 ≤ x) × (x < 0 + n) = range_at_least 0 n x (In-filter p x _ i).0 in omega arith)) in
-    let c2 : count_by test last ≡ 0 = count_zero n last (λ x i. (let k : (0 + n ≤ x) × (x < 0 + n + r) = range_at_least (0 + n) r x (In-filter p x _ i).0 in omega arith)) in
-    ap (count_by test) (ap (filter p) (range_append 0 n r) ∙ filter-append p (range_with_len 0 n) (range_with_len (0 + n) r))
+    let c1 : count_by test first ≡ length first = count_all n first (λ x i. (let k : (0 ≤ x) × (x < 0 + n)
+    = range_at_least 0 n x (In-filter p x _ i).0 in omega arith)) in
+    let c2 : count_by test last ≡ 0 = count_zero n last (λ x i. (let k : (0 + n ≤ x) × (x < 0 + n + r)
+    = range_at_least (0 + n) r x (In-filter p x _ i).0 in omega arith)) in
+    ap (count_by test) (ap (filter p) (range_append 0 n r)
+    ∙ filter-append p (range_with_len 0 n) (range_with_len (0 + n) r))
     ∙ (count-append test first last ∙ (ap (λ a. count_by test first + a) c2 ∙ (add-zero (count_by test first) ∙ c1)))
 
 module _ (g : Grid) (solid : IsSolid g) (s : ℕ → ℤ) (z : ℕ) (fits : z + 2 ≤ g.nz) where
@@ -65,7 +71,8 @@ module _ (g : Grid) (solid : IsSolid g) (s : ℕ → ℤ) (z : ℕ) (fits : z + 
       number_of_edge g s n there
       ∙ (ap (λ b. count_by (λ u. ltb u n) (filter (is_crossing g s) (range_with_len 0 b))) whole
       ∙ (count_below (is_crossing g s) n r
-      ∙ (ap length (sym (filter_alike (is_crossing g s) (is_crossing (slices g (z + 2)) s) 0 n (λ m _ l. below_top g solid s z fits m (omega arith))))
+      ∙ (ap length (sym (filter_alike (is_crossing g s) (is_crossing (slices g (z + 2)) s) 0 n
+      (λ m _ l. below_top g solid s z fits m (omega arith))))
       ∙ (sym (count_below (is_crossing (slices g (z + 2)) s) n t)
       ∙ (sym (ap (λ b. count_by (λ u. ltb u n) (filter (is_crossing (slices g (z + 2)) s) (range_with_len 0 b))) lower)
       ∙ sym (number_of_edge (slices g (z + 2)) s n here))))))
@@ -76,11 +83,13 @@ module _ (g : Grid) (solid : IsSolid g) (s : ℕ → ℤ) (z : ℕ) (fits : z + 
       wider : (a z m n : ℕ) → z + 2 ≤ m → n < 3 * (a * (z + 1)) → n < 3 * (a * m)
       wider a z m n f l =
           let k : m ≡ z + 1 + (m - (z + 1)) = omega arith in
-          subst (λ m. n < 3 * (a * m)) (sym k) (let e : a * (z + 1 + (m - (z + 1))) ≡ a * (z + 1) + a * (m - (z + 1)) = omega arith in omega arith)
+          subst (λ m. n < 3 * (a * m)) (sym k) (let e : a * (z + 1 + (m - (z + 1)))
+          ≡ a * (z + 1) + a * (m - (z + 1)) = omega arith in omega arith)
 
   -- an edge of what is above has so many more before it as the lower slab has of its own
   pub number_high : (n : ℕ) → n < name_bound (slices g (g.nz - z))
-      → number_of g s (n + 3 * (slice_size g * z)) ≡ length (own_edges g solid s z fits) + number_of (slices g (g.nz - z)) (above g z s) n
+      → number_of g s (n + 3 * (slice_size g * z)) ≡ length (own_edges g solid s z fits) + number_of
+      (slices g (g.nz - z)) (above g z s) n
   unfolding own_edges
   number_high n low =
       let k : ℕ = 3 * (slice_size g * z) in
@@ -89,8 +98,10 @@ module _ (g : Grid) (solid : IsSolid g) (s : ℕ → ℤ) (z : ℕ) (fits : z + 
       let there : n + k < name_bound g = sum (g.nx * g.ny) z g.nz n fits low in
       let test : ℕ → Bool = λ u. ltb u (n + k) in
       let c1 : count_by test own ≡ length own = count_all (n + k) own (λ x i.
-      (let m : (0 ≤ x) × (x < 0 + k) = range_at_least 0 k x (In-filter (is_crossing (slices g (z + 2)) s) x _ i).0 in omega arith)) in
-      let c2 : count_by test (map (λ m. m + k) upper) ≡ count_by (λ m. ltb (m + k) (n + k)) upper = count-map test (λ m. m + k) upper in
+      (let m : (0 ≤ x) × (x < 0 + k) = range_at_least 0 k x (In-filter (is_crossing (slices g (z + 2)) s) x _ i).0 in
+      omega arith)) in
+      let c2 : count_by test (map (λ m. m + k) upper) ≡ count_by (λ m. ltb (m + k) (n + k)) upper
+      = count-map test (λ m. m + k) upper in
       let c3 : (m : ℕ) → ltb (m + k) (n + k) ≡ ltb m n = λ m. elim (cases_lt m n) [
         | inl l ↦ lt-ltb _ _ (omega arith) ∙ sym (lt-ltb _ _ l)
         | inr l ↦ le-ltb _ _ (omega arith) ∙ sym (le-ltb _ _ l)
@@ -105,4 +116,5 @@ module _ (g : Grid) (solid : IsSolid g) (s : ℕ → ℤ) (z : ℕ) (fits : z + 
       sum : (a z m n : ℕ) → z + 2 ≤ m → n < 3 * (a * (m - z)) → n + 3 * (a * z) < 3 * (a * m)
       sum a z m n f l =
           let e : m ≡ z + (m - z) = omega arith in
-          subst (λ b. n + 3 * (a * z) < 3 * (a * b)) (sym e) (let d : a * (z + (m - z)) ≡ a * z + a * (m - z) = omega arith in omega arith)
+          subst (λ b. n + 3 * (a * z) < 3 * (a * b)) (sym e) (let d : a * (z + (m - z))
+          ≡ a * z + a * (m - z) = omega arith in omega arith)

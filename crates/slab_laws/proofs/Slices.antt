@@ -12,7 +12,8 @@ use Rattle.mesh_laws.proofs.Padded.{by_three}
 use Rattle.slab_laws.specs.Slabs.{slices, slice_size}
 
 -- what passes a test among numbers that are moved
-map_cond : (f : ℕ → ℕ) (t : Bool) (x : ℕ) (xs : List ℕ) → map f (cond t (x ∷ xs) xs) ≡ cond t (f x ∷ map f xs) (map f xs)
+map_cond : (f : ℕ → ℕ) (t : Bool) (x : ℕ) (xs : List ℕ)
+    → map f (cond t (x ∷ xs) xs) ≡ cond t (f x ∷ map f xs) (map f xs)
 map_cond f true x xs = refl
 map_cond f false x xs = refl
 
@@ -21,18 +22,22 @@ pub filter_moved : (p q : ℕ → Bool) (c b n : ℕ) → ((x : ℕ) → b ≤ x
 filter_moved p q c b zero h = refl
 filter_moved p q c b (suc n) h =
     let rest : map (λ x. x + c) (filter q (range_with_len (b + 1) n)) ≡ filter p (range_with_len (b + c + 1) n)
-    = filter_moved p q c (b + 1) n (λ x low high. h x (omega arith) (omega arith)) ∙ ap (λ a. filter p (range_with_len a n)) (turn b c) in
-    ap (λ t. map (λ x. x + c) (cond t (b ∷ filter q (range_with_len (b + 1) n)) (filter q (range_with_len (b + 1) n)))) (h b (omega arith) (omega arith))
+    = filter_moved p q c (b + 1) n (λ x low high. h x (omega arith) (omega arith))
+    ∙ ap (λ a. filter p (range_with_len a n)) (turn b c) in
+    ap (λ t. map (λ x. x + c) (cond t (b ∷ filter q (range_with_len (b + 1) n)) (filter q (range_with_len (b + 1) n))))
+    (h b (omega arith) (omega arith))
     ∙ (map_cond (λ x. x + c) (p (b + c)) b (filter q (range_with_len (b + 1) n))
     ∙ ap (λ l. cond (p (b + c)) ((b + c) ∷ l) l) rest)
   where
     turn : (b c : ℕ) → b + 1 + c ≡ b + c + 1
     turn b c = omega arith
 
-pub filter_alike : (p q : ℕ → Bool) (b n : ℕ) → ((x : ℕ) → b ≤ x → x < b + n → q x ≡ p x) → filter q (range_with_len b n) ≡ filter p (range_with_len b n)
+pub filter_alike : (p q : ℕ → Bool) (b n : ℕ) → ((x : ℕ) → b ≤ x → x < b + n → q x ≡ p x)
+    → filter q (range_with_len b n) ≡ filter p (range_with_len b n)
 filter_alike p q b zero h = refl
 filter_alike p q b (suc n) h =
-    ap₂ (λ t l. cond {A = List ℕ} t (b ∷ l) l) (h b (omega arith) (omega arith)) (filter_alike p q (b + 1) n (λ x low high. h x (omega arith) (omega arith)))
+    ap₂ (λ t l. cond {A = List ℕ} t (b ∷ l) l) (h b (omega arith) (omega arith))
+    (filter_alike p q (b + 1) n (λ x low high. h x (omega arith) (omega arith)))
 
 -- steps along an axis are the same
 pub same_stride : (g : Grid) (n a : ℕ) → a < 3 → stride (slices g n) a ≡ stride g a
@@ -102,7 +107,8 @@ module _ (g : Grid) (solid : IsSolid g) where
         (ap (λ c. ltb (c + 1) g.nx) (sym same_x)) (ap (λ c. ltb (c + 1) g.ny) (sym same_y)) up a l
 
   -- so an edge is crossing where the edge that it is in the whole grid is
-  pub same_crossing : (s t : ℕ → ℤ) (n z m : ℕ) → ((p : ℕ) → t p ≡ s (p + slice_size g * z)) → z + n ≤ g.nz → m / 3 < n * slice_size g
+  pub same_crossing : (s t : ℕ → ℤ) (n z m : ℕ) → ((p : ℕ) → t p ≡ s (p + slice_size g * z)) → z + n ≤ g.nz
+      → m / 3 < n * slice_size g
       → has_next (slices g n) 2 (m / 3) ≡ has_next g 2 (m / 3 + slice_size g * z)
       → is_crossing (slices g n) t m ≡ is_crossing g s (m + 3 * (slice_size g * z))
   same_crossing s t n z m crop fits low up =
@@ -111,17 +117,21 @@ module _ (g : Grid) (solid : IsSolid g) where
       let axis : (m + 3 * k) % 3 ≡ m % 3 = omega arith in
       let small : m % 3 < 3 = omega arith in
       let test : ℕ → ℕ → Bool = λ p a. has_next g a p && differ (is_above (s p)) (is_above (s (p + stride g a))) in
-      let here : has_next (slices g n) (m % 3) (m / 3) ≡ has_next g (m % 3) (m / 3 + k) = same_next n z fits (m / 3) low up (m % 3) small in
+      let here : has_next (slices g n) (m % 3) (m / 3) ≡ has_next g (m % 3) (m / 3 + k)
+      = same_next n z fits (m / 3) low up (m % 3) small in
       let upper : t (m / 3 + stride (slices g n) (m % 3)) ≡ s (m / 3 + k + stride g (m % 3))
       = crop (m / 3 + stride (slices g n) (m % 3)) ∙ ap s (omega (arith, same_stride g n (m % 3) small)) in
       ap (λ b. b && differ (is_above (t (m / 3))) (is_above (t (m / 3 + stride (slices g n) (m % 3))))) here
-      ∙ (ap (λ v. has_next g (m % 3) (m / 3 + k) && differ (is_above v) (is_above (t (m / 3 + stride (slices g n) (m % 3))))) (crop (m / 3))
+      ∙ (ap (λ v. has_next g (m % 3) (m / 3 + k) && differ (is_above v)
+      (is_above (t (m / 3 + stride (slices g n) (m % 3))))) (crop (m / 3))
       ∙ (ap (λ v. has_next g (m % 3) (m / 3 + k) && differ (is_above (s (m / 3 + k))) (is_above v)) upper
       ∙ sym (ap (λ p. test p ((m + 3 * k) % 3)) lower ∙ ap (test (m / 3 + k)) axis)))
 
   -- and a cell is one where the cell that it is there is
   pub same_cell : (n z q : ℕ) → z + n ≤ g.nz → q < n * slice_size g
-      → has_next (slices g n) 2 q ≡ has_next g 2 (q + slice_size g * z) → is_cell (slices g n) q ≡ is_cell g (q + slice_size g * z)
+      → has_next (slices g n) 2 q ≡ has_next g 2 (q + slice_size g * z)
+      → is_cell (slices g n) q ≡ is_cell g (q + slice_size g * z)
   same_cell n z q fits low up =
-      let next : (a : ℕ) → a < 3 → has_next (slices g n) a q ≡ has_next g a (q + slice_size g * z) = same_next n z fits q low up in
+      let next : (a : ℕ) → a < 3 → has_next (slices g n) a q ≡ has_next g a (q + slice_size g * z)
+      = same_next n z fits q low up in
       ap₂ (λ t u. t && u) (ap₂ (λ t u. t && u) (next 0 (omega arith)) (next 1 (omega arith))) up

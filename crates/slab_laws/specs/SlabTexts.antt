@@ -1,5 +1,5 @@
 -- The texts of slabs, and the text of the whole mesh put together from them.
-use Rattle.std.specs.Prelude.{◌≡◌, ℕ, ◌+◌, ◌<◌, ◌≤◌, ℤ, Bool, List, [], ◌∷◌, ◌++◌, length, codes}
+use Rattle.std.specs.Prelude.{◌≡◌, ℕ, ◌+◌, ◌≤◌, ℤ, Bool, List, [], ◌∷◌, ◌++◌, codes}
 use Rattle.std.specs.List.{flat_map, sum, sum_by}
 use Rattle.iso_defs.specs.Bytes.{space, digit_three, lower_f, lower_v}
 use Rattle.iso_defs.specs.Cell.{Triangle}
@@ -27,8 +27,8 @@ obj_lines = record {
   triangle = λ t. line (lower_f ∷ space ∷ numbers_text 1 t);
 }
 
--- the three stretches of a slab's text: the vertices on edges, the centres, and the triangles, for which the slab must know
--- the numbers of its first vertex on an edge and of its first centre
+-- the three parts of a slab's text: its vertices on edges, its centres, and its triangles, for which it must know the
+-- numbers in the whole of its first vertex on an edge and of its first centre
 abbrev pub edge_text : Lines → Bool → Slab → List ℕ
 edge_text f padded b = flat_map (f.vertex padded) (edge_places b)
 
@@ -38,16 +38,16 @@ centre_text f padded b = flat_map (f.vertex padded) (centre_places b)
 abbrev pub triangle_text : Lines → ℕ → ℕ → Slab → List ℕ
 triangle_text f first_edge first_centre b = flat_map f.triangle (slab_triangles first_edge first_centre b)
 
--- the triangles' texts of slabs, where the lowest has these numbers and each other those behind the slab below
+-- the triangles of slabs: the lowest has these numbers, and each other those behind the slab below it
 abbrev pub triangle_texts : Lines → ℕ → ℕ → List Slab → List ℕ
 triangle_texts f first_edge first_centre [] = []
 triangle_texts f first_edge first_centre (b ∷ bs) =
     triangle_text f first_edge first_centre b
     ++ triangle_texts f (first_edge + edge_count b) (first_centre + centre_count b) bs
 
--- all stretches of edges, then all of centres, whose numbers begin behind those of all edges, then all of triangles
-abbrev pub stretches : Lines → Bool → List Slab → List ℕ
-stretches f padded bs =
+-- the parts of all slabs: of edges, of centres, whose numbers begin behind those of all edges, and of triangles
+abbrev pub joined_texts : Lines → Bool → List Slab → List ℕ
+joined_texts f padded bs =
     flat_map (edge_text f padded) bs
     ++ (flat_map (centre_text f padded) bs ++ triangle_texts f 0 (sum_by edge_count bs) bs)
 
@@ -55,18 +55,18 @@ stretches f padded bs =
 abbrev pub ply_head : ℕ → ℕ → List ℕ
 ply_head vertices triangles = vertex_head vertices ++ (face_head triangles ++ line (codes "end_header"))
 
--- The text of a mesh as PLY is the head with the sums of its slabs' counts, and their stretches.
+-- The text of a mesh as PLY is the head with the sums of its slabs' counts, and the parts of all slabs behind it.
 abbrev pub PlyBySlabs : Type 0
 PlyBySlabs = (g : Grid) (s : ℕ → ℤ) (padded : Bool) (bs : List Slab) → IsSolid g → AreSlabs g s 0 bs →
     ply_text padded (vertices g s) (triangles g s)
     ≡ ply_head (sum_by edge_count bs + sum_by centre_count bs) (sum_by triangle_count bs)
-      ++ stretches ply_lines padded bs
+    ++ joined_texts ply_lines padded bs
 
--- As OBJ, which has no head, it is their stretches.
+-- As OBJ, which has no head, it is those parts.
 abbrev pub ObjBySlabs : Type 0
 ObjBySlabs = (g : Grid) (s : ℕ → ℤ) (padded : Bool) (bs : List Slab) → IsSolid g → AreSlabs g s 0 bs →
-    obj_text padded (vertices g s) (triangles g s) ≡ stretches obj_lines padded bs
+    obj_text padded (vertices g s) (triangles g s) ≡ joined_texts obj_lines padded bs
 
--- A grid can be cut so that all slabs but the last own these numbers of slices, if they leave two slices.
+-- A grid has slabs that own these numbers of slices, if they leave two slices for the last one.
 abbrev pub CutsAreSlabs : Type 0
 CutsAreSlabs = (g : Grid) (s : ℕ → ℤ) (owned : List ℕ) → sum owned + 2 ≤ g.nz → AreSlabs g s 0 (slabs_of g s 0 owned)

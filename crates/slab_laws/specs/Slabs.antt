@@ -23,14 +23,14 @@ pub record Slab : Type 0 where
   pub height : ℕ
   pub owned : ℕ
 
--- it has whole slices of a grid, with the values of the field there
+-- it has whole slices of a grid, and the values of its field there
 pub record IsSlab (g : Grid) (s : ℕ → ℤ) (b : Slab) : Type 0 where
   pub grid : b.grid ≡ slices g b.grid.nz
   pub fits : b.height + b.grid.nz ≤ g.nz
   pub values : (p : ℕ) → p < point_count b.grid → b.field p ≡ s (p + slice_size g * b.height)
 
--- the slabs of a grid from slice z on, the lowest first: each owns the slices up to the next one and has two more,
--- the last one has and owns all that are left
+-- the slabs of a grid from slice z on, the lowest first: each has two slices more than it owns, and the next begins
+-- behind those it owns; the last has and owns all that are left
 abbrev pub AreSlabs : Grid → (ℕ → ℤ) → ℕ → List Slab → Type 0
 AreSlabs g s z [] = ⊥
 AreSlabs g s z (b ∷ []) = IsSlab g s b × (b.height ≡ z) × (b.owned ≡ b.grid.nz) × (z + b.owned ≡ g.nz)
@@ -47,11 +47,11 @@ abbrev pub slabs_of : Grid → (ℕ → ℤ) → ℕ → List ℕ → List Slab
 slabs_of g s z [] = slab_at g s z (g.nz - z) (g.nz - z) ∷ []
 slabs_of g s z (n ∷ ns) = slab_at g s z (n + 2) n ∷ slabs_of g s (z + n) ns
 
--- a slab owns the crossing edges that begin in its owned slices
+-- the crossing edges that a slab owns: those that begin in its owned slices
 abbrev pub owned_edges : Slab → List ℕ
 owned_edges b = filter (is_crossing b.grid b.field) (below (3 * (slice_size b.grid * b.owned)))
 
--- and the cells there
+-- and the cells: those whose lowest point is there
 abbrev pub owned_cells : Slab → List ℕ
 owned_cells b = filter (is_cell b.grid) (below (slice_size b.grid * b.owned))
 
@@ -68,14 +68,14 @@ abbrev pub centre_places : Slab → List Position
 centre_places b =
     map (λ (v : ℕ × Position). lifted b.height v.1) (flat_map (cell_centres b.grid b.field) (owned_cells b))
 
--- how many it owns of both
+-- how many vertices it owns of each kind
 abbrev pub edge_count : Slab → ℕ
 edge_count b = length (edge_places b)
 
 abbrev pub centre_count : Slab → ℕ
 centre_count b = length (centre_places b)
 
--- the triangles of its owned cells, by the numbers of vertices in the slab
+-- the triangles of its owned cells, by the numbers that vertices have in the slab
 abbrev pub owned_triangles : Slab → List Triangle
 owned_triangles b =
     map (on_corners (number_of b.grid b.field)) (flat_map (cell_triangles b.grid b.field) (owned_cells b))
@@ -83,12 +83,13 @@ owned_triangles b =
 abbrev pub triangle_count : Slab → ℕ
 triangle_count b = length (owned_triangles b)
 
--- a number in a mesh whose first vertices, so many, are on edges: those are counted from one number, the centres from another
+-- the number in the whole of vertex n of a slab, where so many of the slab's vertices lie on edges: these are counted
+-- from one number on, the centres behind them from another
 abbrev pub renumbered : ℕ → ℕ → ℕ → ℕ → ℕ
 renumbered edges first_edge first_centre n =
     if nat_lt n edges then first_edge + n else first_centre + (n - edges)
 
--- the same by numbers in the whole, where the slab's first vertex on an edge and its first centre have these
+-- its triangles by numbers in the whole, where its first vertex on an edge and its first centre have these
 abbrev pub slab_triangles : ℕ → ℕ → Slab → List Triangle
 slab_triangles first_edge first_centre b =
     map (on_corners (renumbered (length (crossing_edges b.grid b.field)) first_edge first_centre)) (owned_triangles b)

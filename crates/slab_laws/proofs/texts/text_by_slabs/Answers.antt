@@ -1,4 +1,4 @@
-use Rattle.slab_laws.proofs.Stretches.{ply_by_slabs, obj_by_slabs}
+use Rattle.slab_laws.proofs.TextBySlabs.{ply_by_slabs, obj_by_slabs}
 use Rattle.slab_laws.proofs.Existing.{cuts_are_slabs}
 use Rattle.slab_laws.proofs.texts.text_by_slabs.Goals as goal
 

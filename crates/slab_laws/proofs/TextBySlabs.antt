@@ -1,4 +1,4 @@
--- The text of a mesh is the stretches of the slabs that its grid is cut into.
+-- The text of a mesh is the texts of the slabs that its grid is cut into.
 use Rattle.std.proofs.Common.{◌≡◌, ℕ, ◌+◌, ◌*◌, Bool, List, [], ◌∷◌, ◌++◌, map, refl, sym, ap, ap₂, ◌∙◌, arith, ℤ, length}
 use Rattle.std.specs.Prelude.{codes}
 use Rattle.std.specs.List.{flat_map, sum_by}
@@ -13,13 +13,14 @@ use Rattle.iso_defs.specs.Scratch.{crossing_edges, vertices, triangles, on_corne
 use Rattle.iso_defs.specs.Texts.{line, vertex_head, face_head, ply_text, obj_text}
 use Rattle.window_laws.proofs.Ascents.{append-group, flat_map-map}
 use Rattle.slab_laws.specs.Slabs.{slice_size, Slab, AreSlabs, edge_places, centre_places, edge_count, centre_count, triangle_count, renumbered, slab_triangles, owned_triangles}
-use Rattle.slab_laws.specs.SlabTexts.{Lines, ply_lines, obj_lines, edge_text, centre_text, triangle_text, triangle_texts, stretches, ply_head}
+use Rattle.slab_laws.specs.SlabTexts.{Lines, ply_lines, obj_lines, edge_text, centre_text, triangle_text, triangle_texts, joined_texts, ply_head}
 use Rattle.slab_laws.proofs.Places.{position}
-use Rattle.slab_laws.proofs.PlacesJoined.{places_on_edges, places_of_centres, places_are, all_unmoved}
+use Rattle.slab_laws.proofs.PlacesCut.{places_on_edges, places_of_centres, places_are, all_unmoved}
 use Rattle.slab_laws.proofs.Composed.{unnumbered}
-use Rattle.slab_laws.proofs.Cuts.{AreCut, all_triangles, cut_edges, cut_centres, cut_triangles, are_cut}
+use Rattle.slab_laws.proofs.AllSlabs.{AreCut, all_triangles, cut_edges, cut_centres, cut_triangles, are_cut}
 
-flat_flat : {A B C : Type 0} (f : B → List C) (h : A → List B) (xs : List A) → flat_map f (flat_map h xs) ≡ flat_map (λ x. flat_map f (h x)) xs
+flat_flat : {A B C : Type 0} (f : B → List C) (h : A → List B) (xs : List A)
+    → flat_map f (flat_map h xs) ≡ flat_map (λ x. flat_map f (h x)) xs
 flat_flat f h [] = refl
 flat_flat f h (x ∷ xs) = flat_map-append f (h x) (flat_map h xs) ∙ ap (λ l. flat_map f (h x) ++ l) (flat_flat f h xs)
 
@@ -28,7 +29,8 @@ same_corners f e [] = refl
 same_corners f e (t ∷ ts) = ap₂ (λ u l. u ∷ l) (position _ _ _ _ _ _ (e t.0) (e t.1) (e t.2)) (same_corners f e ts)
 
 -- the texts of all triangles, and how many there are
-texts_are : (f : Lines) (o p : ℕ) (bs : List Slab) → flat_map f.triangle (all_triangles o p bs) ≡ triangle_texts f o p bs
+texts_are : (f : Lines) (o p : ℕ) (bs : List Slab) → flat_map f.triangle (all_triangles o p bs)
+    ≡ triangle_texts f o p bs
 texts_are f o p [] = refl
 texts_are f o p (b ∷ bs) =
     flat_map-append f.triangle (slab_triangles o p b) (all_triangles (o + edge_count b) (p + centre_count b) bs)
@@ -85,24 +87,28 @@ module _ (g : Grid) (solid : IsSolid g) (s : ℕ → ℤ) (bs : List Slab) (slab
       ∙ ap₂ (λ a b. a ++ b) (flat_flat f edge_places bs) (flat_flat f centre_places bs)))
 
   all_lines : (f : Lines) (padded : Bool)
-      → flat_map (λ (v : ℕ × Position). f.vertex padded v.1) (vertices g s) ++ flat_map f.triangle (triangles g s) ≡ stretches f padded bs
+      → flat_map (λ (v : ℕ × Position). f.vertex padded v.1) (vertices g s) ++ flat_map f.triangle (triangles g s)
+      ≡ joined_texts f padded bs
   all_lines f padded =
       ap₂ (λ a b. a ++ b) (vertex_lines (f.vertex padded))
       (ap (flat_map f.triangle) faces ∙ texts_are f 0 (sum_by edge_count bs) bs)
-      ∙ append-group (flat_map (edge_text f padded) bs) (flat_map (centre_text f padded) bs) (triangle_texts f 0 (sum_by edge_count bs) bs)
+      ∙ append-group (flat_map (edge_text f padded) bs) (flat_map (centre_text f padded) bs)
+      (triangle_texts f 0 (sum_by edge_count bs) bs)
 
   pub ply_by_slabs : (padded : Bool) → ply_text padded (vertices g s) (triangles g s)
-      ≡ ply_head (sum_by edge_count bs + sum_by centre_count bs) (sum_by triangle_count bs) ++ stretches ply_lines padded bs
+      ≡ ply_head (sum_by edge_count bs + sum_by centre_count bs) (sum_by triangle_count bs)
+      ++ joined_texts ply_lines padded bs
   ply_by_slabs padded =
       let end : List ℕ = line (codes "end_header") in
-      let text : List ℕ = stretches ply_lines padded bs in
+      let text : List ℕ = joined_texts ply_lines padded bs in
       let v : ℕ = sum_by edge_count bs + sum_by centre_count bs in
       let t : ℕ = sum_by triangle_count bs in
-      ap₂ (λ m n. vertex_head m ++ (face_head n ++ (end ++ (flat_map (λ (v : ℕ × Position). ply_lines.vertex padded v.1) (vertices g s)
+      ap₂ (λ m n. vertex_head m ++ (face_head n ++ (end
+      ++ (flat_map (λ (v : ℕ × Position). ply_lines.vertex padded v.1) (vertices g s)
       ++ flat_map ply_lines.triangle (triangles g s))))) vertex_total face_total
       ∙ (ap (λ l. vertex_head v ++ (face_head t ++ (end ++ l))) (all_lines ply_lines padded)
       ∙ sym (append-group (vertex_head v) (face_head t ++ end) text
       ∙ ap (λ l. vertex_head v ++ l) (append-group (face_head t) end text)))
 
-  pub obj_by_slabs : (padded : Bool) → obj_text padded (vertices g s) (triangles g s) ≡ stretches obj_lines padded bs
+  pub obj_by_slabs : (padded : Bool) → obj_text padded (vertices g s) (triangles g s) ≡ joined_texts obj_lines padded bs
   obj_by_slabs padded = all_lines obj_lines padded
