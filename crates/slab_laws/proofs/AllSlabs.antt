@@ -9,7 +9,7 @@ use Rattle.iso_defs.specs.Place.{Position, edge_position}
 use Rattle.iso_defs.specs.Scratch.{crossing_edges, cell_centres, cell_triangles, cell_loops, has_centre, number_of, triangles, on_corners}
 use Rattle.window_laws.proofs.Ascents.{map_agree_in, flat_map_agree_in, map-map, map-append, map-flat_map}
 use Rattle.slab_laws.specs.Slabs.{slices, slice_size, Slab, IsSlab, AreSlabs, owned_cells, owned_triangles, edge_places, centre_places, edge_count, centre_count, lifted, renumbered, slab_triangles}
-use Rattle.slab_laws.proofs.Parts.{above, cell_keys, cell_places}
+use Rattle.slab_laws.proofs.Parts.{above, cell_keys, cell_places, lower_solid}
 use Rattle.slab_laws.proofs.EdgesCut.{own_edges, edge_sum}
 use Rattle.slab_laws.proofs.CellsCut.{own_cells}
 use Rattle.slab_laws.proofs.Keys.{own_keys}
@@ -114,9 +114,6 @@ module _ (g : Grid) (solid : IsSolid g) (s : ℕ → ℤ) (z : ℕ) (b : Slab) (
 -- the lowest slab and what is above
 module _ (g : Grid) (solid : IsSolid g) (s : ℕ → ℤ) (z : ℕ) (b : Slab) (fits : b.owned + 2 ≤ g.nz)
     (is : IsLowest (slices g (b.owned + 2)) s z b) where
-  lower_solid : IsSolid (slices g (b.owned + 2))
-  lower_solid = record { x = solid.x; y = solid.y; z = omega arith }
-
   step_edges : map (lifted z) (places_on_edges g s)
       ≡ edge_places b ++ map (lifted (z + b.owned)) (places_on_edges (slices g (g.nz - b.owned)) (above g b.owned s))
   unfolding own_edges
@@ -129,7 +126,7 @@ module _ (g : Grid) (solid : IsSolid g) (s : ℕ → ℤ) (z : ℕ) (b : Slab) (
       ∙ (map-append (lifted z) first (map (lifted o) up)
       ∙ ap₂ (λ a b. a ++ b)
       (map-map (lifted z) (edge_position h s) (own_edges g solid s o fits)
-      ∙ sym (lowest_edges h lower_solid s z b is (omega arith)))
+      ∙ sym (lowest_edges h (lower_solid g solid b.owned) s z b is (omega arith)))
       (lifted_twice z o up))
 
   step_centres : map (lifted z) (places_of_centres g s)
@@ -144,21 +141,21 @@ module _ (g : Grid) (solid : IsSolid g) (s : ℕ → ℤ) (z : ℕ) (b : Slab) (
       ap (map (lifted z)) (centres_placed g solid s o fits)
       ∙ (map-append (lifted z) first (map (lifted o) up)
       ∙ ap₂ (λ a b. a ++ b)
-      (sym (lowest_centres h lower_solid s z b is (omega arith) ∙ centre_cells h lower_solid s z b is (omega arith)))
+      (sym (lowest_centres h (lower_solid g solid b.owned) s z b is (omega arith) ∙ centre_cells h (lower_solid g solid b.owned) s z b is (omega arith)))
       (lifted_twice z o up))
 
   edges_counted : edge_count b ≡ length (own_edges g solid s b.owned fits)
   unfolding own_edges
   edges_counted =
       let h : Grid = slices g (b.owned + 2) in
-      ap length (lowest_edges h lower_solid s z b is (omega arith))
+      ap length (lowest_edges h (lower_solid g solid b.owned) s z b is (omega arith))
       ∙ length-map (own_edges g solid s b.owned fits) (λ n. lifted z (edge_position h s n))
 
   centres_counted : centre_count b ≡ length (own_keys g solid s b.owned fits)
   unfolding own_keys own_cells
   centres_counted =
       let h : Grid = slices g (b.owned + 2) in
-      ap length (lowest_centres h lower_solid s z b is (omega arith))
+      ap length (lowest_centres h (lower_solid g solid b.owned) s z b is (omega arith))
       ∙ (length-map (flat_map (cell_centres h s) (own_cells g solid b.owned fits)) (λ (v : ℕ × Position). lifted z v.1)
       ∙ length_flat (cell_centres h s) (cell_keys h s) (own_cells g solid b.owned fits)
       (λ q. (length-map (filter has_centre (cell_loops h s q)) _
@@ -194,7 +191,7 @@ module _ (g : Grid) (solid : IsSolid g) (s : ℕ → ℤ) (z : ℕ) (b : Slab) (
       (twice f (low g solid s b.owned fits) (renumbered e o p)
       (λ n. low_twice e total o p n (few_edges g solid s (b.owned + 2) fits)) own
       ∙ (ap (map (on_corners (renumbered e o p))) own_are
-      ∙ sym (lowest_triangles h lower_solid s z b is (omega arith) o p)))
+      ∙ sym (lowest_triangles h (lower_solid g solid b.owned) s z b is (omega arith) o p)))
       (twice f (high g solid s b.owned fits) (renumbered u (o + d) (p + c))
       (λ n. high_twice u d c total o p n (edge_sum g solid s b.owned fits)) (triangles upper t)
       ∙ (ap (λ d. map (on_corners (renumbered u (o + d) (p + c))) (triangles upper t)) (sym edges_counted)

@@ -8,6 +8,7 @@ use Rattle.iso_defs.specs.Outside.{IsSolid}
 use Rattle.iso_defs.specs.Scratch.{crossing_edges}
 use Rattle.mesh_laws.proofs.Padded.{by_three}
 use Rattle.slab_laws.specs.Slabs.{slices, slice_size, renumbered}
+use Rattle.slab_laws.proofs.Parts.{third, group}
 use Rattle.slab_laws.proofs.Slices.{same_stride, height, whole_height}
 use Rattle.slab_laws.proofs.EdgesCut.{cut}
 use Rattle.slab_laws.proofs.Corners.{under, over}
@@ -36,9 +37,6 @@ high_twice u d c total o p n sum =
           (ap (renumbered total o p) (over u d (total + c) (n - u) ∙ sym (group total c (n - u)))
           ∙ (over total o p (c + (n - u)) ∙ (group p c (n - u) ∙ sym (over u (o + d) (p + c) (n - u))))))
     ]
-  where
-    group : (a b c : ℕ) → a + (b + c) ≡ a + b + c
-    group a b c = omega arith
 
 -- the whole's own numbers stay
 pub unnumbered : (total n : ℕ) → renumbered total 0 total n ≡ n
@@ -101,9 +99,6 @@ module _ (g : Grid) (solid : IsSolid g) (s : ℕ → ℤ) (n : ℕ) (fits : n �
       (filter (is_crossing g s) (range_with_len (0 + k) r))) in
       omega (arith, a, b)
     where
-      third : (a r m : ℕ) → m < 3 * (a * r) → m / 3 < r * a
-      third a r m l = omega arith
-
       total : (a n m : ℕ) → n ≤ m → 3 * (a * m) ≡ 3 * (a * n) + (3 * (a * m) - 3 * (a * n))
       total a n m l =
           let k : m ≡ n + (m - n) = omega arith in

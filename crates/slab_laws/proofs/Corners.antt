@@ -9,7 +9,7 @@ use Rattle.iso_defs.specs.Scratch.{crossing_edges, number_of, vertex_names, vert
 use Rattle.verdict_laws.proofs.Lists.{In}
 use Rattle.mesh_laws.proofs.Names.{edge_in, name_of_edge, name_of_centre}
 use Rattle.slab_laws.specs.Slabs.{slices, slice_size, renumbered}
-use Rattle.slab_laws.proofs.Parts.{above, keys}
+use Rattle.slab_laws.proofs.Parts.{above, keys, lower_solid, group}
 use Rattle.slab_laws.proofs.EdgesCut.{own_edges}
 use Rattle.slab_laws.proofs.CellsCut.{own_cells}
 use Rattle.slab_laws.proofs.Numbers.{number_low, number_high}
@@ -78,7 +78,7 @@ module _ (g : Grid) (solid : IsSolid g) (s : ℕ → ℤ) (z : ℕ) (fits : z + 
           ≡ length (crossing_edges (slices g (z + 2)) s) + count_by (λ u. ltb u x) (keys (slices g (z + 2)) s)
           = number_of_key (slices g (z + 2)) s x in
           let same : count_by (λ u. ltb u x) (keys g s) ≡ count_by (λ u. ltb u x) (keys (slices g (z + 2)) s)
-          = keys_low g solid s z fits x key ∙ sym (keys_low (slices g (z + 2)) (solid_slices g solid z) s z
+          = keys_low g solid s z fits x key ∙ sym (keys_low (slices g (z + 2)) (lower_solid g solid z) s z
           (omega arith) x key) in
           ap (number_of g s) (name_of_centre g q v a)
           ∙ (there ∙ (ap (λ c. length (crossing_edges g s) + c) same
@@ -88,9 +88,6 @@ module _ (g : Grid) (solid : IsSolid g) (s : ℕ → ℤ) (z : ℕ) (fits : z + 
           ∙ sym (ap (λ m. renumbered (length (crossing_edges (slices g (z + 2)) s)) 0 (length (crossing_edges g s))
           (number_of (slices g (z + 2)) s m))
           (name_of_centre (slices g (z + 2)) q v a))))))
-        where
-          solid_slices : (g : Grid) → IsSolid g → (z : ℕ) → IsSolid (slices g (z + 2))
-          solid_slices g solid z = record { x = solid.x; y = solid.y; z = omega arith }
 
   -- a corner of a cell above
   pub high_corner : (q v : ℕ) → In q (cells (slices g (g.nz - z))) → v < 16
@@ -162,6 +159,3 @@ module _ (g : Grid) (solid : IsSolid g) (s : ℕ → ℤ) (z : ℕ) (fits : z + 
           ∙ sym (ap (λ m. renumbered (length (crossing_edges (slices g (g.nz - z)) (above g z s)))
           (length (own_edges g solid s z fits)) (length (crossing_edges g s) + length (own_keys g solid s z fits))
           (number_of (slices g (g.nz - z)) (above g z s) m)) (name_of_centre (slices g (g.nz - z)) q v a)))))))
-        where
-          group : (a b c : ℕ) → a + (b + c) ≡ a + b + c
-          group a b c = omega arith

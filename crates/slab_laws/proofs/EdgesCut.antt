@@ -9,7 +9,7 @@ use Rattle.iso_defs.specs.Outside.{IsSolid}
 use Rattle.iso_defs.specs.Scratch.{crossing_edges}
 use Rattle.iso_defs.proofs.Ranges.{range_append}
 use Rattle.slab_laws.specs.Slabs.{slices, slice_size}
-use Rattle.slab_laws.proofs.Parts.{above}
+use Rattle.slab_laws.proofs.Parts.{above, third, stays}
 use Rattle.slab_laws.proofs.Slices.{filter_moved, filter_alike, same_crossing, next_at_top, next_below, height_low}
 
 -- numbers of three each, and of one: what passes a test below a bound, and above it
@@ -21,20 +21,17 @@ module _ (g : Grid) (solid : IsSolid g) (s : ℕ → ℤ) (z : ℕ) (fits : z + 
   -- below: edges that do not begin in the last slice
   pub below_top : (n : ℕ) → n < 3 * (slice_size g * (z + 1)) → is_crossing (slices g (z + 2)) s n ≡ is_crossing g s n
   below_top n l =
-      let low : n / 3 < (z + 2) * slice_size g = third (g.nx * g.ny) z n l in
+      let low : n / 3 < (z + 2) * slice_size g = inside (g.nx * g.ny) z n l in
       let slice : n / 3 / slice_size g < z + 1 = height_low g solid (z + 1) (n / 3) (own (g.nx * g.ny) z n l) in
-      same_crossing g solid s s (z + 2) 0 n (λ p. ap s (none (slice_size g) p)) (omega arith) low
+      same_crossing g solid s s (z + 2) 0 n (λ p. ap s (stays (slice_size g) p)) (omega arith) low
       (next_below g solid (z + 2) 0 (omega arith) (n / 3) low (omega arith))
       ∙ ap (is_crossing g s) (more (slice_size g) n)
     where
-      third : (a z n : ℕ) → n < 3 * (a * (z + 1)) → n / 3 < (z + 2) * a
-      third a z n l = let e : (z + 2) * a ≡ a * (z + 1) + a = omega arith in omega arith
+      inside : (a z n : ℕ) → n < 3 * (a * (z + 1)) → n / 3 < (z + 2) * a
+      inside a z n l = let e : (z + 2) * a ≡ a * (z + 1) + a = omega arith in omega arith
 
       own : (a z n : ℕ) → n < 3 * (a * (z + 1)) → n / 3 < (z + 1) * a
       own a z n l = let e : (z + 1) * a ≡ a * (z + 1) = omega arith in omega arith
-
-      none : (a p : ℕ) → p ≡ p + a * 0
-      none a p = omega arith
 
       more : (a n : ℕ) → n + 3 * (a * 0) ≡ n
       more a n = omega arith
@@ -78,9 +75,6 @@ module _ (g : Grid) (solid : IsSolid g) (s : ℕ → ℤ) (z : ℕ) (fits : z + 
           let low : n / 3 < (g.nz - z) * slice_size g = third (g.nx * g.ny) (g.nz - z) n l in
           same_crossing g solid s (above g z s) (g.nz - z) z n (λ p. refl) (omega arith) low
           (next_at_top g solid (g.nz - z) z (omega arith) (n / 3) low (omega arith))
-        where
-          third : (a r n : ℕ) → n < 3 * (a * r) → n / 3 < r * a
-          third a r n l = omega arith
 
   -- so many edges the whole has
   pub edge_sum : length (crossing_edges g s)

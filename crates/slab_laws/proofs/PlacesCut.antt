@@ -12,7 +12,7 @@ use Rattle.verdict_laws.proofs.Lists.{In, In-filter}
 use Rattle.mesh_laws.proofs.Cells.{range_at_least}
 use Rattle.window_laws.proofs.Ascents.{map_agree_in, flat_map_agree_in, map-map, map-append, map-flat_map, flat_map-map}
 use Rattle.slab_laws.specs.Slabs.{slices, slice_size, lifted}
-use Rattle.slab_laws.proofs.Parts.{above, cell_places}
+use Rattle.slab_laws.proofs.Parts.{above, cell_places, third, stays}
 use Rattle.slab_laws.proofs.EdgesCut.{own_edges, edges_cut}
 use Rattle.slab_laws.proofs.CellsCut.{own_cells, cells_cut}
 use Rattle.slab_laws.proofs.Triangles.{own_in_lower}
@@ -43,26 +43,23 @@ all_unmoved [] = refl
 all_unmoved (p ∷ ps) = ap₂ (λ a l. a ∷ l) (unmoved p) (all_unmoved ps)
 
 module _ (g : Grid) (solid : IsSolid g) (s : ℕ → ℤ) (z : ℕ) (fits : z + 2 ≤ g.nz) where
-  still : (a p : ℕ) → p ≡ p + a * 0
-  still a p = omega arith
-
   low_edge : (m : ℕ) → m < 3 * (slice_size g * z) → edge_position g s m ≡ edge_position (slices g (z + 2)) s m
   low_edge m l =
       ap (edge_position g s) (more (slice_size g) m)
-      ∙ (edge_lifted g solid s s (z + 2) 0 (λ p. ap s (still (slice_size g) p)) (omega arith) m
-      (third (g.nx * g.ny) z m l)
+      ∙ (edge_lifted g solid s s (z + 2) 0 (λ p. ap s (stays (slice_size g) p)) (omega arith) m
+      (inside (g.nx * g.ny) z m l)
       ∙ unmoved (edge_position (slices g (z + 2)) s m))
     where
       more : (a m : ℕ) → m ≡ m + 3 * (a * 0)
       more a m = omega arith
 
-      third : (a z n : ℕ) → n < 3 * (a * z) → n / 3 < (z + 2) * a
-      third a z n l = let e : (z + 2) * a ≡ a * z + 2 * a = omega arith in omega arith
+      inside : (a z n : ℕ) → n < 3 * (a * z) → n / 3 < (z + 2) * a
+      inside a z n l = let e : (z + 2) * a ≡ a * z + 2 * a = omega arith in omega arith
 
   low_centres : (q : ℕ) → In q (own_cells g solid z fits) → cell_places g s q ≡ cell_places (slices g (z + 2)) s q
   low_centres q i =
-      ap (cell_places g s) (still (slice_size g) q)
-      ∙ (centres_lifted g solid s s (z + 2) 0 (λ p. ap s (still (slice_size g) p)) (omega arith) q
+      ap (cell_places g s) (stays (slice_size g) q)
+      ∙ (centres_lifted g solid s s (z + 2) 0 (λ p. ap s (stays (slice_size g) p)) (omega arith) q
       (own_in_lower g solid s z fits q i)
       ∙ all_unmoved (cell_places (slices g (z + 2)) s q))
 
@@ -92,9 +89,6 @@ module _ (g : Grid) (solid : IsSolid g) (s : ℕ → ℤ) (z : ℕ) (fits : z + 
       ∙ sym (map-map (lifted z) (edge_position (slices g (g.nz - z)) (above g z s)) up)) in
       ap (map (edge_position g s)) (edges_cut g solid s z fits)
       ∙ (map-append (edge_position g s) own (map (λ n. n + k) up) ∙ ap₂ (λ a b. a ++ b) first second)
-    where
-      third : (a r n : ℕ) → n < 3 * (a * r) → n / 3 < r * a
-      third a r n l = omega arith
 
   -- and of centres
   pub centres_placed : places_of_centres g s ≡

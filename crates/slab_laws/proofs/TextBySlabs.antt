@@ -1,5 +1,5 @@
 -- The text of a mesh is the texts of the slabs that its grid is cut into.
-use Rattle.std.proofs.Common.{◌≡◌, ℕ, ◌+◌, ◌*◌, Bool, List, [], ◌∷◌, ◌++◌, map, refl, sym, ap, ap₂, ◌∙◌, arith, ℤ, length}
+use Rattle.std.proofs.Common.{◌≡◌, ℕ, ◌+◌, Bool, List, [], ◌∷◌, ◌++◌, map, refl, sym, ap, ap₂, ◌∙◌, arith, ℤ, length}
 use Rattle.std.specs.Prelude.{codes}
 use Rattle.std.specs.List.{flat_map, sum_by}
 use Rattle.std.proofs.lemmas.List.{length-append, length-map}
@@ -13,6 +13,7 @@ use Rattle.iso_defs.specs.Scratch.{crossing_edges, vertices, triangles, on_corne
 use Rattle.iso_defs.specs.Texts.{line, vertex_head, face_head, ply_text, obj_text}
 use Rattle.window_laws.proofs.Ascents.{append-group, flat_map-map}
 use Rattle.slab_laws.specs.Slabs.{slice_size, Slab, AreSlabs, edge_places, centre_places, edge_count, centre_count, triangle_count, renumbered, slab_triangles, owned_triangles}
+use Rattle.slab_laws.proofs.Parts.{stays}
 use Rattle.slab_laws.specs.SlabTexts.{Lines, ply_lines, obj_lines, edge_text, centre_text, triangle_text, triangle_texts, joined_texts, ply_head}
 use Rattle.slab_laws.proofs.Places.{position}
 use Rattle.slab_laws.proofs.PlacesCut.{places_on_edges, places_of_centres, places_are, all_unmoved}
@@ -47,10 +48,7 @@ count_is o p (b ∷ bs) =
 
 module _ (g : Grid) (solid : IsSolid g) (s : ℕ → ℤ) (bs : List Slab) (slabs : AreSlabs g s 0 bs) where
   cut : AreCut g s 0 bs
-  cut = are_cut g s 0 g.nz (omega arith) s (λ p. ap s (none (slice_size g) p)) bs slabs
-    where
-      none : (a p : ℕ) → p ≡ p + a * 0
-      none a p = omega arith
+  cut = are_cut g s 0 g.nz (omega arith) s (λ p. ap s (stays (slice_size g) p)) bs slabs
 
   edges : places_on_edges g s ≡ flat_map edge_places bs
   edges = sym (all_unmoved (places_on_edges g s)) ∙ cut_edges g solid s 0 bs cut

@@ -16,14 +16,12 @@ use Rattle.mesh_laws.proofs.Numbers.{Vertices, triangle_vertices}
 use Rattle.window_laws.proofs.Ascents.{map_agree_in, flat_map_agree_in, map-map, map-flat_map, flat_map-map}
 use Rattle.slab_laws.specs.Slabs.{slices, slice_size, renumbered}
 use Rattle.slab_laws.proofs.Parts.{above}
+use Rattle.slab_laws.proofs.Places.{position}
 use Rattle.slab_laws.proofs.EdgesCut.{own_edges}
 use Rattle.slab_laws.proofs.CellsCut.{own_cells, cells_cut}
 use Rattle.slab_laws.proofs.Keys.{own_keys, same_values}
 use Rattle.slab_laws.proofs.Renumbered.{own_low}
 use Rattle.slab_laws.proofs.Corners.{low_corner, high_corner}
-
-triple : (a b c d e f : ℕ) → a ≡ d → b ≡ e → c ≡ f → ◌≡◌ {A = Triangle} (a, b, c) (d, e, f)
-triple a b c d e f x y z = ap (λ u. (u, b, c)) x ∙ (ap (λ u. (d, u, c)) y ∙ ap (λ u. (d, e, u)) z)
 
 pub length_flat : {A B : Type 0} (f : ℕ → List A) (h : ℕ → List B) (xs : List ℕ)
     → ((x : ℕ) → length (f x) ≡ length (h x)) → length (flat_map f xs) ≡ length (flat_map h xs)
@@ -64,7 +62,7 @@ module _ (g : Grid) (solid : IsSolid g) (s : ℕ → ℤ) (z : ℕ) (fits : z + 
       = triangle_vertices (slices g (z + 2)) s (on_corners name u)
       (in_flat_map (cell_triangles (slices g (z + 2)) s) (on_corners name u) q (cells (slices g (z + 2)))
       (own_in_lower q i) (in_map (on_corners name) u ts j)) in
-      triple _ _ _ _ _ _ (low_corner g solid s z fits q u.0 i few.first vs.first)
+      position _ _ _ _ _ _ (low_corner g solid s z fits q u.0 i few.first vs.first)
       (low_corner g solid s z fits q u.1 i few.second vs.second)
       (low_corner g solid s z fits q u.2 i few.third vs.third)))
       ∙ sym (ap (map (on_corners low)) (map-map (on_corners number) (on_corners name) ts)
@@ -90,7 +88,7 @@ module _ (g : Grid) (solid : IsSolid g) (s : ℕ → ℤ) (z : ℕ) (fits : z + 
       = triangle_vertices (slices g (g.nz - z)) (above g z s) (on_corners name u)
       (in_flat_map (cell_triangles (slices g (g.nz - z)) (above g z s)) (on_corners name u) q
       (cells (slices g (g.nz - z))) i (in_map (on_corners name) u ts j)) in
-      triple _ _ _ _ _ _ (high_corner g solid s z fits q u.0 i few.first vs.first)
+      position _ _ _ _ _ _ (high_corner g solid s z fits q u.0 i few.first vs.first)
       (high_corner g solid s z fits q u.1 i few.second vs.second)
       (high_corner g solid s z fits q u.2 i few.third vs.third)))
       ∙ sym (ap (map (on_corners high)) (map-map (on_corners number) (on_corners name) ts)
