@@ -141,7 +141,8 @@ module _ (g : Grid) (solid : IsSolid g) (s : ℕ → ℤ) (z : ℕ) (b : Slab) (
       ap (map (lifted z)) (centres_placed g solid s o fits)
       ∙ (map-append (lifted z) first (map (lifted o) up)
       ∙ ap₂ (λ a b. a ++ b)
-      (sym (lowest_centres h (lower_solid g solid b.owned) s z b is (omega arith) ∙ centre_cells h (lower_solid g solid b.owned) s z b is (omega arith)))
+      (sym (lowest_centres h (lower_solid g solid b.owned) s z b is (omega arith)
+      ∙ centre_cells h (lower_solid g solid b.owned) s z b is (omega arith)))
       (lifted_twice z o up))
 
   edges_counted : edge_count b ≡ length (own_edges g solid s b.owned fits)

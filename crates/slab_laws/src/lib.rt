@@ -1,4 +1,5 @@
-//! Laws of slabs: the mesh of a volume is what its slabs own, one behind the other. A call says its law and does nothing else.
+//! Laws of slabs: the mesh of a volume is what its slabs own, one behind the other. A call says its law and does nothing
+//! else.
 #![tactic(auto)]
 
 mod texts;
