@@ -1,1 +1,4 @@
 pub mod Prefixes
+pub mod OneOption
+pub mod OtherRequests
+pub mod PointsWords

@@ -3,10 +3,12 @@
 #![tactic(auto)]
 
 mod help;
+mod laws;
 mod options;
 mod read;
 mod request;
 
 pub use help::{help_text, version_text};
+pub use laws::points_words_agree;
 pub use read::read_words;
 pub use request::Request;

@@ -1,5 +1,4 @@
 //! A law of the words of command lines: what the two programs take for `points` is the same.
-#![tactic(auto)]
 
 ghost use Rattle.command_words.specs.Words.{request_of};
 ghost use Rattle.command_words.specs.declared.request.Request.TheVariants.{Points};

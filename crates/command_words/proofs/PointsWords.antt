@@ -10,8 +10,8 @@ use Rattle.command_words.specs.declared.request.Request.TheVariants.{Help, Point
 use Rattle.program_words.specs.Questions.{asks_help, asks_version, is_among}
 use Rattle.point_command.specs.Words.{asked_of, points_level}
 use Rattle.point_command.specs.declared.words.Asked.TheVariants as alone
-use Rattle.word_laws.proofs.OneOption.{more_words, no_words, one_option}
-use Rattle.word_laws.proofs.OtherRequests.{check_asks, extract_asks, gen_asks, is_points, session_asks, soak_asks}
+use Rattle.command_words.proofs.OneOption.{more_words, no_words, one_option}
+use Rattle.command_words.proofs.OtherRequests.{check_asks, extract_asks, gen_asks, is_points, session_asks, soak_asks}
 
 -- behind the word `points`
 pub behind_points : (words : List (List ℕ)) → points_of words ≡ option_map Points (points_level (codes "points" ∷ words))

@@ -1,3 +1,0 @@
-pub mod OneOption
-pub mod OtherRequests
-pub mod PointsWords
