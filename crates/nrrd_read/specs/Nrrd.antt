@@ -8,13 +8,13 @@ use Rattle.refusals.specs.declared.nrrd.NrrdFault.{NrrdFault}
 use Rattle.refusals.specs.declared.nrrd.NrrdFault.TheVariants.{NotNrrd, HeaderTooLong, Memory}
 use Rattle.text_lines.specs.Lines.{Line, lines_of}
 use Rattle.text_lines.specs.Refusals.{◌>>=◌, unless_fault, AnswersBut, FailsBut}
-use Rattle.nrrd_header.specs.HeaderLines.{header_texts, sample_bytes}
-use Rattle.nrrd_header.specs.Fields.{Fields, fields_in, first_fault, meanings}
-use Rattle.nrrd_header.specs.Checks.{layout_of}
+use Rattle.nrrd_read.specs.HeaderLines.{header_texts, sample_bytes}
+use Rattle.nrrd_read.specs.Fields.{Fields, fields_in, first_fault, meanings}
+use Rattle.nrrd_read.specs.Checks.{layout_of}
 use Rattle.nrrd_read.specs.Faults.{fault_of}
-use Rattle.nrrd_header.specs.declared.encoding.Encoding.{Encoding}
-use Rattle.nrrd_header.specs.declared.encoding.Encoding.TheVariants.{Raw, Text, Hex}
-use Rattle.nrrd_header.specs.declared.layout.Layout.{Layout}
+use Rattle.nrrd_read.specs.declared.encoding.Encoding.{Encoding}
+use Rattle.nrrd_read.specs.declared.encoding.Encoding.TheVariants.{Raw, Text, Hex}
+use Rattle.nrrd_read.specs.declared.layout.Layout.{Layout}
 use Rattle.text_samples.specs.declared.fault.SampleFault.{SampleFault}
 use Rattle.text_samples.specs.declared.fault.SampleFault.TheVariants.{Short}
 use Rattle.iso_base.specs.SampleBytes.{samples_in}

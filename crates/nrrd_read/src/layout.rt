@@ -1,7 +1,7 @@
 //! What the fields of a header say of the samples.
 ghost use Rattle.std.specs.Prelude.{◌≡◌};
-ghost use Rattle.nrrd_header.specs.Scanning.{seen_fields};
-ghost use Rattle.nrrd_header.specs.Checks.{layout_of};
+ghost use Rattle.nrrd_read.specs.Scanning.{seen_fields};
+ghost use Rattle.nrrd_read.specs.Checks.{layout_of};
 
 use crate::checks::{
     ask_dimension, ask_skip, ask_value, big_first, encoding_of, kind_of, sizes_of,

@@ -4,11 +4,11 @@
 ghost use Rattle.std.specs.Prelude.{◌≡◌, ◌+◌, ◌^◌, ◌≤◌, ◌<◌, length, Option, MatchOption, IfSome, [], ◌∷◌, Ok};
 ghost use Rattle.std.specs.Option.{option_map};
 ghost use Rattle.text_lines.specs.Lines.{lines_of};
-ghost use Rattle.nrrd_header.specs.HeaderLines.{header_texts, sample_bytes};
-ghost use Rattle.nrrd_header.specs.Fields.{fields_in, first_fault, meanings, meaning_of};
-ghost use Rattle.nrrd_header.specs.Checks.{map_ok};
+ghost use Rattle.nrrd_read.specs.HeaderLines.{header_texts, sample_bytes};
+ghost use Rattle.nrrd_read.specs.Fields.{fields_in, first_fault, meanings, meaning_of};
+ghost use Rattle.nrrd_read.specs.Checks.{map_ok};
 ghost use Rattle.text_lines.specs.Refusals.{unless_fault};
-ghost use Rattle.nrrd_header.specs.Scanning.{seen_fields, get_field, put_field, no_fields, after_line};
+ghost use Rattle.nrrd_read.specs.Scanning.{seen_fields, get_field, put_field, no_fields, after_line};
 
 use crate::meaning::{Meaning, line_meaning};
 use refusals::{Field, NrrdFault};

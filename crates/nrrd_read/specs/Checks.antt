@@ -11,17 +11,17 @@ use Rattle.refusals.specs.declared.nrrd.Field.TheVariants.{Dimension, Kind, Size
 use Rattle.refusals.specs.declared.nrrd.Field.TheVariants as fields
 use Rattle.refusals.specs.declared.nrrd.EncodingWord.{EncodingWord}
 use Rattle.refusals.specs.declared.nrrd.EncodingWord.TheVariants.{Gzip, Bzip2, Unknown}
-use Rattle.nrrd_header.specs.declared.encoding.Encoding.{Encoding}
-use Rattle.nrrd_header.specs.declared.encoding.Encoding.TheVariants.{Raw, Text, Hex}
-use Rattle.nrrd_header.specs.declared.layout.Layout.{Layout}
+use Rattle.nrrd_read.specs.declared.encoding.Encoding.{Encoding}
+use Rattle.nrrd_read.specs.declared.encoding.Encoding.TheVariants.{Raw, Text, Hex}
+use Rattle.nrrd_read.specs.declared.layout.Layout.{Layout}
 use Rattle.refusals.specs.declared.nrrd.NrrdFault.{NrrdFault}
 use Rattle.refusals.specs.declared.nrrd.NrrdFault.TheVariants.{MissingField, BadValue, NotThreeAxes, UnsupportedKind, UnsupportedEncoding}
 use Rattle.refusals.specs.declared.nrrd.NrrdFault.TheVariants.{SkipUnsupported, Size, NoEndian}
 use Rattle.text_lines.specs.Words.{is_word, words_of, three_in}
 use Rattle.text_lines.specs.Numbers.{number_of, whole_of}
 use Rattle.text_lines.specs.Refusals.{◌>>=◌}
-use Rattle.nrrd_header.specs.Encodings.{has_order}
-use Rattle.nrrd_header.specs.Fields.{Fields}
+use Rattle.nrrd_read.specs.Encodings.{has_order}
+use Rattle.nrrd_read.specs.Fields.{Fields}
 
 -- the value, as it is seen
 abbrev pub map_ok : {A B : Type 0} → (A → B) → Result A NrrdFault → Result B NrrdFault

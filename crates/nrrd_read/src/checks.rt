@@ -2,8 +2,8 @@
 ghost use Rattle.std.specs.Prelude.{◌≡◌, Option, Some, None, option_map};
 ghost use Rattle.text_lines.specs.Words.{words_of, three_in};
 ghost use Rattle.text_lines.specs.Numbers.{whole_of, number_of};
-ghost use Rattle.nrrd_header.specs.Checks as checks;
-ghost use Rattle.nrrd_header.specs.Checks.{map_ok};
+ghost use Rattle.nrrd_read.specs.Checks as checks;
+ghost use Rattle.nrrd_read.specs.Checks.{map_ok};
 
 use crate::encoding::Encoding;
 use iso_base::{SampleKind, Sizes};

@@ -1,7 +1,7 @@
 //! What one line of a header says.
 ghost use Rattle.std.specs.Prelude.{◌≡◌, ◌==◌, ◌<◌, ◌≤◌, List, ℕ, length, position, Option, Some, None};
-ghost use Rattle.nrrd_header.specs.Fields.{meaning_of, field_line, field_named, is_data_file, colon_in};
-ghost use Rattle.nrrd_header.specs.Scanning.{seen_line};
+ghost use Rattle.nrrd_read.specs.Fields.{meaning_of, field_line, field_named, is_data_file, colon_in};
+ghost use Rattle.nrrd_read.specs.Scanning.{seen_line};
 
 use refusals::Field;
 use text_lines::{same_word, without_blanks};

@@ -4,10 +4,10 @@ use Rattle.refusals.specs.declared.nrrd.Field.{Field}
 use Rattle.refusals.specs.declared.nrrd.Field.TheVariants.{Dimension, Kind, Sizes, Encoding, Endian, LineSkip, ByteSkip}
 use Rattle.refusals.specs.declared.nrrd.NrrdFault.{NrrdFault}
 use Rattle.refusals.specs.declared.nrrd.NrrdFault.TheVariants.{BadLine, RepeatedField, Detached}
-use Rattle.nrrd_header.specs.declared.header.Header.{Header}
-use Rattle.nrrd_header.specs.declared.meaning.Meaning.{Meaning}
-use Rattle.nrrd_header.specs.declared.meaning.Meaning.TheVariants as seen
-use Rattle.nrrd_header.specs.Fields.{Fields, Saying, IsBad, IsUnread, NamesFile, Gives}
+use Rattle.nrrd_read.specs.declared.header.Header.{Header}
+use Rattle.nrrd_read.specs.declared.meaning.Meaning.{Meaning}
+use Rattle.nrrd_read.specs.declared.meaning.Meaning.TheVariants as seen
+use Rattle.nrrd_read.specs.Fields.{Fields, Saying, IsBad, IsUnread, NamesFile, Gives}
 use Rattle.text_lines.specs.Refusals.{◌>>=◌}
 
 -- what a line says, without where it lies in memory

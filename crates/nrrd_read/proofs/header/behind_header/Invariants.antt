@@ -1,7 +1,7 @@
 use Rattle.std.proofs.Common.{◌≡◌, ◌≤◌, length}
 use Rattle.text_lines.specs.Lines.{lines_of}
-use Rattle.nrrd_header.specs.HeaderLines.{sample_bytes}
-use Rattle.nrrd_header.proofs.header.behind_header.Given as goal
+use Rattle.nrrd_read.specs.HeaderLines.{sample_bytes}
+use Rattle.nrrd_read.proofs.header.behind_header.Given as goal
 
 abbrev pub invariant-loop-text : goal.invariant-loop-text
 invariant-loop-text l = record {

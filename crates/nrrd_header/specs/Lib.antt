@@ -1,5 +1,0 @@
-pub mod Checks
-pub mod Encodings
-pub mod Fields
-pub mod HeaderLines
-pub mod Scanning
