@@ -12,7 +12,7 @@ import sys
 
 TOP = pathlib.Path(__file__).resolve().parent.parent
 HELP = TOP / "crates" / "command_words" / "src" / "help.rt"
-WORDS = TOP / "crates" / "program_words" / "src"
+WORDS = TOP / "crates" / "program" / "src"
 PAGE = TOP / "share" / "man" / "man1" / "isobench.1"
 COMPLETION = TOP / "share" / "bash-completion" / "completions" / "isobench"
 

@@ -7,8 +7,8 @@ use Rattle.nrrd_read.specs.Nrrd.{nrrd_of, Fails}
 use Rattle.refusals.specs.declared.nrrd.NrrdFault.{NrrdFault}
 use Rattle.refusals.specs.declared.nrrd.NrrdFault.TheVariants as faults
 use Rattle.command_terms.specs.Volumes.{IsNoVolume, of_read, volume_refusal, volume_of, with_pad}
-use Rattle.endings.specs.declared.answer.VolumeFault.{VolumeFault}
-use Rattle.endings.specs.declared.answer.VolumeFault.TheVariants.{Nrrd}
+use Rattle.program.specs.declared.answer.VolumeFault.{VolumeFault}
+use Rattle.program.specs.declared.answer.VolumeFault.TheVariants.{Nrrd}
 
 -- the volume of what was read
 pub read_volume : (pad : Option ℤ) (level : ℤ) (bytes : List ℕ) (v : Volume) (r : Result Volume VolumeFault) → IsRead bytes v → with_pad pad level v ≡ r → volume_of pad level bytes ≡ r

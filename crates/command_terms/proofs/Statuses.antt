@@ -1,16 +1,16 @@
 -- Which answers have a status.
 use Rattle.std.proofs.Common.{◌≡◌, ◌⊎◌, refl, sym, ◌∙◌, inl, inr}
-use Rattle.endings.specs.Status.{mesh_status, nrrd_status, status_of, volume_status}
-use Rattle.endings.specs.declared.answer.VolumeFault.{VolumeFault}
-use Rattle.endings.specs.declared.answer.VolumeFault.TheVariants as volume_faults
+use Rattle.program.specs.Status.{mesh_status, nrrd_status, status_of, volume_status}
+use Rattle.program.specs.declared.answer.VolumeFault.{VolumeFault}
+use Rattle.program.specs.declared.answer.VolumeFault.TheVariants as volume_faults
 use Rattle.refusals.specs.declared.nrrd.NrrdFault.{NrrdFault}
 use Rattle.refusals.specs.declared.nrrd.NrrdFault.TheVariants as nrrd_faults
 use Rattle.refusals.specs.declared.mesh.MeshFault.{MeshFault}
 use Rattle.refusals.specs.declared.mesh.MeshFault.TheVariants as mesh_faults
-use Rattle.endings.specs.declared.answer.Answer.{Answer}
-use Rattle.endings.specs.declared.answer.Answer.TheVariants as answers
-use Rattle.endings.specs.declared.answer.Status.{Status}
-use Rattle.endings.specs.declared.answer.Status.TheVariants as statuses
+use Rattle.program.specs.declared.answer.Answer.{Answer}
+use Rattle.program.specs.declared.answer.Answer.TheVariants as answers
+use Rattle.program.specs.declared.answer.Status.{Status}
+use Rattle.program.specs.declared.answer.Status.TheVariants as statuses
 
 mesh_two : (f : MeshFault) → (mesh_status f ≡ statuses.BadMesh) ⊎ (mesh_status f ≡ statuses.Memory)
 mesh_two mesh_faults.NotMesh = inl refl

@@ -5,7 +5,7 @@ ghost use Rattle.byte_streams.specs.Seen.{ReadsAll, ReadsWithin};
 ghost use Rattle.command_terms.specs.Volumes.{volume_limit, HoldsNone};
 
 use byte_streams::{Source, read_all_of};
-use endings::Answer;
+use program::Answer;
 use std::alloc::Global;
 
 /// The most bytes of a volume file.

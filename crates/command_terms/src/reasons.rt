@@ -1,7 +1,7 @@
 //! Why a command gets no volume.
 
-use endings::{Answer, VolumeFault};
 use iso_base::Memory;
+use program::{Answer, VolumeFault};
 use refusals::{NrrdFault, PadFault};
 
 /// Why the bytes of a file hold no volume to work on.

@@ -4,7 +4,7 @@ ghost use Rattle.byte_streams.specs.Seen.{Feed};
 ghost use Rattle.command_terms.specs.Outcome.{Tells, unread_between};
 
 use byte_streams::{Failed, Sink, write_all_of};
-use endings::Answer;
+use program::Answer;
 
 /// Writes a text that a program tells of itself, and reads nothing.
 pub fn tell<K: Sink>(text: &str, output: &mut K) -> Answer

@@ -7,7 +7,7 @@ use Rattle.text_lines.proofs.Places.{decide}
 use Rattle.command_words.specs.Words.{command_of, commands, points_of, request_of}
 use Rattle.command_words.specs.declared.request.Request.{Request}
 use Rattle.command_words.specs.declared.request.Request.TheVariants.{Help, Points, Version}
-use Rattle.program_words.specs.Questions.{asks_help, asks_version, is_among}
+use Rattle.program.specs.Questions.{asks_help, asks_version, is_among}
 use Rattle.point_command.specs.Words.{asked_of, points_level}
 use Rattle.point_command.specs.declared.words.Asked.TheVariants as alone
 use Rattle.command_words.proofs.OneOption.{more_words, no_words, one_option}

@@ -11,7 +11,7 @@ use Rattle.iso_base.specs.Samples.{IsSample}
 use Rattle.iso_base.specs.Shifted.{level_limit}
 use Rattle.iso_base.specs.Sizing.{sized}
 use Rattle.iso_base.specs.declared.sizes.SizeFault.{SizeFault}
-use Rattle.program_words.specs.Questions.{asks_help, asks_version}
+use Rattle.program.specs.Questions.{asks_help, asks_version}
 use Rattle.command_words.specs.Options.{only_options, plain_words, values}
 use Rattle.mesh_text.specs.declared.format.TwoWayFormat.{TwoWayFormat}
 use Rattle.mesh_text.specs.declared.format.TwoWayFormat.TheVariants.{Ply, Obj}

@@ -4,7 +4,7 @@ ghost use Rattle.std.specs.Prelude.{◌≡◌};
 ghost use Rattle.command_words.specs.Help.{help_text, version_text};
 
 use arrayvec::ArrayString;
-use program_words::version_line;
+use program::version_line;
 
 const HELP: &str = "\
 isobench: a workbench for isosurfaces of integer volumes

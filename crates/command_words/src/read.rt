@@ -10,7 +10,7 @@ use crate::options::{Found, only_options, plain_word, value_of};
 use crate::request::Request;
 use iso_base::{Level, Sizes};
 use mesh_text::TwoWayFormat;
-use program_words::{asks_help, asks_version};
+use program::{asks_help, asks_version};
 use script::{FileName, count};
 use text_lines::{level_number, number, whole};
 

@@ -10,7 +10,7 @@ use Rattle.iso_io.specs.Shelves.{Lacks, content}
 use Rattle.session.specs.Sessions.{Course, EndsAfter, script_limit}
 use Rattle.session.specs.declared.ending.Ending.{Ending}
 use Rattle.session.specs.declared.ending.Ending.TheVariants as endings
-use Rattle.endings.specs.Status.{status_of}
+use Rattle.program.specs.Status.{status_of}
 use Rattle.iso_defs.specs.Grid.{Grid}
 use Rattle.commands.specs.Generating.{WritesGenerated}
 use Rattle.commands.specs.Checks.{Checks, mesh_in, mesh_limit}
@@ -26,9 +26,9 @@ use Rattle.command_words.specs.Help.{help_text, version_text}
 use Rattle.command_words.specs.declared.request.Request.{Request}
 use Rattle.command_words.specs.declared.request.Request.TheVariants as requests
 use Rattle.mesh_text.specs.declared.format.TwoWayFormat.{TwoWayFormat}
-use Rattle.endings.specs.declared.answer.Answer.{Answer}
-use Rattle.endings.specs.declared.answer.Answer.TheVariants as answers
-use Rattle.endings.specs.declared.answer.Status.TheVariants as statuses
+use Rattle.program.specs.declared.answer.Answer.{Answer}
+use Rattle.program.specs.declared.answer.Answer.TheVariants as answers
+use Rattle.program.specs.declared.answer.Status.TheVariants as statuses
 use Rattle.command_terms.proofs.Converted.{converted, not_both, not_long, told}
 use Rattle.command_terms.proofs.Told.{at_told, if_told}
 use Rattle.commands.proofs.Soaks.{soaked_whole}

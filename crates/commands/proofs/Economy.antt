@@ -11,9 +11,9 @@ use Rattle.session.specs.declared.ending.Ending.TheVariants as endings
 use Rattle.session.proofs.Running.{replies_text-append, kept_both}
 use Rattle.command_words.specs.declared.request.Request.{Request}
 use Rattle.command_words.specs.declared.request.Request.TheVariants as requests
-use Rattle.endings.specs.Status.{status_of}
-use Rattle.endings.specs.declared.answer.Answer.{Answer}
-use Rattle.endings.specs.declared.answer.Status.{Status}
+use Rattle.program.specs.Status.{status_of}
+use Rattle.program.specs.declared.answer.Answer.{Answer}
+use Rattle.program.specs.declared.answer.Status.{Status}
 use Rattle.commands.specs.Economy.{LeavesBench, LedTo}
 use Rattle.commands.specs.Outcome.{Call, Rejects}
 use Rattle.commands.specs.Serving.{Serves, asked_for}

@@ -14,7 +14,7 @@ use Rattle.session.specs.declared.ending.Ending.{Ending}
 use Rattle.session.specs.declared.ending.Ending.TheVariants as endings
 use Rattle.commands.specs.Outcome.{Call}
 use Rattle.commands.specs.Sessions.{Asked, HoldsFile, RunsSession, answer_of, world_after}
-use Rattle.endings.specs.declared.answer.Answer.{Answer}
+use Rattle.program.specs.declared.answer.Answer.{Answer}
 
 abbrev with_store : World → Store → World
 with_store w store = world w.bench w.steps store w.tape

@@ -12,13 +12,13 @@ use Rattle.iso_base.specs.declared.verdict.Verdict.{Verdict}
 use Rattle.mesh_text.specs.declared.format.TwoWayFormat.{TwoWayFormat}
 use Rattle.command_words.specs.declared.request.Request.{Request}
 use Rattle.command_words.specs.declared.request.Request.TheVariants as requests
-use Rattle.endings.specs.Status.{status_of}
-use Rattle.endings.specs.declared.answer.VolumeFault.{VolumeFault}
+use Rattle.program.specs.Status.{status_of}
+use Rattle.program.specs.declared.answer.VolumeFault.{VolumeFault}
 use Rattle.refusals.specs.declared.mesh.MeshFault.{MeshFault}
-use Rattle.endings.specs.declared.answer.Answer.{Answer}
-use Rattle.endings.specs.declared.answer.Answer.TheVariants as answers
-use Rattle.endings.specs.declared.answer.Status.{Status}
-use Rattle.endings.specs.declared.answer.Status.TheVariants as statuses
+use Rattle.program.specs.declared.answer.Answer.{Answer}
+use Rattle.program.specs.declared.answer.Answer.TheVariants as answers
+use Rattle.program.specs.declared.answer.Status.{Status}
+use Rattle.program.specs.declared.answer.Status.TheVariants as statuses
 use Rattle.commands.specs.Causes.{Asks, HasBadMesh, HasBadVolume, HasBrokenMesh, HasNoFile, HasTooMany}
 use Rattle.commands.specs.Checks.{HasVerdict, is_broken}
 use Rattle.commands.specs.Headline.{WritesWatertight}

@@ -9,11 +9,11 @@ use Rattle.session.specs.Worlds.{World, world}
 use Rattle.commands.specs.Outcome.{Call}
 use Rattle.commands.specs.Sessions.{world_after}
 use Rattle.commands.specs.Soaking.{DoesSoak, HoldsSoakMeshes, RunsLines, SoakLeaves, SoakLedTo, SoakMeshes, soak_level, soak_limits, soak_volume, soak_world}
-use Rattle.endings.specs.Status.{status_of}
-use Rattle.endings.specs.declared.answer.Answer.{Answer}
-use Rattle.endings.specs.declared.answer.Answer.TheVariants as answers
-use Rattle.endings.specs.declared.answer.Status.{Status}
-use Rattle.endings.specs.declared.answer.Status.TheVariants as statuses
+use Rattle.program.specs.Status.{status_of}
+use Rattle.program.specs.declared.answer.Answer.{Answer}
+use Rattle.program.specs.declared.answer.Answer.TheVariants as answers
+use Rattle.program.specs.declared.answer.Status.{Status}
+use Rattle.program.specs.declared.answer.Status.TheVariants as statuses
 use Rattle.commands.proofs.MeshTurns.{mesh_turns}
 
 -- an answer that a soak does not give

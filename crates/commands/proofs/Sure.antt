@@ -10,9 +10,9 @@ use Rattle.commands.specs.Outcome.{Call}
 use Rattle.commands.specs.Sessions.{Asked, RunsSession, session_between, world_after, world_before}
 use Rattle.commands.specs.Soaking.{DoesSoak, SoakLedTo, soak_world}
 use Rattle.commands.specs.Sure.{HasSureReplies, HasSureSoak, RepliesSurely, SoaksSurely}
-use Rattle.endings.specs.Status.{status_of}
-use Rattle.endings.specs.declared.answer.Answer.{Answer}
-use Rattle.endings.specs.declared.answer.Status.{Status}
+use Rattle.program.specs.Status.{status_of}
+use Rattle.program.specs.declared.answer.Answer.{Answer}
+use Rattle.program.specs.declared.answer.Status.{Status}
 use Rattle.commands.proofs.Economy.{led}
 use Rattle.commands.proofs.Soaks.{led_to}
 

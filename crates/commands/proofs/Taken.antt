@@ -27,8 +27,8 @@ use Rattle.command_terms.specs.declared.reasons.NoVolume.{NoVolume}
 use Rattle.command_terms.specs.declared.reasons.NoVolume.TheVariants as reasons
 use Rattle.command_terms.proofs.ReadVolumes.{read_volume}
 use Rattle.commands.specs.Volumes.{IsNotTaken}
-use Rattle.endings.specs.declared.answer.VolumeFault.{VolumeFault}
-use Rattle.endings.specs.declared.answer.VolumeFault.TheVariants.{Pad, LevelNotAbovePad}
+use Rattle.program.specs.declared.answer.VolumeFault.{VolumeFault}
+use Rattle.program.specs.declared.answer.VolumeFault.TheVariants.{Pad, LevelNotAbovePad}
 
 -- a grown grid that is not refused is accepted
 module _ (pad level : ℤ) (v : Volume) (g : Grid) (same : v.grid ≡ g) where

@@ -19,9 +19,9 @@ use Rattle.command_terms.specs.Volumes.{HoldsNone, IsNoVolume, volume_answer, vo
 use Rattle.command_terms.specs.declared.reasons.NoVolume.{NoVolume}
 use Rattle.command_terms.specs.declared.reasons.NoVolume.TheVariants as reasons
 use Rattle.command_terms.proofs.Told.{if_told, of_whole}
-use Rattle.endings.specs.declared.answer.VolumeFault.{VolumeFault}
-use Rattle.endings.specs.declared.answer.Answer.{Answer}
-use Rattle.endings.specs.declared.answer.Answer.TheVariants as answers
+use Rattle.program.specs.declared.answer.VolumeFault.{VolumeFault}
+use Rattle.program.specs.declared.answer.Answer.{Answer}
+use Rattle.program.specs.declared.answer.Answer.TheVariants as answers
 
 -- where the input was read whole, the command converts it
 whole_of : (call : Streams) (bytes : List ℕ) → HasRead volume_limit call.input call.input_after bytes → ReadWhole volume_limit call

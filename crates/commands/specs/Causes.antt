@@ -7,7 +7,7 @@ use Rattle.refusals.specs.declared.mesh.MeshFault.{MeshFault}
 use Rattle.session.specs.Sessions.{script_limit}
 use Rattle.command_words.specs.declared.request.Request.{Request}
 use Rattle.command_words.specs.declared.request.Request.TheVariants.{Points, Extract, Session, Check}
-use Rattle.endings.specs.declared.answer.VolumeFault.{VolumeFault}
+use Rattle.program.specs.declared.answer.VolumeFault.{VolumeFault}
 use Rattle.commands.specs.Checks.{HasVerdict, is_broken, mesh_in, mesh_limit}
 use Rattle.commands.specs.Outcome.{Call}
 use Rattle.command_terms.specs.Volumes.{volume_limit, volume_of}

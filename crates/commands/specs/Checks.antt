@@ -11,13 +11,13 @@ use Rattle.mesh_read.specs.Ply.{ply_of}
 use Rattle.mesh_read.specs.Obj.{obj_of}
 use Rattle.refusals.specs.declared.mesh.MeshFault.{MeshFault}
 use Rattle.mesh_check.specs.Said.{said}
-use Rattle.endings.specs.Verdicts.{verdict_text}
+use Rattle.program.specs.Verdicts.{verdict_text}
 use Rattle.command_terms.specs.Inputs.{HasRead}
 use Rattle.command_terms.specs.Outcome.{NothingWritten, ReadWhole, Streams, Writes, WritesFront}
 use Rattle.mesh_text.specs.declared.format.TwoWayFormat.{TwoWayFormat}
 use Rattle.mesh_text.specs.declared.format.TwoWayFormat.TheVariants.{Ply, Obj}
-use Rattle.endings.specs.declared.answer.Answer.{Answer}
-use Rattle.endings.specs.declared.answer.Answer.TheVariants as answers
+use Rattle.program.specs.declared.answer.Answer.{Answer}
+use Rattle.program.specs.declared.answer.Answer.TheVariants as answers
 use Rattle.refusals.specs.declared.mesh.MeshFault.TheVariants as faults
 use Rattle.commands.specs.declared.checking.NoMesh.{NoMesh}
 use Rattle.commands.specs.declared.checking.NoMesh.TheVariants as reasons

@@ -4,8 +4,8 @@ use Rattle.iso_defs.specs.Grid.{Grid}
 use Rattle.nrrd.specs.Writing.{save_text}
 use Rattle.volume_gen.specs.Generated.{generated_volume}
 use Rattle.command_terms.specs.Outcome.{NothingWritten, Streams, Writes, WritesFront}
-use Rattle.endings.specs.declared.answer.Answer.{Answer}
-use Rattle.endings.specs.declared.answer.Answer.TheVariants as answers
+use Rattle.program.specs.declared.answer.Answer.{Answer}
+use Rattle.program.specs.declared.answer.Answer.TheVariants as answers
 
 -- the file of the generated volume of a seed and sizes
 abbrev pub generated_text : ℕ → Grid → List ℕ

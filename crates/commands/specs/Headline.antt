@@ -7,8 +7,8 @@ use Rattle.command_terms.specs.Inputs.{HasRead}
 use Rattle.command_terms.specs.Outcome.{Streams, Writes}
 use Rattle.command_terms.specs.Volumes.{volume_limit, volume_of}
 use Rattle.commands.specs.Meaning.{text_of_volume}
-use Rattle.endings.specs.declared.answer.Answer.{Answer}
-use Rattle.endings.specs.declared.answer.Answer.TheVariants as answers
+use Rattle.program.specs.declared.answer.Answer.{Answer}
+use Rattle.program.specs.declared.answer.Answer.TheVariants as answers
 
 -- The mesh of the volume in the bytes of a file is watertight: an oriented surface in which each crossing lattice edge carries
 -- exactly one vertex, each edge off the border lies in two triangles that run it in opposite directions, each border edge in

@@ -6,7 +6,7 @@ use Rattle.iso_base.specs.declared.format.MeshFormat.TheVariants as meshes
 use Rattle.bench_core.specs.Texts as benches
 use Rattle.command_terms.specs.Volumes.{text_by}
 use Rattle.command_terms.specs.Volumes.{volume_of, with_pad}
-use Rattle.endings.specs.declared.answer.VolumeFault.{VolumeFault}
+use Rattle.program.specs.declared.answer.VolumeFault.{VolumeFault}
 use Rattle.mesh_lines.specs.declared.style.Origin.{Origin}
 use Rattle.mesh_lines.specs.declared.style.Origin.TheVariants as origins
 use Rattle.mesh_lines.specs.declared.style.Style.{Style}

@@ -4,8 +4,8 @@ use Rattle.byte_streams.specs.Seen.{Feed, Tape}
 use Rattle.iso_io.specs.Shelves.{Store}
 use Rattle.bench_core.specs.Keeping.{Workbench}
 use Rattle.command_terms.specs.Outcome.{Streams, streams_between}
-use Rattle.endings.specs.declared.answer.Answer.{Answer}
-use Rattle.endings.specs.declared.answer.Answer.TheVariants as answers
+use Rattle.program.specs.declared.answer.Answer.{Answer}
+use Rattle.program.specs.declared.answer.Answer.TheVariants as answers
 
 -- the input and the output, the shelf, the bench that is left, and the counter of classified cells
 pub record Call : Type 0 where

@@ -5,12 +5,12 @@ use Rattle.byte_streams.specs.Seen.{Tape}
 use Rattle.command_words.specs.Words.{request_of}
 use Rattle.command_words.specs.declared.request.Request.{Request}
 use Rattle.command_words.specs.declared.request.Request.TheVariants.{Extract, Session, Soak}
-use Rattle.endings.specs.Notes.{note_of}
-use Rattle.endings.specs.Status.{status_of}
-use Rattle.endings.specs.Tries.{Tries}
-use Rattle.endings.specs.declared.answer.Answer.{Answer}
-use Rattle.endings.specs.declared.answer.Status.{Status}
-use Rattle.endings.specs.declared.answer.Status.TheVariants as statuses
+use Rattle.program.specs.Notes.{note_of}
+use Rattle.program.specs.Status.{status_of}
+use Rattle.program.specs.Tries.{Tries}
+use Rattle.program.specs.declared.answer.Answer.{Answer}
+use Rattle.program.specs.declared.answer.Status.{Status}
+use Rattle.program.specs.declared.answer.Status.TheVariants as statuses
 use Rattle.mesh_text.specs.declared.format.TwoWayFormat.{TwoWayFormat}
 use Rattle.commands.specs.Causes.{Asks, HasBadMesh, HasBadVolume, HasBrokenMesh, HasNoFile, HasTooMany}
 use Rattle.commands.specs.Economy.{LeavesBench}

@@ -21,9 +21,9 @@ use Rattle.command_words.specs.Help.{help_text, version_text}
 use Rattle.command_words.specs.Words.{request_of}
 use Rattle.command_words.specs.declared.request.Request.{Request}
 use Rattle.command_words.specs.declared.request.Request.TheVariants as requests
-use Rattle.endings.specs.declared.answer.Answer.{Answer}
-use Rattle.endings.specs.declared.answer.Status.{Status}
-use Rattle.endings.specs.declared.answer.Status.TheVariants as statuses
+use Rattle.program.specs.declared.answer.Answer.{Answer}
+use Rattle.program.specs.declared.answer.Status.{Status}
+use Rattle.program.specs.declared.answer.Status.TheVariants as statuses
 
 -- what a session is asked for
 abbrev pub asked_for : ℤ → Option ℤ → List ℕ → ℕ → ℕ → Asked

@@ -22,8 +22,8 @@ use Rattle.session.specs.declared.ending.Ending.TheVariants as endings
 use Rattle.session.specs.Table.{says_of}
 use Rattle.commands.specs.Outcome.{Call}
 use Rattle.commands.specs.Sessions.{Asked, HoldsFile, answer_of, session_between, world_after, world_before}
-use Rattle.endings.specs.Status.{status_of}
-use Rattle.endings.specs.declared.answer.Status.{Status}
+use Rattle.program.specs.Status.{status_of}
+use Rattle.program.specs.declared.answer.Status.{Status}
 
 -- the command that writes the mesh in a format to the file of a name
 abbrev pub writes_mesh : TwoWayFormat → List ℕ → Command

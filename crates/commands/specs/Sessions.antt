@@ -11,8 +11,8 @@ use Rattle.session.specs.declared.ending.Ending.TheVariants as endings
 use Rattle.commands.specs.Outcome.{Call}
 use Rattle.command_terms.specs.Volumes.{volume_of}
 use Rattle.commands.specs.Volumes.{FileIs, LacksVolume}
-use Rattle.endings.specs.declared.answer.Answer.{Answer}
-use Rattle.endings.specs.declared.answer.Answer.TheVariants as answers
+use Rattle.program.specs.declared.answer.Answer.{Answer}
+use Rattle.program.specs.declared.answer.Answer.TheVariants as answers
 
 -- what an ending is answered
 abbrev pub answer_of : Ending → Answer

@@ -19,10 +19,10 @@ use Rattle.command_terms.specs.Outcome.{NothingWritten}
 use Rattle.commands.specs.Outcome.{Call, LeavesShelf}
 use Rattle.commands.specs.SessionMeshes.{MeshTurns}
 use Rattle.commands.specs.Sessions.{world_after}
-use Rattle.endings.specs.Status.{status_of}
-use Rattle.endings.specs.declared.answer.Answer.{Answer}
-use Rattle.endings.specs.declared.answer.Answer.TheVariants as answers
-use Rattle.endings.specs.declared.answer.Status.{Status}
+use Rattle.program.specs.Status.{status_of}
+use Rattle.program.specs.declared.answer.Answer.{Answer}
+use Rattle.program.specs.declared.answer.Answer.TheVariants as answers
+use Rattle.program.specs.declared.answer.Status.{Status}
 
 -- ---- what it runs on
 

@@ -10,7 +10,7 @@ use Rattle.commands.specs.Outcome.{Call}
 use Rattle.commands.specs.SessionMeshes.{WritesReplies}
 use Rattle.commands.specs.Sessions.{Asked, HoldsFile, session_between}
 use Rattle.commands.specs.Soaking.{SoakLedTo, soak_level, soak_limits, soak_volume}
-use Rattle.endings.specs.declared.answer.Status.{Status}
+use Rattle.program.specs.declared.answer.Status.{Status}
 
 -- Lines of the script were run on the volume of the file, and their replies written. Each reply is the machine's, or says that
 -- memory was wanting, at a line that may ask for it.

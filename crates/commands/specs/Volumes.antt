@@ -7,8 +7,8 @@ use Rattle.iso_io.specs.Shelves.{Store, Lacks, content}
 use Rattle.command_terms.specs.Volumes.{volume_limit, volume_of, with_pad}
 use Rattle.command_terms.specs.declared.reasons.NoVolume.{NoVolume}
 use Rattle.command_terms.specs.declared.reasons.NoVolume.TheVariants as reasons
-use Rattle.endings.specs.declared.answer.Answer.{Answer}
-use Rattle.endings.specs.declared.answer.Answer.TheVariants as answers
+use Rattle.program.specs.declared.answer.Answer.{Answer}
+use Rattle.program.specs.declared.answer.Answer.TheVariants as answers
 
 -- why a volume that was read is not taken, in its pad if it is to have one; out of memory says nothing
 abbrev pub IsNotTaken : Option ℤ → ℤ → Volume → NoVolume → Type 0

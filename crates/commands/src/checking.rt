@@ -4,14 +4,14 @@ ghost use Rattle.byte_streams.specs.Seen.{Puts, ReadsWithin};
 ghost use Rattle.mesh_read.specs.Answers.{Answers};
 ghost use Rattle.commands.specs.Checks.{answer_to, Checks, HasMesh, HasNoMesh, HasVerdict, IsNoMesh, is_broken, mesh_in, mesh_limit};
 ghost use Rattle.command_terms.specs.Outcome.{streams_between};
-ghost use Rattle.endings.specs.Verdicts.{verdict_text};
+ghost use Rattle.program.specs.Verdicts.{verdict_text};
 
-use endings::{Answer, verdict_line};
 use iso_base::{Memory, TriangleList, Verdict};
 use iso_io::{Failed, Sink, Source, read_all_of, write_all_of};
 use mesh_check::verdict;
 use mesh_read::{MeshFault, read_obj, read_ply};
 use mesh_text::TwoWayFormat;
+use program::{Answer, verdict_line};
 use std::alloc::Global;
 
 /// The most bytes of a mesh text.

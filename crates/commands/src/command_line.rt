@@ -16,10 +16,10 @@ use crate::soaking::soak;
 use bench_core::{Bench, Capacity};
 use command_terms::tell;
 use command_words::{Request, help_text, read_words, version_text};
-use endings::{Answer, Status, put_note};
 use iso_base::Steps;
 use iso_io::{Shelf, Sink, Source};
 use point_command::points;
+use program::{Answer, Status, put_note};
 use std::alloc::Global;
 use std::sync::ledger::Ledger;
 

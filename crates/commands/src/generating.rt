@@ -4,9 +4,9 @@ ghost use Rattle.byte_streams.specs.Seen.{Feed};
 ghost use Rattle.commands.specs.Generating.{WritesGenerated};
 ghost use Rattle.command_terms.specs.Outcome.{unread_between};
 
-use endings::Answer;
 use iso_base::Sizes;
 use iso_io::{Failed, Sink};
+use program::Answer;
 use std::alloc::Global;
 use volume_gen::{STAGE, put_generated};
 

@@ -9,9 +9,9 @@ ghost use Rattle.commands.specs.Sessions.{RunsSession, answer_of};
 
 use crate::volumes::bricks_on_shelf;
 use bench_core::{BeginFault, Bench, Capacity};
-use endings::Answer;
 use iso_base::{Level, Memory, Steps};
 use iso_io::{Shelf, Sink, Source};
+use program::Answer;
 use session::{Ending, run_session};
 use std::alloc::Global;
 use std::sync::ledger::Ledger;

@@ -14,9 +14,9 @@ ghost use Rattle.commands.specs.Soaking.{DoesSoak, RunsLines, is_ply, soak_level
 
 use arrayvec::ArrayString;
 use bench_core::{BeginFault, Bench, BenchFault, Capacity};
-use endings::Answer;
 use iso_base::{Level, Memory, Sizes, Steps};
 use iso_io::{Failed, Shelf, Sink};
+use program::Answer;
 use script::{Command, Reply, read_line};
 use session::{Response, put_response, run_command};
 use std::alloc::Global;

@@ -11,11 +11,11 @@ ghost use Rattle.commands.specs.Volumes.{FileIs, IsNotTaken, LacksVolume};
 
 use brick_store::BrickStore;
 use command_terms::{NoVolume, VOLUME_LIMIT};
-use endings::{Answer, VolumeFault};
 use iso_base::{Level, SampleKind, Sizes};
 use iso_io::Shelf;
 use nrrd_read::{FileVolume, RawVolume, read_file_volume};
 use padded_samples::Padded;
+use program::{Answer, VolumeFault};
 use raw_samples::with_samples;
 use samples::Samples;
 use std::alloc::Global;

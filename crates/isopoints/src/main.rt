@@ -2,9 +2,8 @@
 #![tactic(auto)]
 
 use byte_streams::{Sink, Source};
-use endings::Status;
 use point_command::run_points;
-use program_main::{Program, run_program};
+use program::{Program, Status, run_program};
 use std::process::ExitCode;
 
 struct Isopoints;

@@ -2,12 +2,12 @@
 use Rattle.std.proofs.Common.{◌≡◌, Some, None, MatchOption, refl, sym, ap, ◌∙◌, subst}
 use Rattle.std.specs.Prelude.{Option}
 use Rattle.byte_streams.specs.Causes.{Rose}
-use Rattle.endings.specs.Status.{status_of}
-use Rattle.endings.specs.declared.answer.VolumeFault.{VolumeFault}
-use Rattle.endings.specs.declared.answer.Answer.{Answer}
-use Rattle.endings.specs.declared.answer.Answer.TheVariants as answers
-use Rattle.endings.specs.declared.answer.Status.{Status}
-use Rattle.endings.specs.declared.answer.Status.TheVariants as statuses
+use Rattle.program.specs.Status.{status_of}
+use Rattle.program.specs.declared.answer.VolumeFault.{VolumeFault}
+use Rattle.program.specs.declared.answer.Answer.{Answer}
+use Rattle.program.specs.declared.answer.Answer.TheVariants as answers
+use Rattle.program.specs.declared.answer.Status.{Status}
+use Rattle.program.specs.declared.answer.Status.TheVariants as statuses
 use Rattle.command_terms.specs.Outcome.{Streams}
 use Rattle.command_terms.proofs.Converted.{converted, if_refused, told}
 use Rattle.command_terms.proofs.Statuses.{is_bad_volume, is_too_long}

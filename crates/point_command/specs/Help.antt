@@ -2,7 +2,7 @@
 use Rattle.std.specs.Prelude.{ℕ, List, [], ◌∷◌, codes}
 use Rattle.std.specs.List.{flat_map}
 use Rattle.iso_defs.specs.Texts.{line}
-use Rattle.program_words.specs.Questions.{version_line}
+use Rattle.program.specs.Questions.{version_line}
 
 -- the lines of the help
 unfoldable pub help_lines : List (List ℕ)

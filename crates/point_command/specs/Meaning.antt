@@ -4,7 +4,7 @@ use Rattle.iso_defs.specs.Texts.{points_text}
 use Rattle.iso_base.specs.Shifted.{field}
 use Rattle.iso_base.specs.Volume.{Volume}
 use Rattle.point_write.specs.Edges.{edge_points}
-use Rattle.endings.specs.declared.answer.VolumeFault.{VolumeFault}
+use Rattle.program.specs.declared.answer.VolumeFault.{VolumeFault}
 use Rattle.command_terms.specs.Volumes.{text_by, volume_of}
 
 -- the text of the vertices on the crossing edges of a volume at a level

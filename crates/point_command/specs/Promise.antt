@@ -2,12 +2,12 @@
 use Rattle.std.specs.Prelude.{◌≡◌, ◌↔◌, ℕ, List, None, Some}
 use Rattle.byte_streams.specs.Causes.{Rose}
 use Rattle.byte_streams.specs.Seen.{ReadsWithin, Tape}
-use Rattle.endings.specs.Notes.{note_of}
-use Rattle.endings.specs.Status.{status_of}
-use Rattle.endings.specs.Tries.{Tries}
-use Rattle.endings.specs.declared.answer.Answer.{Answer}
-use Rattle.endings.specs.declared.answer.Status.{Status}
-use Rattle.endings.specs.declared.answer.Status.TheVariants as statuses
+use Rattle.program.specs.Notes.{note_of}
+use Rattle.program.specs.Status.{status_of}
+use Rattle.program.specs.Tries.{Tries}
+use Rattle.program.specs.declared.answer.Answer.{Answer}
+use Rattle.program.specs.declared.answer.Status.{Status}
+use Rattle.program.specs.declared.answer.Status.TheVariants as statuses
 use Rattle.command_terms.specs.Outcome.{Streams}
 use Rattle.point_command.specs.Running.{CanGive, GivesPoints, HasNoVolume, HasTooMany, IsGiven}
 use Rattle.command_terms.specs.Volumes.{volume_limit}

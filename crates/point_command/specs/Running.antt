@@ -7,11 +7,11 @@ use Rattle.point_command.specs.Words.{asked_of}
 use Rattle.point_command.specs.Help.{help_text, version_text}
 use Rattle.point_command.specs.declared.words.Asked.{Asked}
 use Rattle.point_command.specs.declared.words.Asked.TheVariants.{Points, Help, Version}
-use Rattle.endings.specs.declared.answer.VolumeFault.{VolumeFault}
-use Rattle.endings.specs.declared.answer.Answer.{Answer}
-use Rattle.endings.specs.declared.answer.Answer.TheVariants as answers
-use Rattle.endings.specs.declared.answer.Status.{Status}
-use Rattle.endings.specs.declared.answer.Status.TheVariants as statuses
+use Rattle.program.specs.declared.answer.VolumeFault.{VolumeFault}
+use Rattle.program.specs.declared.answer.Answer.{Answer}
+use Rattle.program.specs.declared.answer.Answer.TheVariants as answers
+use Rattle.program.specs.declared.answer.Status.{Status}
+use Rattle.program.specs.declared.answer.Status.TheVariants as statuses
 
 -- other words are refused, and nothing is read or written
 pub record RefusesWords (call : Streams) (answer : Answer) : Type 0 where

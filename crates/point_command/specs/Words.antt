@@ -3,7 +3,7 @@ use Rattle.std.specs.Prelude.{nat_lt, if◌then◌else◌, ℕ, List, [], ◌∷
 use Rattle.std.specs.Option.{option_and_then, option_map}
 use Rattle.iso_base.specs.Shifted.{level_limit}
 use Rattle.text_lines.specs.Levels.{level_number_of}
-use Rattle.program_words.specs.Questions.{asks_help, asks_version}
+use Rattle.program.specs.Questions.{asks_help, asks_version}
 use Rattle.point_command.specs.declared.words.Asked.{Asked}
 use Rattle.point_command.specs.declared.words.Asked.TheVariants.{Points, Help, Version}
 

@@ -10,9 +10,9 @@ ghost use Rattle.command_terms.specs.Volumes.{HoldsNone, IsNoVolume, volume_limi
 
 use byte_streams::{Failed, Sink, Source};
 use command_terms::{NoVolume, bytes_of_input};
-use endings::Answer;
 use file_points::put_points_of_file;
 use iso_base::Level;
+use program::Answer;
 use std::alloc::Global;
 
 /// Appends the points of the volume of the bytes of a file.

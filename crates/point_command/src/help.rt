@@ -5,7 +5,7 @@ ghost use Rattle.std.specs.Prelude.{◌≡◌};
 ghost use Rattle.point_command.specs.Help.{help_text, version_text};
 
 use arrayvec::ArrayString;
-use program_words::version_line;
+use program::version_line;
 
 const HELP: &str = "\
 isopoints: the points at which an isosurface crosses the edges of a lattice

@@ -12,7 +12,7 @@ use crate::help::{help_text, version_text};
 use crate::words::{Asked, asked_of_words};
 use byte_streams::{Sink, Source};
 use command_terms::tell;
-use endings::{Answer, Status, put_note};
+use program::{Answer, Status, put_note};
 use std::alloc::Global;
 
 /// Does what is asked for.

@@ -4,7 +4,7 @@ ghost use Rattle.std.specs.Prelude.{◌≡◌, map, string_bytes};
 ghost use Rattle.point_command.specs.Words.{asked_of, level_of_option, level_of_text, level_of_two, points_level};
 
 use iso_base::Level;
-use program_words::{asks_help, asks_version};
+use program::{asks_help, asks_version};
 use text_lines::level_number;
 
 const LEVEL: &[u8] = b"--level=";

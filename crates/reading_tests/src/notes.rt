@@ -1,10 +1,10 @@
 //! Tests of messages, exit statuses and lines of verdicts.
 
-use endings::{Answer, VolumeFault, put_note, verdict_line};
 use iso_base::{SizeFault, Verdict};
 use iso_io::MemSink;
 use mesh_read::MeshFault;
 use nrrd::{EncodingWord, NrrdFault};
+use program::{Answer, VolumeFault, put_note, verdict_line};
 use std::test::Fail;
 
 const FAULTS: &[VolumeFault] = &[

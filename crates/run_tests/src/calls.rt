@@ -4,9 +4,9 @@
 ghost use Rattle.std.specs.Prelude.{◌≡◌, ◌<◌};
 
 use commands::run;
-use endings::Status;
 use iso_base::Steps;
 use iso_io::{MemShelf, MemSink, MemSource, Source};
+use program::Status;
 use std::alloc::{AllocError, Global};
 use std::marker::Brand;
 use std::process::Abort;

@@ -3,7 +3,7 @@
 use crate::calls::{End, NO_FILES, call_of, check, check_done, check_output, outcome_of};
 use crate::scripts::zeros;
 use crate::texts::*;
-use endings::Status;
+use program::Status;
 use std::alloc::Global;
 use std::process::Abort;
 use std::test::Fail;

@@ -2,7 +2,7 @@
 
 use crate::calls::{check_done, check_output, check_session};
 use crate::texts::{CORNER_MESH, THREE_POINTS};
-use endings::Status;
+use program::Status;
 use std::alloc::Global;
 use std::process::Abort;
 use std::test::Fail;

@@ -3,7 +3,7 @@
 use crate::calls::{Call, Outcome, call_of, outcome_of, session_of};
 use crate::scripts::{SEVENTEEN, zeros};
 use crate::texts::{MESH_AT_FOUR, MOVED_MESH};
-use endings::Status;
+use program::Status;
 use std::alloc::{AllocError, Global};
 use std::process::Abort;
 use std::test::Fail;

@@ -1,8 +1,8 @@
 //! Generated volumes, and the script that is run on one.
 
 use crate::calls::{Outcome, call_of, check_done, check_output, outcome_on};
-use endings::Status;
 use iso_io::{MemShelf, MemSource};
+use program::Status;
 use std::alloc::Global;
 use std::process::Abort;
 use std::test::Fail;

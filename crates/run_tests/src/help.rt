@@ -1,7 +1,7 @@
 //! What the program tells of itself: it reads nothing and touches no file.
 
 use crate::calls::{Call, call_of, check_output, outcome_of};
-use endings::Status;
+use program::Status;
 use std::alloc::Global;
 use std::process::Abort;
 use std::test::Fail;

@@ -2,7 +2,7 @@
 //! numbers were counted by hand or come from an independent program.
 
 use crate::calls::{Outcome, call_of, check_done, outcome_of, session_of};
-use endings::Status;
+use program::Status;
 use std::alloc::{AllocError, Global};
 use std::process::Abort;
 use std::test::Fail;

@@ -6,7 +6,7 @@ use crate::calls::{
 };
 use crate::faults::worked_call;
 use crate::texts::*;
-use endings::Status;
+use program::Status;
 use std::alloc::{AllocError, Global};
 use std::process::Abort;
 use std::test::Fail;

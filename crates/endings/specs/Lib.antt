@@ -1,5 +1,0 @@
-pub mod Status
-pub mod Notes
-pub mod Verdicts
-pub mod Tries
-pub mod Answers

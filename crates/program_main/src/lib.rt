@@ -1,8 +1,0 @@
-//! What stands round a program: its words, the standard streams and its exit status.
-#![tactic(auto)]
-
-mod program;
-mod words;
-
-pub use program::{Program, run_given, run_program};
-pub use words::{given_words, words_of};

@@ -1,6 +1,0 @@
-use Rattle.std.proofs.Common.{◌≡◌, map, drop}
-use Rattle.program_words.specs.Questions.{is_among}
-use Rattle.program_words.proofs.is_among.Given as goal
-
-abbrev pub invariant-loop-known : goal.invariant-loop-known
-invariant-loop-known l = is_among l.command (map (λ c. c.now) (drop l.known-index l.commands)) ≡ is_among l.command (map (λ c. c.now) l.commands)
