@@ -12,6 +12,8 @@ ghost use Rattle.span_tree.specs.Spans.{IsRightFor};
 ghost use Rattle.stitch_rows.specs.Named.{NamesCases, asked_among};
 ghost use Rattle.stitch.specs.Origins.{origin_for};
 
+use crate::recent::{ListRoom, PLACES};
+use crate::store::StoreRows;
 use brick_store::BrickStore;
 use byte_streams::{Failed, Sink};
 use edge_points::RowRanks;
@@ -21,7 +23,6 @@ use mesh_walk::write_mesh;
 use span_tree::SpanTree;
 use std::sync::ledger::Ledger;
 use stitch_rows::{CellRows, Field};
-use store_rows::{ListRoom, PLACES, StoreRows};
 
 /// Where the coordinates of the mesh of a volume are counted from.
 fn origin_of(store: &BrickStore) -> Origin

@@ -1,0 +1,219 @@
+//! The rows of a volume in bricks.
+//!
+//! Bricks that are not active are not read. All edges from a point lie in the last brick that holds it. For each brick
+//! of a layer the next active one is noted once for its eight slices; flags, cases and lines go from one active brick
+//! to the next by these notes.
+ghost use Rattle.std.specs.Prelude.{◌≡◌, ◌+◌, ◌*◌, ◌<◌, ◌≤◌, All, length, map, slice_index, take};
+ghost use Rattle.flat_mesh.specs.Lattice.{heights};
+ghost use Rattle.iso_defs.specs.Bricks.{brick_count};
+ghost use Rattle.mesh_rows.specs.Rows.{AreCases};
+ghost use Rattle.row_lists.specs.Active.{active_among};
+ghost use Rattle.stitch_rows.specs.Bricks.{AreMarked};
+ghost use Rattle.stitch_rows.specs.Named.{NamesCases, asked_along, asked_among};
+ghost use Rattle.stitch.specs.Asked.{asked_in_row};
+ghost use Rattle.stitch.specs.Kept.{StoreKept};
+ghost use Rattle.stitch.specs.Recent.{AreKnown};
+
+use crate::counts::count_all;
+use crate::known::{KnownRows, is_even};
+use crate::recent::ListRoom;
+use flat_mesh::{Cell, Heights};
+use iso_base::{Sizes, Steps};
+use mesh_rows::{Counts, MeshRows};
+use row_lists::{CASES, EDGES, POINTS, list_active, list_edges};
+use std::sync::ledger::Ledger;
+use stitch_rows::{ActiveRow, CellRows, Field, case_row};
+
+/// Writes the cases of the cells of a row whose bricks are marked at the front of a buffer.
+fn case_marked<R: CellRows, L: Ledger>(
+    field: &Field,
+    active: &ActiveRow,
+    rows: &mut R,
+    all: &mut [u16; CASES],
+    steps: &mut Steps<L>,
+)
+    requires active { AreMarked field.now active.now }
+    requires y { active.now.y + 1 < field.now.grid.ny }
+    requires z { active.now.z + 1 < field.now.grid.nz }
+    requires named { NamesCases (R.named rows.old) field.now.grid (heights field.now) }
+    ensures cases { AreCases field.now active.now.y active.now.z all.new }
+    ensures same { R.named rows.new ≡ R.named rows.old }
+    ensures least { steps.old ≤ steps.new }
+    ensures most { steps.new
+        ≤ steps.old + 8 * asked_along field.now.grid (heights field.now) (R.named rows.old) active.now.y active.now.z }
+{
+    let nx = field.sizes().nx() as usize;
+    case_row(field, active, rows, &mut all[..nx], steps);
+}
+
+/// Writes the cases of some cells of a row, by their places.
+#[inline(always)]
+fn gather(all: &[u16; CASES], places: &[u16], cases: &mut [u16])
+    requires count { length cases.old ≡ length places.now }
+    requires places { All (λ x. x < 1056) places.now }
+    ensures { cases.new ≡ map (slice_index all.now) places.now }
+{
+    for i in 0..places.len() {
+        cases[i] = all[places[i] as usize];
+    }
+}
+
+/// Lists those of so many cells of a row that have another case than 0, with their cases, and says how many there are.
+fn list_cases(
+    all: &[u16; CASES],
+    count: usize,
+    places: &mut [u16; POINTS],
+    cases: &mut [u16; POINTS],
+) -> usize
+    requires { count ≤ 1026 }
+    ensures few { result ≤ count }
+    ensures places { take result places.new ≡ active_among all.now 0 count }
+    ensures cases { take result cases.new ≡ map (slice_index all.now) (active_among all.now 0 count) }
+{
+    let active = list_active(all, count, places);
+    gather(all, &places[..active], &mut cases[..active]);
+    active
+}
+
+/// The rows of a volume in bricks at a level: with who names the cases of its cells, the counter of what that takes, what is known of
+/// its rows, and a buffer for the cases of one.
+#[derive(Drop)]
+pub struct StoreRows<'a, R: CellRows, L: Ledger> {
+    field: &'a Field<'a>,
+    known: KnownRows<'a>,
+    cases: [u16; CASES],
+    rows: &'a mut R,
+    steps: &'a mut Steps<L>,
+    ghost known_are: { AreKnown field.now known },
+    ghost named: { NamesCases (R.named rows.now) field.now.grid (heights field.now) },
+}
+
+impl<'a, R: CellRows, L: Ledger> StoreRows<'a, R, L> {
+    /// The rows of a volume at a level.
+    pub fn new(
+        field: &'a Field<'a>,
+        rows: &'a mut R,
+        room: ListRoom<'a>,
+        steps: &'a mut Steps<L>,
+    ) -> StoreRows<'a, R, L>
+        requires { NamesCases (R.named rows.old) field.now.grid (heights field.now) }
+        ensures field { result.field.now ≡ field.now }
+        ensures same_rows { result.rows.ghost_name ≡ rows.entry.ghost_name }
+        ensures rows { result.rows.now ≡ rows.old }
+        ensures same_steps { result.steps.ghost_name ≡ steps.entry.ghost_name }
+        ensures steps { result.steps.now ≡ steps.old }
+    {
+        // Reading the sizes brings in what is true of every volume at a level.
+        let _ = field.sizes();
+        StoreRows {
+            field,
+            known: KnownRows::new(field, room),
+            cases: [0; CASES],
+            rows,
+            steps,
+        }
+    }
+
+    /// Writes the cases of the cells of a row into the buffer.
+    fn case_cells(&mut self, y: u32, z: u32)
+        requires y { y + 1 < self.old.field.now.grid.ny }
+        requires z { z + 1 < self.old.field.now.grid.nz }
+        ensures cases { AreCases self.old.field.now y z self.new.cases }
+        ensures field { self.new.field.now ≡ self.old.field.now }
+        ensures same { R.named self.new.rows.now ≡ R.named self.old.rows.now }
+        ensures same_rows { self.new.rows.ghost_name ≡ self.old.rows.ghost_name }
+        ensures same_steps { self.new.steps.ghost_name ≡ self.old.steps.ghost_name }
+        ensures least { self.old.steps.now ≤ self.new.steps.now }
+        ensures most { self.new.steps.now ≤ self.old.steps.now + 8 * asked_along self.old.field.now.grid
+            (heights self.old.field.now) (R.named self.old.rows.now) y z }
+    {
+        if is_even(z) {
+            self.known.even.mark(self.field, y, z);
+            case_marked(
+                self.field,
+                &self.known.even,
+                self.rows,
+                &mut self.cases,
+                self.steps,
+            );
+        } else {
+            self.known.odd.mark(self.field, y, z);
+            case_marked(
+                self.field,
+                &self.known.odd,
+                self.rows,
+                &mut self.cases,
+                self.steps,
+            );
+        }
+    }
+}
+
+impl<'a, R: CellRows, L: Ledger> Heights for StoreRows<'a, R, L> {
+    ghost leveled = { λ r. r.field.now };
+
+    fn sizes(&self) -> Sizes {
+        self.field.sizes()
+    }
+
+    fn corner_heights(&self, cell: Cell) -> [i64; 8] {
+        self.field.corner_heights(cell)
+    }
+}
+
+impl<'a, R: CellRows, L: Ledger> MeshRows for StoreRows<'a, R, L> {
+    ghost Kept = { StoreKept };
+
+    ghost kept = { λ r. record {
+      volume = r.field.now;
+      names = R.named r.rows.now;
+      rows = r.rows.ghost_name;
+      steps = r.steps.ghost_name;
+    } };
+
+    ghost row_cost = { λ k row. 8 * asked_in_row k.volume k.names row };
+
+    ghost count_cost = { λ k. 512 * asked_among k.volume.grid (heights k.volume) k.names 0
+        (brick_count k.volume.grid) };
+
+    ghost spent = { λ r. r.steps.now };
+
+    /// It looks at active bricks alone.
+    fn count_edges(&mut self, y: u32, z: u32) -> u32 {
+        self.known.count_edges(self.field, y, z)
+    }
+
+    /// It looks at active bricks alone, and at none where the row was asked for not long before.
+    fn list_edges(&mut self, y: u32, z: u32, edges: &mut [u16; EDGES]) -> usize {
+        self.known.list_edges(self.field, y, z, edges)
+    }
+
+    fn fill_places(&mut self, y: u32, z: u32, edges: &[u16], places: &mut [u16]) {
+        self.known.fill_places(self.field, y, z, edges, places);
+    }
+
+    /// It asks for each row of an active brick once, and for no row of another one, and for none where the row was asked for not long
+    /// before.
+    fn list_cells(
+        &mut self,
+        y: u32,
+        z: u32,
+        places: &mut [u16; POINTS],
+        cases: &mut [u16; POINTS],
+    ) -> usize {
+        if let Some(count) = self.known.find_cells(self.field, y, z, places, cases) {
+            return count;
+        }
+        self.case_cells(y, z);
+        let nx = self.field.sizes().nx() as usize;
+        let count = list_cases(&self.cases, nx - 1, places, cases);
+        self.known
+            .keep_cells(self.field, y, z, &places[..count], &cases[..count]);
+        count
+    }
+
+    /// It asks each active brick once, and no other one.
+    fn count_cells(&mut self) -> Counts {
+        count_all(self.field, self.rows, self.steps)
+    }
+}

@@ -1,4 +1,0 @@
-pub mod Asked
-pub mod Kept
-pub mod Recent
-pub mod Cells
