@@ -2,7 +2,7 @@
 use Rattle.std.proofs.Common.{◌≡◌, ◌≢◌, ℕ, ◌+◌, ◌<◌, ℤ, true, false, List, [], ◌∷◌, ◌++◌, length, get_or, map, set, take, sym, ◌∙◌, ap, subst, inl, inr, arith, eqb}
 use Rattle.std.proofs.lemmas.Bool.{cases_Bool, cases_eq, cases_lt, eq-eqb, eqb-true}
 use Rattle.std.proofs.lemmas.List.{get_or-map, get_or-set_other, get_or-set_same, get_or_append_left, get_or_push, length-map, length-set, length_push, take_more}
-use Rattle.loop_labels.specs.Fronts.{none}
+use Rattle.component_labels.specs.Fronts.{none}
 use Rattle.mesh_report.proofs.PlaceLaws.{in_place, place_in}
 use Rattle.part_laws.specs.ByLabels.{firsts}
 use Rattle.verdict_laws.proofs.Lists.{In, any_in, in_any}

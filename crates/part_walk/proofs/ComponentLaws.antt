@@ -14,9 +14,9 @@ use Rattle.crossing_edges.specs.Flags.{rank}
 use Rattle.flat_mesh.specs.Lattice.{Leveled, heights}
 use Rattle.flat_mesh.specs.Rows.{row_start}
 use Rattle.flat_mesh.proofs.NumberOf.{number_is_rank}
-use Rattle.label_joins.specs.Walks.{IsLeast}
-use Rattle.loop_labels.specs.Fronts.{none, row_name}
-use Rattle.loop_labels.specs.Labelling.{Known}
+use Rattle.component_labels.specs.Walks.{IsLeast}
+use Rattle.component_labels.specs.Fronts.{none, row_name}
+use Rattle.component_labels.specs.Labelling.{Known}
 use Rattle.mesh_report.proofs.PlaceLaws.{in_place}
 use Rattle.measure_laws.specs.Totals.{total}
 use Rattle.mesh_laws.proofs.Cells.{range_at_least}

@@ -11,8 +11,8 @@ use Rattle.iso_defs.specs.Signs.{is_crossing}
 use Rattle.verdict_laws.proofs.Counts.{count-append, count-cons}
 use Rattle.crossing_edges.specs.Flags.{rank}
 use Rattle.flat_mesh.specs.Lattice.{Leveled, heights}
-use Rattle.loop_labels.specs.Fronts.{none, room, row_name}
-use Rattle.loop_labels.specs.Labelling.{Known}
+use Rattle.component_labels.specs.Fronts.{none, room, row_name}
+use Rattle.component_labels.specs.Labelling.{Known}
 use Rattle.part_laws.proofs.Counted.{range_join}
 use Rattle.part_walk.specs.declared.passed.Passed.{Passed}
 use Rattle.part_walk.specs.Passed.{AreEdges, CanLeave, HasLeft, IsLeft, Leaving, edges_before, row_end}

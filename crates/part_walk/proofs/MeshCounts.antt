@@ -26,8 +26,8 @@ use Rattle.mesh_report.specs.declared.part.Part.{Part}
 use Rattle.mesh_report.proofs.NumberLaws.{filter_all}
 use Rattle.mesh_report.proofs.PlaceLaws.{in_place}
 use Rattle.measure_laws.specs.Totals.{total}
-use Rattle.loop_labels.specs.Fronts.{row_name}
-use Rattle.loop_labels.specs.Labelling.{Known}
+use Rattle.component_labels.specs.Fronts.{row_name}
+use Rattle.component_labels.specs.Labelling.{Known}
 use Rattle.part_laws.specs.Classes.{class_of, is_of_class}
 use Rattle.part_laws.specs.Labels.{labelled, unlabelled}
 use Rattle.part_laws.specs.Loops.{Loop, centres, faces}

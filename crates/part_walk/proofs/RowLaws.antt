@@ -22,9 +22,9 @@ use Rattle.flat_mesh.specs.Rows.{row_start}
 use Rattle.flat_mesh.specs.Centres.{IsCellAt}
 use Rattle.flat_mesh.specs.Lattice.{Leveled, heights}
 use Rattle.flat_mesh.specs.declared.centres.Cell.{Cell}
-use Rattle.loop_labels.specs.Fronts.{none, room, row_name}
-use Rattle.loop_labels.specs.Labelling.{Known}
-use Rattle.loop_labels.proofs.AddedLaws.{row_left}
+use Rattle.component_labels.specs.Fronts.{none, room, row_name}
+use Rattle.component_labels.specs.Labelling.{Known}
+use Rattle.component_labels.proofs.AddedLaws.{row_left}
 use Rattle.stitch_rows.specs.Rows.{AreStill}
 use Rattle.part_laws.specs.Loops.{Loop, loops_in, mesh_loops}
 use Rattle.part_laws.specs.Meets.{is_met}

@@ -4,9 +4,9 @@ use Rattle.std.proofs.lemmas.Bool.{false≢true}
 use Rattle.std.proofs.Math.Nat.{mod-lt}
 use Rattle.crossing_edges.specs.Flags.{rank}
 use Rattle.flat_mesh.specs.Lattice.{Leveled, heights}
-use Rattle.label_joins.specs.Chains.{ArePaired}
-use Rattle.loop_labels.specs.Fronts.{none, room, row_name}
-use Rattle.loop_labels.specs.Labelling.{Known}
+use Rattle.component_labels.specs.Chains.{ArePaired}
+use Rattle.component_labels.specs.Fronts.{none, room, row_name}
+use Rattle.component_labels.specs.Labelling.{Known}
 use Rattle.part_laws.specs.Loops.{Loop}
 use Rattle.part_laws.specs.Meets.{IsLabelling}
 use Rattle.part_laws.proofs.LabelLaws.{none_labelled}

@@ -23,10 +23,10 @@ use Rattle.crossing_edges.specs.Flags.{rank}
 use Rattle.flat_mesh.specs.Centres.{IsCellAt}
 use Rattle.flat_mesh.specs.Lattice.{Leveled, heights}
 use Rattle.flat_mesh.specs.declared.centres.Cell.{Cell}
-use Rattle.label_joins.specs.Chains.{ArePaired}
-use Rattle.loop_labels.specs.Fronts.{none, room, row_name, slot_of}
-use Rattle.loop_labels.specs.Labelling.{IsAdded, Known}
-use Rattle.loop_labels.proofs.AddedLaws.{loop_labelled}
+use Rattle.component_labels.specs.Chains.{ArePaired}
+use Rattle.component_labels.specs.Fronts.{none, room, row_name, slot_of}
+use Rattle.component_labels.specs.Labelling.{IsAdded, Known}
+use Rattle.component_labels.proofs.AddedLaws.{loop_labelled}
 use Rattle.part_laws.specs.ByLabels.{firsts}
 use Rattle.part_laws.specs.Labels.{labelled, unlabelled}
 use Rattle.part_laws.specs.Loops.{Loop, rims}

@@ -2,7 +2,7 @@
 use Rattle.std.specs.Prelude.{◌≡◌, ◌≢◌, ℕ, ◌<◌, ◌==◌, ℤ, pos, List, length, slice_index, slice_index_or, if◌then◌else◌}
 use Rattle.std.specs.List.{sum_by}
 use Rattle.iso_defs.specs.Lists.{below}
-use Rattle.loop_labels.specs.Fronts.{none}
+use Rattle.component_labels.specs.Fronts.{none}
 use Rattle.measure_laws.specs.Totals.{total}
 use Rattle.part_laws.specs.ByLabels.{firsts}
 use Rattle.part_walk.specs.declared.components.Component.{Component}

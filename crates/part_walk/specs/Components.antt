@@ -4,7 +4,7 @@ use Rattle.std.specs.List.{count_by}
 use Rattle.iso_defs.specs.Outside.{IsThick}
 use Rattle.iso_defs.specs.Scratch.{crossing_edges, number_of}
 use Rattle.flat_mesh.specs.Lattice.{Leveled, heights}
-use Rattle.loop_labels.specs.Labelling.{Known}
+use Rattle.component_labels.specs.Labelling.{Known}
 use Rattle.measure_laws.specs.Totals.{total}
 use Rattle.part_laws.specs.Classes.{class_of}
 use Rattle.part_laws.specs.Loops.{Loop, mesh_loops, rims}

@@ -5,8 +5,8 @@ use Rattle.iso_defs.specs.Lists.{below}
 use Rattle.iso_defs.specs.Signs.{is_crossing}
 use Rattle.crossing_edges.specs.Flags.{rank}
 use Rattle.flat_mesh.specs.Lattice.{Leveled, heights}
-use Rattle.loop_labels.specs.Fronts.{none, room, row_name}
-use Rattle.loop_labels.specs.Labelling.{Known}
+use Rattle.component_labels.specs.Fronts.{none, room, row_name}
+use Rattle.component_labels.specs.Labelling.{Known}
 use Rattle.part_laws.specs.ByLabels.{firsts}
 use Rattle.part_walk.specs.declared.passed.Passed.{Passed}
 

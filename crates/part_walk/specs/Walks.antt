@@ -6,9 +6,9 @@ use Rattle.iso_defs.specs.Grid.{Grid, is_cell}
 use Rattle.iso_defs.specs.Lists.{below}
 use Rattle.crossing_edges.specs.Flags.{rank}
 use Rattle.flat_mesh.specs.Lattice.{Leveled, heights}
-use Rattle.loop_labels.specs.Fronts.{room, row_name}
-use Rattle.loop_labels.specs.Labelling.{Known}
-use Rattle.loop_labels.specs.Walked.{IsLabelled}
+use Rattle.component_labels.specs.Fronts.{room, row_name}
+use Rattle.component_labels.specs.Labelling.{Known}
+use Rattle.component_labels.specs.Walked.{IsLabelled}
 use Rattle.measure_laws.specs.Totals.{total}
 use Rattle.part_laws.specs.Labels.{labelled, unlabelled}
 use Rattle.part_laws.specs.Loops.{Loop, loops_in, rims}

@@ -4,16 +4,15 @@ ghost use Rattle.std.specs.Prelude.{◌≡◌, ◌≢◌, ℕ, ◌+◌, ◌<◌,
 ghost use Rattle.std.specs.List.{sum_by};
 ghost use Rattle.iso_defs.specs.Lists.{below};
 ghost use Rattle.flat_mesh.specs.Lattice.{Leveled};
-ghost use Rattle.label_joins.specs.Walks.{IsLeast};
-ghost use Rattle.loop_labels.specs.Fronts.{none};
+ghost use Rattle.component_labels.specs.Walks.{IsLeast};
+ghost use Rattle.component_labels.specs.Fronts.{none};
 ghost use Rattle.part_walk.specs.Begun.{AreAdded, AreBegun, AreFew, IsEmpty};
 ghost use Rattle.part_walk.specs.Components.{AreComponents, IsWhole};
 
 use crate::tally::Tally;
 use crate::walked::Walked;
+use component_labels::{Labels, NONE, least_joined};
 use iso_base::Memory;
-use label_joins::least_joined;
-use loop_labels::{Labels, NONE};
 use std::alloc::Global;
 
 /// The number of the smallest vertex of a component, how many crossing edges it has, and what is added up of its loops.

@@ -2,12 +2,12 @@
 
 ghost use Rattle.std.specs.Prelude.{◌≡◌, ℕ, ◌+◌, ◌*◌, ◌^◌, ◌<◌, ◌≤◌, OnOk, slice_index};
 ghost use Rattle.std.specs.Int.{bit_at};
-ghost use Rattle.loop_labels.specs.Fronts.{none, room};
+ghost use Rattle.component_labels.specs.Fronts.{none, room};
 ghost use Rattle.part_walk.specs.Passed.{CanLeave, HasLeft};
 
 use crate::passed::Passed;
+use component_labels::{Labels, NONE};
 use iso_base::Memory;
-use loop_labels::{Labels, NONE};
 
 /// Leaves the edge at a place behind: it is crossing where it has a label.
 #[inline(always)]

@@ -13,9 +13,9 @@ ghost use Rattle.part_walk.specs.Walks.{ArePlaces, CanAdd, IsLonger, IsWalked, l
 
 use crate::passed::Passed;
 use crate::tally::Tally;
+use component_labels::Labels;
 use flat_mesh::{Cell, Heights};
 use iso_base::{Memory, Sizes};
-use loop_labels::Labels;
 use std::alloc::Global;
 
 /// The labels of the loops so far, what is added up of the loops of each, and the crossing edges that were left behind.

@@ -1,6 +1,6 @@
 use Rattle.std.proofs.Common.{◌≡◌, ◌∙◌, ℕ, ◌+◌, ◌<◌, List, ◌++◌, ◌∷◌, [], length, get_or, map, set, take, ap, sym, subst, arith}
 use Rattle.std.proofs.lemmas.List.{length-map, length_push, take_all}
-use Rattle.loop_labels.specs.Fronts.{none}
+use Rattle.component_labels.specs.Fronts.{none}
 use Rattle.part_walk.specs.Begun.{AreBegun}
 use Rattle.part_walk.proofs.BegunLaws.{begun_none, next_before, next_more}
 use Rattle.part_walk.proofs.components.begin_all.Goals as goal

@@ -4,7 +4,7 @@ use Rattle.iso_base.specs.Sizing.{IsGrid}
 use Rattle.iso_defs.specs.Lists.{below}
 use Rattle.crossing_edges.specs.Flags.{rank}
 use Rattle.flat_mesh.specs.Lattice.{heights}
-use Rattle.label_joins.specs.Walks.{IsLeast}
+use Rattle.component_labels.specs.Walks.{IsLeast}
 use Rattle.part_laws.specs.ByLabels.{firsts}
 use Rattle.part_walk.specs.Begun.{AreAdded, AreBegun, AreFew, IsEmpty}
 use Rattle.part_walk.specs.Components.{AreComponents, edges_of}

@@ -2,7 +2,7 @@ use Rattle.std.proofs.Common.{◌≡◌, ◌∙◌, ℕ, ◌+◌, ◌-◌, ◌*�
 use Rattle.std.specs.Int.{bit_at}
 use Rattle.std.proofs.lemmas.Bool.{cases_lt}
 use Rattle.std.proofs.lemmas.Nat.Bits.{bit_at_cat_high, bit_at_cat_low}
-use Rattle.loop_labels.specs.Fronts.{none}
+use Rattle.component_labels.specs.Fronts.{none}
 use Rattle.part_walk.proofs.leaving.labelled_of_brick.Goals as goal
 
 -- what the bits of three bytes say is what those of the bytes say

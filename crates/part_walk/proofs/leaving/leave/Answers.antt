@@ -1,5 +1,5 @@
 use Rattle.std.proofs.Common.{◌≡◌, ◌∙◌, ◌<◌, ◌%◌, ap, sym, get_or, length, set, arith}
-use Rattle.loop_labels.specs.Fronts.{none, room}
+use Rattle.component_labels.specs.Fronts.{none, room}
 use Rattle.part_walk.proofs.LeftLaws.{count_low, edges_next, edges_same, label_here, left_next, passed_low}
 use Rattle.part_walk.proofs.leaving.leave.Goals as goal
 

@@ -1,5 +1,5 @@
 use Rattle.std.proofs.Common.{◌≡◌, ◌+◌, get_or}
-use Rattle.loop_labels.specs.Fronts.{none}
+use Rattle.component_labels.specs.Fronts.{none}
 use Rattle.part_walk.specs.Passed.{HasLeft}
 use Rattle.sign_words.proofs.UnsetBits.{IsTold}
 use Rattle.part_walk.proofs.leaving.leave_some.Given as goal

@@ -2,7 +2,7 @@ use Rattle.std.proofs.Common.{◌≡◌, ◌∙◌, ◌+◌, ◌-◌, ◌*◌, �
 use Rattle.std.proofs.Math.Nat.{mul-le-mul_left}
 use Rattle.iso_defs.specs.Grid.{Grid}
 use Rattle.iso_defs.specs.Cell.{cell_edge}
-use Rattle.loop_labels.specs.Fronts.{room}
+use Rattle.component_labels.specs.Fronts.{room}
 use Rattle.flat_mesh.specs.Rows.{row_start}
 use Rattle.part_walk.specs.Walks.{IsWalked, loops_before}
 use Rattle.part_walk.proofs.RowLaws.{quiet_to, row_low}

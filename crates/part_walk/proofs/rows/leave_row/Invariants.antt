@@ -1,6 +1,6 @@
 use Rattle.std.proofs.Common.{ℕ, ◌≡◌, ◌+◌, ◌-◌, ◌*◌}
-use Rattle.loop_labels.specs.Fronts.{row_name}
-use Rattle.loop_labels.specs.Labelling.{Known}
+use Rattle.component_labels.specs.Fronts.{row_name}
+use Rattle.component_labels.specs.Labelling.{Known}
 use Rattle.part_walk.specs.Passed.{IsLeft}
 use Rattle.part_walk.specs.Rows.{first_point}
 use Rattle.part_walk.proofs.RowLaws.{row_of}

@@ -1,8 +1,8 @@
 use Rattle.std.proofs.Common.{◌≡◌, ◌∙◌, ℕ, ◌++◌, ◌∷◌, [], ◌+ℤ◌, set, ◌+◌, ◌*◌, ◌<◌, ap, sym, subst, get_or, length, arith}
 use Rattle.iso_defs.specs.Cell.{cell_edge}
-use Rattle.label_joins.specs.Chains.{ArePaired}
-use Rattle.loop_labels.specs.Fronts.{none, room}
-use Rattle.loop_labels.specs.Labelling.{Known}
+use Rattle.component_labels.specs.Chains.{ArePaired}
+use Rattle.component_labels.specs.Fronts.{none, room}
+use Rattle.component_labels.specs.Labelling.{Known}
 use Rattle.std.proofs.lemmas.List.{get_or_default}
 use Rattle.part_walk.specs.Walks.{IsWalked}
 use Rattle.part_walk.proofs.WalkLaws.{place_low, room_for, walked_more}

@@ -1,6 +1,6 @@
 use Rattle.std.proofs.Common.{◌∙◌, ◌<◌, sym, subst}
 use Rattle.iso_defs.specs.Grid.{Grid}
-use Rattle.loop_labels.specs.Fronts.{room}
+use Rattle.component_labels.specs.Fronts.{room}
 use Rattle.part_walk.proofs.StartLaws.{walked_none}
 use Rattle.part_walk.proofs.walked.Walked.new.Goals as goal
 

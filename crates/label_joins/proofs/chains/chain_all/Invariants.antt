@@ -1,5 +1,0 @@
-use Rattle.label_joins.specs.Chains.{AreChained}
-use Rattle.label_joins.proofs.chains.chain_all.Given as goal
-
-abbrev pub invariant-loop-at : goal.invariant-loop-at
-invariant-loop-at l = AreChained l.pairs l.at l.last l.before

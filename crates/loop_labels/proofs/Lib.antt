@@ -1,4 +1,0 @@
-pub mod PlaceLaws
-pub mod MeetLaws
-pub mod RangeLaws
-pub mod AddedLaws
