@@ -2,7 +2,7 @@
 use Rattle.std.proofs.Common.{◌≡◌, ◌∙◌, ℕ, ◌+◌, ◌*◌, ◌%◌, ◌<◌, ◌≤◌, ◌^◌, All, List, length, get_or, replicate, sym, ap, ap₂, arith}
 use Rattle.std.specs.Simd.Lanes.{zip2}
 use Rattle.std.proofs.lemmas.Simd.{get_or-replicate, get_or-zip2, length-zip2}
-use Rattle.sign_words.proofs.Lanes.{lane_sum, lanes_from, lanes_from_are, lanes_from_long}
+use Rattle.row_bits.proofs.Lanes.{lane_sum, lanes_from, lanes_from_are, lanes_from_long}
 use Rattle.brick_mesh.specs.Signs.{AreEight, byte_in, pair_in}
 
 pub eight_are : (run : List ℕ) (at : ℕ) → at + 8 ≤ length run → AreEight (λ i. get_or run (at + i) 0) (lanes_from 8 run at)

@@ -19,8 +19,8 @@ use brick_store::{BrickId, BrickStore};
 use case_table::{ambiguous_set, classify_with, joined_faces_of};
 use iso_base::{Level, Steps};
 use packed_samples::PackedRun;
+use row_bits::mixed_at;
 use samples::Packed;
-use sign_words::mixed_at;
 use std::sync::ledger::Ledger;
 
 /// The joined faces of a cell with this sign byte. Only where a face is ambiguous the values at the corners are looked at.

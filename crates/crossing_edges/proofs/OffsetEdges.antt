@@ -7,8 +7,8 @@ use Rattle.std.proofs.lemmas.Simd.{map-map}
 use Rattle.iso_defs.specs.Grid.{Grid}
 use Rattle.iso_defs.specs.Signs.{is_crossing}
 use Rattle.verdict_laws.proofs.Lists.{In, In-filter}
-use Rattle.row_lists.specs.Edges.{edges_among, edges_at}
-use Rattle.row_lists.proofs.EdgeLists.{among_more, among_none, among_one}
+use Rattle.row_bits.specs.Edges.{edges_among, edges_at}
+use Rattle.row_bits.proofs.EdgeLists.{among_more, among_none, among_one}
 use Rattle.crossing_edges.specs.Flags.{edge_place, flags_at, flags_from, names_in, places_in}
 use Rattle.crossing_edges.proofs.Counting.{flag_first, flag_here, flag_second, flag_third, length-flags_from, names_empty, names_next, names_three}
 

@@ -2,7 +2,7 @@
 use Rattle.std.proofs.Common.{◌≡◌, ◌∙◌, ℕ, ◌+◌, ◌<◌, ◌≤◌, false, cond, eqb, List, map, length, get_or, replicate, sym, ap, ap₂, subst, arith, w8}
 use Rattle.std.specs.Simd.Lanes.{zip2, sel_l, top}
 use Rattle.std.proofs.lemmas.Simd.{get_or-replicate, get_or-sel_l, get_or-zip2, length-sel_l, length-zip2, tops_compared}
-use Rattle.sign_words.proofs.Lanes.{apart_by, lane_sum, lanes_from, lanes_from_are, lanes_from_long, sum_is}
+use Rattle.row_bits.proofs.Lanes.{apart_by, lane_sum, lanes_from, lanes_from_are, lanes_from_long, sum_is}
 use Rattle.crossing_edges.specs.Lanes.{AreSixteen}
 use Rattle.crossing_edges.specs.Signs.{flag_of, inner_flag}
 

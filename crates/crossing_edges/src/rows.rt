@@ -16,7 +16,7 @@ use crate::counts::count_all_edges;
 use crate::slices::SliceSigns;
 use edge_points::sample_place;
 use iso_base::{Level, Sizes};
-use row_lists::{EDGES, list_edges};
+use row_bits::{EDGES, list_edges};
 use samples::Samples;
 use std::marker::Model;
 

@@ -3,8 +3,8 @@ use Rattle.std.proofs.Common.{◌≡◌, ℕ, zero, suc, ◌+◌, ◌/◌, ◌%�
 use Rattle.std.specs.List.{filter, range_with_len}
 use Rattle.std.proofs.lemmas.Bool.{cases_lt}
 use Rattle.std.proofs.lemmas.List.{ext_get_or, get_or-map, get_or-set_other, get_or-set_same, get_or-take, length-map, map_more, take_more_set}
-use Rattle.row_lists.specs.Active.{active_among}
-use Rattle.row_lists.proofs.ActiveLists.{inside}
+use Rattle.row_bits.specs.Active.{active_among}
+use Rattle.row_bits.proofs.ActiveLists.{inside}
 use Rattle.list_rows.specs.Lists.{cases_of, flags_of}
 
 -- a row of whole numbers

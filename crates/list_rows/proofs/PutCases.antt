@@ -21,8 +21,8 @@ use Rattle.mesh_rows.specs.Rows.{AreCasesTo, IsCaseOf}
 use Rattle.mesh_rows.specs.declared.counts.Counts.{Counts}
 use Rattle.list_rows.specs.Cases.{AreBytes, AreCasesBut, AreMixed, ArePut}
 use Rattle.list_rows.proofs.Counted.{quiet_counts}
-use Rattle.sign_words.proofs.MixedBytes.{mixed, mixed_some}
-use Rattle.sign_words.proofs.LowestBit.{later, next_fits, none_below, places, same_bit, lowest_is_set, within}
+use Rattle.row_bits.proofs.MixedBytes.{mixed, mixed_some}
+use Rattle.row_bits.proofs.LowestBit.{later, next_fits, none_below, places, same_bit, lowest_is_set, within}
 use Rattle.list_rows.proofs.QuietCases.{quiet_case}
 
 -- a sign byte that is one of these

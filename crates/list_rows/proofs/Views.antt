@@ -2,8 +2,8 @@
 use Rattle.std.proofs.Common.{◌≡◌, ℕ, ◌+◌, ◌-◌, ◌%◌, ◌<◌, ◌≤◌, List, length, map, get_or, sym, ap, subst, ◌∙◌, arith}
 use Rattle.std.proofs.lemmas.List.{get_or-map}
 use Rattle.iso_defs.specs.Grid.{index}
-use Rattle.row_lists.specs.Active.{active_among}
-use Rattle.row_lists.specs.Edges.{edges_among}
+use Rattle.row_bits.specs.Active.{active_among}
+use Rattle.row_bits.specs.Edges.{edges_among}
 use Rattle.flat_mesh.specs.Lattice.{IsLeveled, Leveled}
 use Rattle.mesh_rows.specs.Rows.{AreActive, AreCases, AreEdges, AreFlags, IsCaseOf}
 use Rattle.mesh_rows.proofs.FlagEdges.{edges_are}

@@ -17,7 +17,7 @@ use case_table::{ambiguous_set, row_of};
 use flat_mesh::{Cell, Heights, cell_case, cell_row};
 use iso_base::{Point, Sizes};
 use mesh_rows::Counts;
-use sign_words::mixed_at;
+use row_bits::mixed_at;
 use std::alloc::{AllocError, Global};
 
 /// The index of the first point of a row.

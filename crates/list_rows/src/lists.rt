@@ -1,7 +1,7 @@
 //! The crossing edges and the active cells of a row, listed as the row is kept.
 ghost use Rattle.std.specs.Prelude.{◌≡◌, ◌+◌, ◌-◌, ◌*◌, ◌/◌, ◌%◌, ◌<◌, ◌≤◌, length, map, slice_index, take};
-ghost use Rattle.row_lists.specs.Active.{active_among};
-ghost use Rattle.row_lists.specs.Edges.{edges_among};
+ghost use Rattle.row_bits.specs.Active.{active_among};
+ghost use Rattle.row_bits.specs.Edges.{edges_among};
 ghost use Rattle.mesh_rows.specs.Rows.{AreEdges};
 ghost use Rattle.list_rows.specs.Lists.{cases_of, flags_of};
 ghost use Rattle.list_rows.specs.Cases.{AreRowCases};
@@ -9,7 +9,7 @@ ghost use Rattle.list_rows.specs.Parts.{AreCells, HaveAllRows, part_cases, part_
 
 use crate::parts::{RowPart, RowParts, numbers_from, part_of};
 use flat_mesh::Heights;
-use row_lists::{CASES, EDGES, POINTS, list_active, list_edges};
+use row_bits::{CASES, EDGES, POINTS, list_active, list_edges};
 
 /// Buffers for a row that is kept whole: the flags of its points, and the cases of the cells that begin at them. They are made once, since
 /// what stands in them is written over, and to clear them for each row takes long.

@@ -7,7 +7,7 @@ use crate::field::ListField;
 use crate::signs::are_all;
 use flat_mesh::Heights;
 use iso_base::Sizes;
-use row_lists::{EDGES, list_edges};
+use row_bits::{EDGES, list_edges};
 use samples::Samples;
 use std::alloc::{AllocError, Global};
 

@@ -11,7 +11,7 @@ use crate::places::{count_row, place_row};
 use flat_mesh::{Cell, Heights};
 use iso_base::{Level, Memory, Sizes};
 use mesh_rows::{Counts, MeshRows};
-use row_lists::{EDGES, POINTS};
+use row_bits::{EDGES, POINTS};
 use samples::Samples;
 use std::alloc::Global;
 use std::marker::Model;

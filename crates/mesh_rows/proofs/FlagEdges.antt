@@ -8,7 +8,7 @@ use Rattle.crossing_edges.proofs.OffsetEdges.{names_among}
 use Rattle.flat_mesh.specs.Lattice.{Leveled, heights}
 use Rattle.flat_mesh.specs.Rows.{row_start}
 use Rattle.flat_mesh.proofs.Known.{flags_low}
-use Rattle.row_lists.specs.Edges.{edges_among}
+use Rattle.row_bits.specs.Edges.{edges_among}
 use Rattle.mesh_rows.specs.Rows.{AreEdges, AreFlags}
 
 -- flags by index are the list of flags

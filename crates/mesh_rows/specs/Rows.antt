@@ -6,7 +6,7 @@ use Rattle.crossing_edges.specs.Flags.{flags_at, names_in, places_in}
 use Rattle.flat_mesh.specs.Lattice.{Leveled, heights}
 use Rattle.flat_mesh.specs.Faces.{loops_at}
 use Rattle.flat_mesh.specs.Rows.{row_start}
-use Rattle.row_lists.specs.Active.{active_among}
+use Rattle.row_bits.specs.Active.{active_among}
 
 -- a number of a case that has the loops of a cell
 pub record IsCaseOf (v : Leveled) (q case : ℕ) : Type 0 where

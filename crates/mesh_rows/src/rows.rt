@@ -7,7 +7,7 @@ ghost use Rattle.mesh_rows.specs.Rows.{AreActive, AreEdges, row_names, row_place
 
 use crate::counts::Counts;
 use flat_mesh::Heights;
-use row_lists::{EDGES, POINTS};
+use row_bits::{EDGES, POINTS};
 
 /// The rows of a volume at a level: of points, with the crossing edges that begin at them, and of cells, with their cases. A row
 /// is named by its coordinates along y and z. Contracts see the volume, what else no call changes, and how many cells were

@@ -6,8 +6,8 @@ use Rattle.std.proofs.lemmas.List.{get_or-map, get_or-take, get_or_default, leng
 use Rattle.flat_mesh.specs.Faces.{loops_at}
 use Rattle.flat_mesh.specs.Lattice.{Leveled}
 use Rattle.flat_mesh.specs.Rows.{row_start}
-use Rattle.row_lists.specs.Active.{active_among}
-use Rattle.row_lists.proofs.ActiveLists.{active_few, begins, between, inside}
+use Rattle.row_bits.specs.Active.{active_among}
+use Rattle.row_bits.proofs.ActiveLists.{active_few, begins, between, inside}
 use Rattle.mesh_rows.specs.Rows.{IsCaseOf}
 use Rattle.mesh_walk.specs.Cells.{AreCells}
 use Rattle.mesh_walk.specs.Numbers.{AreQuiet}

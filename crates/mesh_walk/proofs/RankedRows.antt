@@ -17,7 +17,7 @@ use Rattle.flat_mesh.specs.Lattice.{IsLeveled, Leveled, heights}
 use Rattle.flat_mesh.specs.Rows.{row_start}
 use Rattle.flat_mesh.proofs.FirstNumbers.{rank_low}
 use Rattle.flat_mesh.proofs.Quiet.{quiet_rows}
-use Rattle.row_lists.proofs.ActiveLists.{few}
+use Rattle.row_bits.proofs.ActiveLists.{few}
 use Rattle.mesh_rows.specs.Rows.{row_names}
 use Rattle.mesh_walk.proofs.RowSlots.{names_count}
 use Rattle.mesh_walk.specs.Numbers.{AreQuiet, AreRowRanks, row_number}

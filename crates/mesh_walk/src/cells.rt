@@ -6,7 +6,7 @@ ghost use Rattle.mesh_walk.specs.Numbers.{AreQuiet, AreRowRanks, cost_of_row};
 
 use crate::walk::Walk;
 use mesh_rows::MeshRows;
-use row_lists::POINTS;
+use row_bits::POINTS;
 
 /// A row of cells: where its first point is, and the `count` cells that may have loops, each by how far it is along x and
 /// the number of a case that has its loops. Most cells have none.

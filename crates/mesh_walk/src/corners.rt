@@ -14,7 +14,7 @@ use crate::slots::{CENTRES, edge_slots};
 use case_faces::{corner_count, corners_before, face_corners};
 use case_table::CaseRow;
 use cell_loops::centre_count;
-use row_lists::EDGES;
+use row_bits::EDGES;
 use std::simd::prelude::*;
 
 /// So many slots a table has: those of all corners of triangles, and behind them some that are read and have no meaning.

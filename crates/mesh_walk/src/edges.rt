@@ -14,7 +14,7 @@ use byte_streams::{Failed, Sink};
 use flat_mesh::Heights;
 use mesh_lines::{Block, RowTexts};
 use mesh_rows::MeshRows;
-use row_lists::EDGES;
+use row_bits::EDGES;
 
 /// Fills in where the crossing edges of a row are crossed, at the front of a buffer.
 pub fn set_places<R: MeshRows>(

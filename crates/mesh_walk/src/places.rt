@@ -12,7 +12,7 @@ use edge_points::rounded_mean;
 use flat_mesh::Heights;
 use mesh_lines::Block;
 use mesh_rows::MeshRows;
-use row_lists::EDGES;
+use row_bits::EDGES;
 use std::simd::prelude::*;
 
 /// So many numbers hold the places: two more than there are slots, so that eight can be read from each cell on.

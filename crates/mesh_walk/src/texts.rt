@@ -15,7 +15,7 @@ use flat_mesh::Heights;
 use mesh_lines::{Block, Style};
 use mesh_rows::MeshRows;
 use mesh_text::Number;
-use row_lists::EDGES;
+use row_bits::EDGES;
 
 /// Sets the texts of the numbers of edges or of centres, from that of the first one on, in their slots, which begin at a place.
 fn set_texts(

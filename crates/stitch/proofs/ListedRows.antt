@@ -11,7 +11,7 @@ use Rattle.crossing_edges.proofs.Counting.{names_empty, names_next, names_none}
 use Rattle.flat_mesh.specs.Lattice.{Leveled, heights}
 use Rattle.flat_mesh.specs.Rows.{row_start}
 use Rattle.mesh_rows.specs.Rows.{AreActive, AreCases, AreEdges, IsCaseOf, IsStill}
-use Rattle.row_lists.specs.Active.{active_among}
+use Rattle.row_bits.specs.Active.{active_among}
 
 -- where no edge begins
 names_still : (g : Grid) (s : ℕ → ℤ) (a n : ℕ) → ((x : ℕ) → x < n → flags_at g s (a + x) ≡ 0) → names_in g s (3 * a) (3 * n) ≡ []

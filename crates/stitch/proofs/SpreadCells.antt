@@ -9,7 +9,7 @@ use Rattle.std.proofs.lemmas.List.Sums.{count_by-le-length, length-filter}
 use Rattle.iso_defs.specs.Grid.{index}
 use Rattle.flat_mesh.specs.Lattice.{Leveled}
 use Rattle.mesh_rows.specs.Rows.{AreActive, IsCaseOf}
-use Rattle.row_lists.specs.Active.{active_among}
+use Rattle.row_bits.specs.Active.{active_among}
 use Rattle.stitch.specs.Cells.{AreListed, case_at, spread}
 
 bool_apart : true ≡ false → ⊥

@@ -3,7 +3,7 @@ use Rattle.std.specs.Prelude.{◌≡◌, ℕ, ◌-◌, ◌==◌, List, [], ◌�
 use Rattle.std.specs.List.{range_with_len}
 use Rattle.flat_mesh.specs.Lattice.{Leveled}
 use Rattle.mesh_rows.specs.Rows.{AreCases}
-use Rattle.row_lists.specs.Active.{active_among}
+use Rattle.row_bits.specs.Active.{active_among}
 
 -- the case of a cell, where the cells in some places have some cases and others have the first one
 abbrev pub case_at : List ℕ → List ℕ → ℕ → ℕ

@@ -5,7 +5,7 @@ ghost use Rattle.stitch_rows.specs.Bricks.{AreMarked};
 ghost use Rattle.stitch.specs.Recent.{AreKnown};
 
 use crate::recent::{ListRoom, RecentLists};
-use row_lists::{EDGES, POINTS, list_edges};
+use row_bits::{EDGES, POINTS, list_edges};
 use stitch_rows::{ActiveRow, Field, flag_row, place_row};
 
 /// Whether a slice of points lies in a slice of bricks of even number.

@@ -7,7 +7,7 @@ ghost use Rattle.std.specs.Prelude.{◌≡◌, ◌+◌, ◌*◌, ◌<◌, ◌≤
 ghost use Rattle.flat_mesh.specs.Lattice.{heights};
 ghost use Rattle.iso_defs.specs.Bricks.{brick_count};
 ghost use Rattle.mesh_rows.specs.Rows.{AreCases};
-ghost use Rattle.row_lists.specs.Active.{active_among};
+ghost use Rattle.row_bits.specs.Active.{active_among};
 ghost use Rattle.stitch_rows.specs.Bricks.{AreMarked};
 ghost use Rattle.stitch_rows.specs.Named.{NamesCases, asked_along, asked_among};
 ghost use Rattle.stitch.specs.Asked.{asked_in_row};
@@ -20,7 +20,7 @@ use crate::recent::ListRoom;
 use flat_mesh::{Cell, Heights};
 use iso_base::{Sizes, Steps};
 use mesh_rows::{Counts, MeshRows};
-use row_lists::{CASES, EDGES, POINTS, list_active, list_edges};
+use row_bits::{CASES, EDGES, POINTS, list_active, list_edges};
 use std::sync::ledger::Ledger;
 use stitch_rows::{ActiveRow, CellRows, Field, case_row};
 

@@ -7,7 +7,7 @@ use Rattle.std.specs.Simd.Lanes.{Each1, zip2, sel_l, top, put_chunk}
 use Rattle.std.proofs.lemmas.Int.{ints, to_z-of_z}
 use Rattle.std.proofs.lemmas.List.{get_or-map, length-map}
 use Rattle.std.proofs.lemmas.Simd.{Each1-from_get_or, get_or-replicate, get_or-sel_l, get_or-zip2, length-sel_l, length-zip2, put_chunk_whole, tops_compared}
-use Rattle.sign_words.proofs.Lanes.{apart_by, lane_sum, lanes_from, lanes_from_are, lanes_from_long, sum_is}
+use Rattle.row_bits.proofs.Lanes.{apart_by, lane_sum, lanes_from, lanes_from_are, lanes_from_long, sum_is}
 use Rattle.iso_base.specs.declared.kind.SampleKind.{SampleKind}
 use Rattle.iso_base.specs.declared.kind.SampleKind.TheVariants.{I16, I32}
 use Rattle.iso_base.specs.Samples.{IsOfKind}

@@ -4,7 +4,7 @@ use Rattle.iso_defs.specs.Bricks.{brick_cell}
 use Rattle.iso_defs.specs.Cell.{cell_signs}
 use Rattle.brick_mesh.specs.Block.{BrickAt, IsCell, heights}
 use Rattle.brick_mesh.specs.Entries.{entries_from}
-use Rattle.sign_words.proofs.UnsetBits.{told_before, told_first, told_low, told_next, told_none}
+use Rattle.row_bits.proofs.UnsetBits.{told_before, told_first, told_low, told_next, told_none}
 use Rattle.brick_mesh.proofs.PlaneRuns.{next_run, plane_quiet, still_run}
 use Rattle.brick_mesh.proofs.Runs.{entries_few, is_active_in}
 use Rattle.brick_mesh.proofs.entries.add_plane.Goals as goal

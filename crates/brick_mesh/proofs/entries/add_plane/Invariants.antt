@@ -1,6 +1,6 @@
 use Rattle.std.proofs.Common.{◌≡◌, ◌+◌, ◌*◌, false, length}
 use Rattle.brick_mesh.specs.Entries.{entries_from}
-use Rattle.sign_words.proofs.UnsetBits.{IsTold}
+use Rattle.row_bits.proofs.UnsetBits.{IsTold}
 use Rattle.brick_mesh.proofs.Runs.{is_active_in}
 use Rattle.brick_mesh.proofs.entries.add_plane.Given as goal
 

@@ -6,7 +6,7 @@ use Rattle.iso_defs.specs.Grid.{index}
 use Rattle.flat_mesh.specs.Rows.{row_start}
 use Rattle.mesh_rows.specs.Counts.{AreCounts}
 use Rattle.mesh_rows.specs.Rows.{IsCaseOf}
-use Rattle.sign_words.proofs.LowestBit.{later, places, within}
+use Rattle.row_bits.proofs.LowestBit.{later, places, within}
 use Rattle.list_rows.proofs.PutCases.{in_row, past_lowest, tell_next, to_lowest}
 use Rattle.list_rows.proofs.cases.count_many.Goals as goal
 

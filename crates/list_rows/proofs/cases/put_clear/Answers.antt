@@ -5,7 +5,7 @@ use Rattle.std.proofs.lemmas.List.{length-set}
 use Rattle.iso_defs.specs.Grid.{index}
 use Rattle.case_table.specs.Cases.{case_at}
 use Rattle.list_rows.specs.Cases.{AreCasesBut}
-use Rattle.sign_words.proofs.LowestBit.{joined_here, joined_other, later, lowest_is_set, places, same_bit, set_in_both, within}
+use Rattle.row_bits.proofs.LowestBit.{joined_here, joined_other, later, lowest_is_set, places, same_bit, set_in_both, within}
 use Rattle.list_rows.proofs.PutCases.{case_put, clear_case, flag_none, flag_small}
 use Rattle.list_rows.proofs.cases.put_clear.Goals as goal
 

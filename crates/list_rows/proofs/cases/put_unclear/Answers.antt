@@ -7,7 +7,7 @@ use Rattle.flat_mesh.specs.Cases.{signs_at}
 use Rattle.flat_mesh.proofs.CellCase.{loops_are}
 use Rattle.mesh_rows.specs.Rows.{IsCaseOf}
 use Rattle.list_rows.specs.Cases.{AreCasesBut}
-use Rattle.sign_words.proofs.LowestBit.{later, lowest_is_set, places, same_bit, within}
+use Rattle.row_bits.proofs.LowestBit.{later, lowest_is_set, places, same_bit, within}
 use Rattle.list_rows.proofs.PutCases.{case_put}
 use Rattle.list_rows.proofs.cases.put_unclear.Goals as goal
 

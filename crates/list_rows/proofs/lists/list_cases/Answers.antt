@@ -1,6 +1,6 @@
 use Rattle.std.proofs.Common.{◌<◌, ◌≤◌, ◌∙◌, ap, arith, get_or}
 use Rattle.std.proofs.lemmas.List.{length-set}
-use Rattle.row_lists.proofs.ActiveLists.{active_few}
+use Rattle.row_bits.proofs.ActiveLists.{active_few}
 use Rattle.list_rows.proofs.Listed.{case_listed, listed_low}
 use Rattle.list_rows.proofs.lists.list_cases.Goals as goal
 

@@ -1,5 +1,5 @@
 use Rattle.std.proofs.Common.{◌∙◌, sym, ap}
-use Rattle.row_lists.specs.Edges.{edges_among}
+use Rattle.row_bits.specs.Edges.{edges_among}
 use Rattle.mesh_rows.proofs.FlagEdges.{edges_are, flags_small}
 use Rattle.list_rows.proofs.KeptParts.{no_edges}
 use Rattle.list_rows.proofs.RowPlaces.{none_here}

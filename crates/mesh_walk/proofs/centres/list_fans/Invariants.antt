@@ -1,6 +1,6 @@
 use Rattle.std.proofs.Common.{◌≡◌, ◌*◌, ◌<◌, ◌≤◌, All, map, take}
 use Rattle.flat_mesh.specs.Rows.{row_start}
-use Rattle.row_lists.proofs.ActiveLists.{begins}
+use Rattle.row_bits.proofs.ActiveLists.{begins}
 use Rattle.mesh_walk.specs.Fans.{by_numbers, row_fans, seen}
 use Rattle.mesh_walk.specs.declared.centres.RowFan.{RowFan}
 use Rattle.mesh_walk.proofs.centres.list_fans.Given as goal

@@ -9,7 +9,7 @@ use Rattle.flat_mesh.specs.Rows.{row_start}
 use Rattle.mesh_rows.specs.Rows.{AreCases, IsCaseOf}
 use Rattle.part_laws.specs.Loops.{Loop}
 use Rattle.part_walk.specs.Walks.{ArePlaces, IsWalked, loops_before}
-use Rattle.sign_words.proofs.UnsetBits.{told_before, told_begun, told_low, told_next, told_none}
+use Rattle.row_bits.proofs.UnsetBits.{told_before, told_begun, told_low, told_next, told_none}
 use Rattle.part_walk.proofs.CellLaws.{before_quiets}
 use Rattle.part_walk.proofs.cells.add_cells.Goals as goal
 

@@ -2,7 +2,7 @@ use Rattle.std.proofs.Common.{◌≡◌, ◌-◌, ◌+◌, ◌*◌, [], get_or}
 use Rattle.cell_loops.specs.Loops.{row_loops}
 use Rattle.flat_mesh.specs.Rows.{row_start}
 use Rattle.part_walk.specs.Walks.{IsWalked, loops_before}
-use Rattle.sign_words.proofs.UnsetBits.{IsTold}
+use Rattle.row_bits.proofs.UnsetBits.{IsTold}
 use Rattle.part_walk.proofs.cells.add_cells.Given as goal
 
 abbrev pub invariant-loop-bits : goal.invariant-loop-bits

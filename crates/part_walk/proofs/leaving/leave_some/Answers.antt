@@ -4,7 +4,7 @@ use Rattle.std.proofs.Math.Nat.{mod-le}
 use Rattle.std.proofs.lemmas.Bool.{cases_lt}
 use Rattle.component_labels.specs.Fronts.{none, room}
 use Rattle.part_walk.specs.Passed.{HasLeft}
-use Rattle.sign_words.proofs.UnsetBits.{told_before, told_first, told_low, told_next, told_none}
+use Rattle.row_bits.proofs.UnsetBits.{told_before, told_first, told_low, told_next, told_none}
 use Rattle.part_walk.proofs.LeftLaws.{can_more, has_more, has_none, has_over, room_same}
 use Rattle.part_walk.proofs.leaving.leave_some.Goals as goal
 

@@ -1,7 +1,7 @@
 use Rattle.std.proofs.Common.{◌≡◌, ◌+◌, get_or}
 use Rattle.component_labels.specs.Fronts.{none}
 use Rattle.part_walk.specs.Passed.{HasLeft}
-use Rattle.sign_words.proofs.UnsetBits.{IsTold}
+use Rattle.row_bits.proofs.UnsetBits.{IsTold}
 use Rattle.part_walk.proofs.leaving.leave_some.Given as goal
 
 abbrev pub invariant-loop-bits : goal.invariant-loop-bits

@@ -1,6 +1,6 @@
 use Rattle.std.proofs.Common.{◌≡◌, ◌<◌, All, length, ◌∙◌, ap, subst, sym, refl, arith}
 use Rattle.iso_defs.specs.Grid.{Grid}
-use Rattle.row_lists.specs.Edges.{edges_among}
+use Rattle.row_bits.specs.Edges.{edges_among}
 use Rattle.mesh_rows.proofs.FlagEdges.{edges_are, flags_small}
 use Rattle.stitch.proofs.ListedRows.{still_edges, take_front}
 use Rattle.stitch.proofs.known.list_marked.Goals as goal

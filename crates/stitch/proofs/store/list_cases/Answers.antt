@@ -1,5 +1,5 @@
 use Rattle.std.proofs.Common.{arith}
-use Rattle.row_lists.proofs.ActiveLists.{active_few}
+use Rattle.row_bits.proofs.ActiveLists.{active_few}
 use Rattle.stitch.proofs.ListedRows.{places_low}
 use Rattle.stitch.proofs.store.list_cases.Goals as goal
 

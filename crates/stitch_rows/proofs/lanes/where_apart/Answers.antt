@@ -1,5 +1,5 @@
 use Rattle.std.proofs.Common.{eqb, refl, w8}
-use Rattle.sign_words.proofs.Lanes.{apart_by}
+use Rattle.row_bits.proofs.Lanes.{apart_by}
 use Rattle.stitch_rows.proofs.EightLanes.{chosen}
 use Rattle.stitch_rows.proofs.lanes.where_apart.Goals as goal
 

@@ -1,6 +1,6 @@
 use Rattle.std.proofs.Common.{map, of_z, refl, w16}
 use Rattle.iso_base.specs.declared.kind.SampleKind.TheVariants.{I16}
-use Rattle.sign_words.proofs.Lanes.{lanes_from}
+use Rattle.row_bits.proofs.Lanes.{lanes_from}
 use Rattle.stitch_rows.proofs.EightLanes.{at_most, kind_fits, lanes_long, narrowed, of_sixteen, signed_are, signs_fit}
 use Rattle.stitch_rows.proofs.lanes.I16Lanes.signs_at.Goals as goal
 

@@ -1,6 +1,6 @@
 use Rattle.std.proofs.Common.{map, of_z, refl, w32}
 use Rattle.iso_base.specs.declared.kind.SampleKind.TheVariants.{I32}
-use Rattle.sign_words.proofs.Lanes.{lanes_from}
+use Rattle.row_bits.proofs.Lanes.{lanes_from}
 use Rattle.stitch_rows.proofs.EightLanes.{at_most, kind_fits, lanes_long, narrowed, of_thirty_two, signed_are, signs_fit}
 use Rattle.stitch_rows.proofs.lanes.I32Lanes.signs_at.Goals as goal
 

@@ -1,5 +1,5 @@
 use Rattle.std.proofs.Common.{leb, refl, w16}
-use Rattle.sign_words.proofs.Lanes.{lanes_from, lanes_from_long}
+use Rattle.row_bits.proofs.Lanes.{lanes_from, lanes_from_long}
 use Rattle.stitch_rows.proofs.EightLanes.{narrowed, signs_are, signs_fit}
 use Rattle.stitch_rows.proofs.lanes.U16Lanes.signs_at.Goals as goal
 

@@ -1,3 +1,0 @@
-pub mod EdgeLists
-pub mod PairEdges
-pub mod ActiveLists
