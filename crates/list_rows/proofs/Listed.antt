@@ -1,10 +1,10 @@
 -- The crossing edges and the active cells of a row, by the numbers of its points and by the cases of its cells.
-use Rattle.std.proofs.Common.{◌≡◌, ℕ, zero, suc, ◌+◌, ◌/◌, ◌%◌, ◌<◌, ◌≤◌, Bool, cond, not, List, [], ◌∷◌, ◌++◌, map, take, set, length, get_or, refl, sym, subst, ◌∙◌, ap, ap₂, arith, eqb, inl, inr, zero-add}
+use Rattle.std.proofs.Common.{◌≡◌, ℕ, zero, suc, ◌+◌, ◌/◌, ◌%◌, ◌<◌, ◌≤◌, Bool, cond, not, List, [], ◌∷◌, map, set, length, get_or, refl, sym, subst, ◌∙◌, ap, ap₂, arith, eqb, inl, inr}
 use Rattle.std.specs.List.{filter, range_with_len}
 use Rattle.std.proofs.lemmas.Bool.{cases_lt}
-use Rattle.std.proofs.lemmas.List.{ext_get_or, get_or-map, get_or-set_other, get_or-set_same, get_or-take, length-map, map_more, take_more_set}
+use Rattle.std.proofs.lemmas.List.{ext_get_or, get_or-map, get_or-set_other, get_or-set_same, length-map}
 use Rattle.row_bits.specs.Active.{active_among}
-use Rattle.row_bits.proofs.ActiveLists.{inside}
+use Rattle.row_bits.proofs.ActiveLists.{active_low}
 use Rattle.list_rows.specs.Lists.{cases_of, flags_of}
 
 -- a row of whole numbers
@@ -27,18 +27,6 @@ unfolding active_among
 active_same all cases n same =
     same_filter (λ x. not (eqb (get_or all x 0) 0)) (λ x. not (eqb (get_or cases x 0) 0)) 0 n (λ k _ most. ap (λ c. not (eqb c 0)) (same k (omega (arith, most))))
 
-pub active_low : (cases : List ℕ) (n k : ℕ) → k < length (active_among cases 0 n) → get_or (active_among cases 0 n) k 0 < n
-unfolding active_among
-active_low cases n k low =
-    let two = inside (λ x. not (eqb (get_or cases x 0) 0)) 0 n n k (sym (zero-add n)) low in
-    two.1
-
--- an active cell of a buffer
-pub listed_low : (cases places : List ℕ) (n count k : ℕ) → take count places ≡ active_among cases 0 n → count ≡ length (active_among cases 0 n) → k < count → get_or places k 0 < n
-listed_low cases places n count k is counted low =
-    let here : get_or (active_among cases 0 n) k 0 ≡ get_or places k 0 = ap (λ l. get_or l k 0) (sym is) ∙ get_or-take count places k 0 low in
-    subst (λ x. x < n) here (active_low cases n k (omega (arith, counted, low)))
-
 -- one number of a row more
 pub number_set : (numbers all : List ℕ) (x : ℕ) → x < length all → ((k : ℕ) → k < x → get_or all k 0 ≡ get_or numbers k 0 / 8) → (k : ℕ) → k < x + 1
     → get_or (set all x (get_or numbers x 0 / 8)) k 0 ≡ get_or numbers k 0 / 8
@@ -48,13 +36,6 @@ number_set numbers all x low done k within = elim (cases_lt k x) [
       let same : k ≡ x = omega (arith, late, within) in
       ap (λ k. get_or (set all x (get_or numbers x 0 / 8)) k 0) same ∙ (get_or-set_same all x (get_or numbers x 0 / 8) 0 low ∙ ap (λ k. get_or numbers k 0 / 8) (sym same)))
 ]
-
--- the case of an active cell behind those of the active cells before it
-pub case_listed : (all places cases : List ℕ) (k case : ℕ) → k < length cases → k < length places → case ≡ get_or all (get_or places k 0) 0
-    → take k cases ≡ map (λ x. get_or all x 0) (take k places) → take (k + 1) (set cases k case) ≡ map (λ x. get_or all x 0) (take (k + 1) places)
-case_listed all places cases k case room low is before =
-    let f : ℕ → ℕ = λ x. get_or all x 0 in
-    take_more_set cases k case room ∙ (ap₂ (λ l c. l ++ (c ∷ [])) before is ∙ sym (map_more f places k 0 low))
 
 -- the cases of active cells by two lists that are the same so far
 pub cases_same : (all cases listed : List ℕ) (n : ℕ) → listed ≡ active_among all 0 n → ((k : ℕ) → k < n → get_or all k 0 ≡ get_or cases k 0)

@@ -9,7 +9,7 @@ ghost use Rattle.list_rows.specs.Parts.{AreCells, HaveAllRows, part_cases, part_
 
 use crate::parts::{RowPart, RowParts, numbers_from, part_of};
 use flat_mesh::Heights;
-use row_bits::{CASES, EDGES, POINTS, list_active, list_edges};
+use row_bits::{CASES, EDGES, POINTS, list_cases, list_edges};
 
 /// Buffers for a row that is kept whole: the flags of its points, and the cases of the cells that begin at them. They are made once, since
 /// what stands in them is written over, and to clear them for each row takes long.
@@ -43,28 +43,8 @@ pub fn list_whole_edges(numbers: &[u16], row: &mut [u8; POINTS], edges: &mut [u1
     list_edges(flags, edges)
 }
 
-/// Lists the active cells of a row at the front of two buffers, by the cases of all its cells, and says how many there are: how far each
-/// is along x, and its case.
-#[inline(always)]
-pub fn list_cases(
-    all: &[u16; CASES],
-    count: usize,
-    places: &mut [u16; POINTS],
-    cases: &mut [u16; POINTS],
-) -> usize
-    requires { count ≤ 1026 }
-    ensures places { take result places.new ≡ active_among all.now 0 count }
-    ensures cases { take result cases.new ≡ map (slice_index all.now) (take result places.new) }
-    ensures count { result ≤ count }
-{
-    let active = list_active(all, count, places);
-    for k in 0..active {
-        cases[k] = all[usize::from(places[k])];
-    }
-    active
-}
-
-/// Lists the active cells of a row likewise, by the numbers of its points. `all` is a buffer too.
+/// Lists the active cells of a row at the front of two buffers likewise, by the numbers of its points, and says how many there are:
+/// how far each is along x, and its case. `all` is a buffer too.
 pub fn list_whole_cells(
     numbers: &[u16],
     all: &mut [u16; CASES],

@@ -1,9 +1,9 @@
 -- The active cells of a row, in order, and those between them.
-use Rattle.std.proofs.Common.{◌≡◌, ℕ, zero, suc, ◌+◌, ◌-◌, ◌<◌, ◌≤◌, Bool, true, false, cond, not, List, [], ◌∷◌, ◌++◌, map, length, get_or, append-nil, refl, sym, ◌∙◌, ap, arith, eqb, if◌then◌else◌}
+use Rattle.std.proofs.Common.{◌≡◌, ℕ, zero, suc, ◌+◌, ◌-◌, ◌<◌, ◌≤◌, Bool, true, false, cond, not, List, [], ◌∷◌, ◌++◌, map, take, set, length, get_or, append-nil, refl, sym, subst, ◌∙◌, ap, ap₂, arith, eqb, if◌then◌else◌, zero-add}
 use Rattle.std.specs.Int.{bit_at}
 use Rattle.std.specs.List.{filter, range_with_len}
 use Rattle.std.proofs.lemmas.Bool.{eqb-true, eqb-false}
-use Rattle.std.proofs.lemmas.List.{length-append}
+use Rattle.std.proofs.lemmas.List.{get_or-take, length-append, map_more, take_more_set}
 use Rattle.std.proofs.lemmas.List.Elements.{filter-append}
 use Rattle.iso_defs.proofs.Ranges.{range_append}
 use Rattle.row_bits.specs.Active.{active_among}
@@ -145,3 +145,23 @@ group_cells cases from n count few inside behind =
         both : (b : Bool) → eqb (if b then 0 else 1) 1 ≡ not b
         both true = refl
         both false = refl
+
+-- a number that is listed
+pub active_low : (cases : List ℕ) (n k : ℕ) → k < length (active_among cases 0 n) → get_or (active_among cases 0 n) k 0 < n
+unfolding active_among
+active_low cases n k low =
+    let two = inside (λ x. not (eqb (get_or cases x 0) 0)) 0 n n k (sym (zero-add n)) low in
+    two.1
+
+-- an active cell of a buffer
+pub listed_low : (cases places : List ℕ) (n count k : ℕ) → take count places ≡ active_among cases 0 n → count ≡ length (active_among cases 0 n) → k < count → get_or places k 0 < n
+listed_low cases places n count k is counted low =
+    let here : get_or (active_among cases 0 n) k 0 ≡ get_or places k 0 = ap (λ l. get_or l k 0) (sym is) ∙ get_or-take count places k 0 low in
+    subst (λ x. x < n) here (active_low cases n k (omega (arith, counted, low)))
+
+-- the case of an active cell behind those of the active cells before it
+pub case_listed : (all places cases : List ℕ) (k case : ℕ) → k < length cases → k < length places → case ≡ get_or all (get_or places k 0) 0
+    → take k cases ≡ map (λ x. get_or all x 0) (take k places) → take (k + 1) (set cases k case) ≡ map (λ x. get_or all x 0) (take (k + 1) places)
+case_listed all places cases k case room low is before =
+    let f : ℕ → ℕ = λ x. get_or all x 0 in
+    take_more_set cases k case room ∙ (ap₂ (λ l c. l ++ (c ∷ [])) before is ∙ sym (map_more f places k 0 low))

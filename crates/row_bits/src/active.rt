@@ -2,7 +2,7 @@
 //!
 //! Whoever has a row's lists hands them out; where they have to be found, it is by the bits of a comparison of many
 //! flags or cases at once. A branch for each point is guessed wrongly where one in ten counts.
-ghost use Rattle.std.specs.Prelude.{◌≡◌, ℕ, ◌+◌, ◌-◌, ◌^◌, ◌<◌, ◌≤◌, ◌==◌, ◌++◌, if◌then◌else◌, length, slice_index, take};
+ghost use Rattle.std.specs.Prelude.{◌≡◌, ℕ, ◌+◌, ◌-◌, ◌^◌, ◌<◌, ◌≤◌, ◌==◌, ◌++◌, if◌then◌else◌, length, map, slice_index, take};
 ghost use Rattle.std.specs.Int.{bit_at};
 ghost use Rattle.row_bits.specs.Active.{active_among};
 
@@ -80,4 +80,25 @@ pub fn list_active(cases: &[u16; CASES], count: usize, cells: &mut [u16; POINTS]
         at = put_group(cases, from, some, cells, at);
     }
     at
+}
+
+/// Lists the active cells of a row at the front of two buffers, by the cases of all its cells, and says how many there are: how far each
+/// is along x, and its case.
+#[inline(always)]
+pub fn list_cases(
+    all: &[u16; CASES],
+    count: usize,
+    places: &mut [u16; POINTS],
+    cases: &mut [u16; POINTS],
+) -> usize
+    requires { count ≤ 1026 }
+    ensures places { take result places.new ≡ active_among all.now 0 count }
+    ensures cases { take result cases.new ≡ map (slice_index all.now) (take result places.new) }
+    ensures count { result ≤ count }
+{
+    let active = list_active(all, count, places);
+    for k in 0..active {
+        cases[k] = all[usize::from(places[k])];
+    }
+    active
 }

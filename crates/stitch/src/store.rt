@@ -3,11 +3,10 @@
 //! Bricks that are not active are not read. All edges from a point lie in the last brick that holds it. For each brick
 //! of a layer the next active one is noted once for its eight slices; flags, cases and lines go from one active brick
 //! to the next by these notes.
-ghost use Rattle.std.specs.Prelude.{◌≡◌, ◌+◌, ◌*◌, ◌<◌, ◌≤◌, All, length, map, slice_index, take};
+ghost use Rattle.std.specs.Prelude.{◌≡◌, ◌+◌, ◌*◌, ◌<◌, ◌≤◌};
 ghost use Rattle.flat_mesh.specs.Lattice.{heights};
 ghost use Rattle.iso_defs.specs.Bricks.{brick_count};
 ghost use Rattle.mesh_rows.specs.Rows.{AreCases};
-ghost use Rattle.row_bits.specs.Active.{active_among};
 ghost use Rattle.stitch_rows.specs.Bricks.{AreMarked};
 ghost use Rattle.stitch_rows.specs.Named.{NamesCases, asked_along, asked_among};
 ghost use Rattle.stitch.specs.Asked.{asked_in_row};
@@ -20,7 +19,7 @@ use crate::recent::ListRoom;
 use flat_mesh::{Cell, Heights};
 use iso_base::{Sizes, Steps};
 use mesh_rows::{Counts, MeshRows};
-use row_bits::{CASES, EDGES, POINTS, list_active, list_edges};
+use row_bits::{CASES, EDGES, POINTS, list_cases};
 use std::sync::ledger::Ledger;
 use stitch_rows::{ActiveRow, CellRows, Field, case_row};
 
@@ -44,35 +43,6 @@ fn case_marked<R: CellRows, L: Ledger>(
 {
     let nx = field.sizes().nx() as usize;
     case_row(field, active, rows, &mut all[..nx], steps);
-}
-
-/// Writes the cases of some cells of a row, by their places.
-#[inline(always)]
-fn gather(all: &[u16; CASES], places: &[u16], cases: &mut [u16])
-    requires count { length cases.old ≡ length places.now }
-    requires places { All (λ x. x < 1056) places.now }
-    ensures { cases.new ≡ map (slice_index all.now) places.now }
-{
-    for i in 0..places.len() {
-        cases[i] = all[places[i] as usize];
-    }
-}
-
-/// Lists those of so many cells of a row that have another case than 0, with their cases, and says how many there are.
-fn list_cases(
-    all: &[u16; CASES],
-    count: usize,
-    places: &mut [u16; POINTS],
-    cases: &mut [u16; POINTS],
-) -> usize
-    requires { count ≤ 1026 }
-    ensures few { result ≤ count }
-    ensures places { take result places.new ≡ active_among all.now 0 count }
-    ensures cases { take result cases.new ≡ map (slice_index all.now) (active_among all.now 0 count) }
-{
-    let active = list_active(all, count, places);
-    gather(all, &places[..active], &mut cases[..active]);
-    active
 }
 
 /// The rows of a volume in bricks at a level: with who names the cases of its cells, the counter of what that takes, what is known of

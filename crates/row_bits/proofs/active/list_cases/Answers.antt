@@ -1,8 +1,7 @@
 use Rattle.std.proofs.Common.{◌<◌, ◌≤◌, ◌∙◌, ap, arith, get_or}
 use Rattle.std.proofs.lemmas.List.{length-set}
-use Rattle.row_bits.proofs.ActiveLists.{active_few}
-use Rattle.list_rows.proofs.Listed.{case_listed, listed_low}
-use Rattle.list_rows.proofs.lists.list_cases.Goals as goal
+use Rattle.row_bits.proofs.ActiveLists.{active_few, case_listed, listed_low}
+use Rattle.row_bits.proofs.active.list_cases.Goals as goal
 
 pub bounds-all-from : goal.bounds-all-from
 bounds-all-from c =

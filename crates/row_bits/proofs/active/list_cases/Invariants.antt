@@ -1,5 +1,5 @@
 use Rattle.std.proofs.Common.{◌≡◌, get_or, length, map, take}
-use Rattle.list_rows.proofs.lists.list_cases.Given as goal
+use Rattle.row_bits.proofs.active.list_cases.Given as goal
 
 abbrev pub invariant-loop-k : goal.invariant-loop-k
 invariant-loop-k l = record {
