@@ -5,7 +5,7 @@ ghost use Rattle.iso_base.specs.Samples.{IsSample, least_of, greatest_of};
 ghost use Rattle.mesh_cache.specs.Cache.{IsCache};
 ghost use Rattle.inner_volume.specs.Places.{IsInside, place_of, plane_of};
 ghost use Rattle.measure.specs.Measures.{HasNoArea};
-ghost use Rattle.mesh_measures.specs.Printed.{HasNoBorder, HasOneVolumeIn};
+ghost use Rattle.part_laws.specs.Printed.{HasNoBorder, HasOneVolumeIn};
 ghost use Rattle.bench_core.specs.Surface.{IsCutOfMesh, IsWatertight};
 ghost use Rattle.bench_core.specs.Texts.{WritesFile, contour_of, hex_save, measure_of, text_of_state, mesh_written, obj_text, obj_written, ply_text, ply_written, raw_save, report_of, text_save};
 ghost use Rattle.voxel_list.specs.Areas.{between};

@@ -6,7 +6,7 @@ ghost use Rattle.iso_base.specs.Shifted.{field};
 ghost use Rattle.fan_laws.specs.Padded.{HasPadBelow};
 ghost use Rattle.measure.specs.Measures.{HasNoArea};
 ghost use Rattle.mesh_cache.specs.Economy.{IsRight};
-ghost use Rattle.mesh_measures.specs.Printed.{HasNoBorder, HasOneVolumeIn, measures_at};
+ghost use Rattle.part_laws.specs.Printed.{HasNoBorder, HasOneVolumeIn, measures_at};
 ghost use Rattle.mesh_report.specs.Report.{summary_of};
 ghost use Rattle.span_tree.specs.Spans.{IsRightFor};
 
@@ -15,8 +15,8 @@ use iso_base::{Level, Memory, Steps};
 use kept_mesh::KeptRows;
 use measure::Measures;
 use mesh_cache::MeshCache;
-use mesh_measures::parts_without_border;
 use mesh_report::Report;
+use part_laws::parts_without_border;
 use part_walk::{part_measures, part_numbers};
 use span_tree::SpanTree;
 use std::alloc::Global;

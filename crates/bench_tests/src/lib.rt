@@ -7,6 +7,8 @@ mod asked;
 #[cfg(test)]
 mod bench;
 #[cfg(test)]
+mod measures;
+#[cfg(test)]
 mod walked;
 #[cfg(test)]
 mod windows;

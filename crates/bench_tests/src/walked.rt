@@ -6,11 +6,11 @@ ghost use Rattle.iso_base.specs.Shifted.{field};
 ghost use Rattle.iso_base.specs.Triangles.{triangles_of};
 
 use crate::asked::begin;
+use crate::measures::measured_from_scratch;
 use bench_core::{Bench, Capacity};
 use fan_laws::{mesh_sizes, one_fan};
 use flat_mesh::extract_flat;
 use iso_base::{Level, Memory, TriangleList};
-use mesh_measures::mesh_measures;
 use mesh_report::{Report, report};
 use nrrd_read::read_volume;
 use std::alloc::Global;
@@ -102,13 +102,14 @@ fn report_by_triangles(alloc: Global, volume: &VoxelList, level: Level) -> Resul
 
 /// Whether the bench answers what the triangles say.
 fn has_answers(
+    rt: &impl Abort,
     alloc: Global,
     bench: &Bench,
     volume: &VoxelList,
     level: Level,
 ) -> Result<bool, Fail> {
     let wanted = report_by_triangles(alloc, volume, level)?;
-    let measured = mesh_measures(alloc, volume, level)?;
+    let measured = measured_from_scratch(rt, alloc, volume, level)?;
     let (Ok(told), Ok(shares)) = (bench.report(), bench.measure()) else {
         return Ok(false);
     };
@@ -132,7 +133,7 @@ fn random_volumes(rt: HostRuntime) -> Result<(), Fail> {
         let level = Level::new(thousandths).expect(&rt, "it is a level");
         let capacity = Capacity::new(16, 64).expect(&rt, "it is a capacity");
         let bench = begin(alloc, volume, thousandths, capacity).expect(&rt, "a bench is opened");
-        assert!(rt; has_answers(alloc, &bench, &same, level)?, "{from}");
+        assert!(rt; has_answers(&rt, alloc, &bench, &same, level)?, "{from}");
     }
     Ok(())
 }

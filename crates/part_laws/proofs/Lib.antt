@@ -19,3 +19,4 @@ pub mod LabelSums
 pub mod CellOrder
 pub mod LabelLaws
 pub mod NamedParts
+pub mod BorderLaws

@@ -7,3 +7,4 @@ pub mod Labels
 pub mod Meets
 pub mod ByLabels
 pub mod FirstCells
+pub mod Printed

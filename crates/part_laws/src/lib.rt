@@ -2,11 +2,13 @@
 //! Each call says its law and does nothing else.
 #![tactic(auto)]
 
+mod borders;
 mod labels;
 mod lists;
 mod loops;
 mod meshes;
 
+pub use borders::parts_without_border;
 pub use labels::{labelling_grows, labelling_told, parts_by_labels};
 pub use lists::edges_by_faces;
 pub use loops::{

@@ -14,7 +14,7 @@ use Rattle.stitch_rows.specs.Rows.{at_level}
 use Rattle.measure_laws.specs.Vectors.{Vector}
 use Rattle.measure.specs.declared.share.Share.{Share}
 use Rattle.measure.specs.Positions.{coordinates, vector_of}
-use Rattle.mesh_measures.specs.Printed.{measures_at, position_in}
+use Rattle.part_laws.specs.Printed.{measures_at, position_in}
 use Rattle.part_laws.specs.Classes.{is_of_class}
 use Rattle.part_laws.specs.Loops.{Loop, mesh_loops, rims, rims_where}
 use Rattle.part_laws.specs.Parts.{class_loops, classes}

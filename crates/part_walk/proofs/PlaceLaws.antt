@@ -18,7 +18,7 @@ use Rattle.flat_mesh.specs.Faces.{loops_at}
 use Rattle.flat_mesh.specs.Lattice.{Leveled, heights}
 use Rattle.measure_laws.specs.Vectors.{Vector, minus}
 use Rattle.measure.specs.Positions.{position, vector_of}
-use Rattle.mesh_measures.specs.Printed.{printed_position, printed_positions}
+use Rattle.part_laws.specs.Printed.{printed_position, printed_positions}
 use Rattle.part_laws.specs.Loops.{Loop, loops_in, mesh_loops}
 use Rattle.part_laws.specs.Swept.{tip}
 use Rattle.part_laws.proofs.Joined.{first_in}

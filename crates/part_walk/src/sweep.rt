@@ -8,7 +8,7 @@ ghost use Rattle.cell_loops.specs.Loops.{IsLoop};
 ghost use Rattle.flat_mesh.specs.Centres.{IsCellAt};
 ghost use Rattle.part_laws.specs.Loops.{Loop};
 ghost use Rattle.part_walk.specs.Sums.{IsLoopIn, IsOneLoop};
-ghost use Rattle.mesh_measures.specs.Printed.{measures_at};
+ghost use Rattle.part_laws.specs.Printed.{measures_at};
 ghost use Rattle.iso_base.specs.Shifted.{field as field_of};
 ghost use Rattle.span_tree.specs.Spans.{IsRightFor};
 ghost use Rattle.part_walk.specs.Sweep.{AreSmall, measure_at, measured_of};

@@ -29,7 +29,8 @@ pub fn list_of(rt: &impl Abort, alloc: Global, triangles: &[[u32; 3]]) -> Result
     Ok(TriangleList::new(9, triangles.to_vec(alloc)?))
 }
 
-fn has_three_corners(t: &[u32; 3]) -> bool
+/// Whether the corners of a triangle are three vertices.
+pub fn has_three_corners(t: &[u32; 3]) -> bool
     ensures { IsTrue result ↔ HasThreeCorners (triangle_of t.now) }
 {
     t[0] != t[1] && t[1] != t[2] && t[2] != t[0]

@@ -1,6 +1,6 @@
-//! Tests of `measure` and `mesh_measures`.
+//! Tests of `measure`, of triangles and of the meshes of volumes.
 
-ghost use Rattle.std.specs.Prelude.{◌≡◌, ◌^◌, ◌↔◌, IsTrue, None, IfOk, IfSome};
+ghost use Rattle.std.specs.Prelude.{◌≡◌, ◌^◌, ◌<◌, ◌↔◌, IsTrue, None, IfOk, IfSome, length};
 ghost use Rattle.iso_defs.specs.Grid.{Grid};
 ghost use Rattle.iso_base.specs.Samples.{IsOfKind};
 ghost use Rattle.iso_base.specs.Volume.{Volume};
@@ -8,11 +8,11 @@ ghost use Rattle.iso_base.specs.declared.kind.SampleKind.TheVariants.{U8};
 ghost use Rattle.measure.specs.Positions.{IsWithin, vector_of};
 
 use crate::grids::{sizes_of, three_a_side, two_a_side};
-use crate::lists::surface_of;
+use crate::lists::{has_three_corners, surface_of};
 use crate::volumes::{one_above, one_below};
-use iso_base::{Level, Memory, Point, SampleKind, Sizes, VoxelData, point_of};
+use flat_mesh::{Mesh, extract_flat};
+use iso_base::{Level, Memory, Point, SampleKind, Sizes, TriangleList, VoxelData, point_of};
 use measure::{Measures, Share, measure};
-use mesh_measures::mesh_measures;
 use std::alloc::Global;
 use std::process::Abort;
 use std::test::Fail;
@@ -97,19 +97,59 @@ fn eight(alloc: Global, sizes: Sizes, first: i64, others: i64) -> Result<VoxelLi
     Ok(VoxelList::of(VoxelData::new(sizes, SampleKind::U8, samples)))
 }
 
+/// A pad's layer along an axis, in thousandths.
+const LAYER: i64 = 1000;
+
+/// The position of a vertex of a mesh, as it is printed.
+fn position_of(mesh: &Mesh, padded: bool, i: u32) -> [i64; 3]
+    requires { i < length mesh.now.vertex_list }
+{
+    let (_, [x, y, z]) = mesh.vertex(i);
+    if padded {
+        [x.0 - LAYER, y.0 - LAYER, z.0 - LAYER]
+    } else {
+        [x.0, y.0, z.0]
+    }
+}
+
+/// Those of all its vertices.
+fn positions_of(alloc: Global, mesh: &Mesh, padded: bool) -> Result<Vec<[i64; 3]>, Memory> {
+    let mut positions = Vec::with_capacity(alloc, mesh.vertex_count() as usize)?;
+    for i in 0..mesh.vertex_count() {
+        positions.push(position_of(mesh, padded, i))?;
+    }
+    Ok(positions)
+}
+
+/// What is measured of triangles, of which none repeats a corner, at positions that are small.
+fn measure_at(
+    rt: &impl Abort,
+    alloc: Global,
+    mesh: &TriangleList,
+    at: &[[i64; 3]],
+) -> Result<Measures, Fail> {
+    assert!(rt; mesh.triangles().len() < 2_147_483_648);
+    assert!(rt; mesh.triangles().iter().all(|t| has_three_corners(t)));
+    assert!(rt; at.len() == mesh.vertex_count() as usize);
+    assert!(rt; at.iter().all(|p| is_small(p)));
+    Ok(measure(alloc, mesh, at)?)
+}
+
 /// The measures of the mesh of a volume at level 5.
-fn measured_at_5(alloc: Global, volume: &VoxelList) -> Result<Measures, Fail> {
+fn measured_at_5(rt: &impl Abort, alloc: Global, volume: &VoxelList) -> Result<Measures, Fail> {
     let level = Level::new(5_000).ok_or("5 is a level")?;
-    Ok(mesh_measures(alloc, volume, level)?)
+    let mesh = extract_flat(alloc, volume, level)?;
+    let at = positions_of(alloc, &mesh, volume.pad().is_some())?;
+    measure_at(rt, alloc, &mesh.triangle_list(alloc)?, at.as_slice())
 }
 
 /// The measures of the mesh of eight samples.
-fn measured_eight(alloc: Global, first: i64, others: i64) -> Result<Measures, Fail>
+fn measured_eight(rt: &impl Abort, alloc: Global, first: i64, others: i64) -> Result<Measures, Fail>
     requires first { IsOfKind U8 first }
     requires others { IsOfKind U8 others }
 {
     let sizes = two_a_side().ok_or("2, 2 and 2 are sizes")?;
-    measured_at_5(alloc, &eight(alloc, sizes, first, others)?)
+    measured_at_5(rt, alloc, &eight(alloc, sizes, first, others)?)
 }
 
 fn check_shares(rt: &impl Abort, measures: &Measures, shares: &[Share]) {
@@ -124,31 +164,31 @@ fn one_corner_has_a_border(rt: HostRuntime) -> Result<(), Fail> {
         area: [250_000; 3],
         border: 3,
     };
-    check_shares(&rt, &measured_eight(rt.alloc(), 10, 0)?, &[corner]);
+    check_shares(&rt, &measured_eight(&rt, rt.alloc(), 10, 0)?, &[corner]);
     Ok(())
 }
 
 #[test]
 fn nothing_has_no_measures(rt: HostRuntime) -> Result<(), Fail> {
-    check_shares(&rt, &measured_eight(rt.alloc(), 0, 0)?, &[]);
+    check_shares(&rt, &measured_eight(&rt, rt.alloc(), 0, 0)?, &[]);
     Ok(())
 }
 
-fn measured_above(alloc: Global) -> Result<Measures, Fail> {
+fn measured_above(rt: &impl Abort, alloc: Global) -> Result<Measures, Fail> {
     let sizes = three_a_side().ok_or("3, 3 and 3 are sizes")?;
-    measured_at_5(alloc, &one_above(alloc, sizes)?)
+    measured_at_5(rt, alloc, &one_above(alloc, sizes)?)
 }
 
-fn measured_below(alloc: Global) -> Result<Measures, Fail> {
+fn measured_below(rt: &impl Abort, alloc: Global) -> Result<Measures, Fail> {
     let sizes = three_a_side().ok_or("3, 3 and 3 are sizes")?;
-    measured_at_5(alloc, &one_below(alloc, sizes)?)
+    measured_at_5(rt, alloc, &one_below(alloc, sizes)?)
 }
 
 #[test]
 fn one_sample_above(rt: HostRuntime) -> Result<(), Fail> {
     check_shares(
         &rt,
-        &measured_above(rt.alloc())?,
+        &measured_above(&rt, rt.alloc())?,
         &[closed_share(1_000_000_000)],
     );
     Ok(())
@@ -158,7 +198,7 @@ fn one_sample_above(rt: HostRuntime) -> Result<(), Fail> {
 fn above_and_below_exchanged(rt: HostRuntime) -> Result<(), Fail> {
     check_shares(
         &rt,
-        &measured_below(rt.alloc())?,
+        &measured_below(&rt, rt.alloc())?,
         &[closed_share(-1_000_000_000)],
     );
     Ok(())
@@ -174,7 +214,7 @@ fn a_block_in_a_pad(rt: HostRuntime) -> Result<(), Fail> {
     let volume = block_in_a_pad(rt.alloc())?;
     check_shares(
         &rt,
-        &measured_at_5(rt.alloc(), &volume)?,
+        &measured_at_5(&rt, rt.alloc(), &volume)?,
         &[closed_share(34_000_000_000)],
     );
     Ok(())
@@ -264,7 +304,7 @@ fn expect_volume(rt: &impl Abort, alloc: Global, shape: Shape) -> Result<(), Fai
     let volume = volume_of_shape(alloc, shape)?;
     let voxels = voxels_in(&volume);
     let padded = volume.padded(alloc, 0)?;
-    check_volume(rt, &measured_at_5(alloc, &padded)?, voxels);
+    check_volume(rt, &measured_at_5(rt, alloc, &padded)?, voxels);
     Ok(())
 }
 

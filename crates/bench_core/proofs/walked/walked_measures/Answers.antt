@@ -1,7 +1,7 @@
 use Rattle.std.proofs.Common.{All}
 use Rattle.measure.specs.Measures.{HasNoArea}
-use Rattle.mesh_measures.specs.Printed.{HasNoBorder, HasOneVolumeIn, measures_at}
-use Rattle.mesh_measures.proofs.MeshLaws.{of_measures}
+use Rattle.part_laws.specs.Printed.{HasNoBorder, HasOneVolumeIn, measures_at}
+use Rattle.part_laws.proofs.BorderLaws.{of_measures}
 use Rattle.bench_core.proofs.walked.walked_measures.Goals as goal
 
 pub returns-clause-areas : goal.returns-clause-areas

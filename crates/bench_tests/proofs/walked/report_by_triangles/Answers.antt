@@ -1,5 +1,5 @@
 use Rattle.iso_base.specs.Shifted.{field}
-use Rattle.mesh_measures.proofs.Triangles.{all_different, few_triangles}
+use Rattle.bench_tests.proofs.Triangles.{all_different, few_triangles}
 use Rattle.bench_tests.proofs.walked.report_by_triangles.Goals as goal
 
 pub report-requires-clause-count : goal.report-requires-clause-count

@@ -3,7 +3,7 @@ use Rattle.std.specs.Prelude.{Option, Some, None, IfSome}
 use Rattle.iso_base.specs.Volume.{Volume}
 use Rattle.fan_laws.specs.Padded.{HasPadBelow}
 use Rattle.measure.specs.declared.share.Share.{Share}
-use Rattle.mesh_measures.specs.Printed.{HasNoBorder}
+use Rattle.part_laws.specs.Printed.{HasNoBorder}
 use Rattle.bench_core.specs.Machine.{IsAbovePad}
 use Rattle.bench_core.specs.Texts.{measure_of}
 use Rattle.bench_core.proofs.bench.Bench.measure.Goals as goal

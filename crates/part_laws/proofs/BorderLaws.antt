@@ -1,5 +1,5 @@
--- The measures of a list of triangles that is the mesh of a volume.
-use Rattle.std.proofs.Common.{◌≡◌, ℕ, List, [], ◌∷◌, map, length, refl, sym, subst, inl, inr, All, ℤ, is_some, Result, IfOk}
+-- The measures of the mesh of a volume: its parts without border.
+use Rattle.std.proofs.Common.{◌≡◌, ℕ, List, [], ◌∷◌, map, length, refl, sym, subst, inl, inr, All, ℤ, Result, IfOk}
 use Rattle.std.specs.List.{AllByRecursion}
 use Rattle.std.proofs.lemmas.Result.{IfOk-weaker}
 use Rattle.std.proofs.lemmas.List.Elements.{All-from_recursion}
@@ -21,21 +21,10 @@ use Rattle.fan_laws.specs.Padded.{HasPadBelow}
 use Rattle.mesh_report.specs.Report.{components}
 use Rattle.measure_laws.specs.Vectors.{Vector}
 use Rattle.measure.specs.declared.share.Share.{Share}
-use Rattle.measure.specs.Positions.{position}
 use Rattle.measure.specs.Measures.{HasNoArea, measures_of, share_of}
 use Rattle.measure.proofs.ClosedLaws.{no_border}
 use Rattle.measure.proofs.TheoremLaws.{areas_cancel, volumes_stay}
-use Rattle.mesh_measures.specs.Printed.{HasNoBorder, HasOneVolumeIn, measures_at, position_in, printed_positions}
-
-module _ {E : Type 0} (r : Result (List Share) E) (v : Volume) (level : ℤ) (n : ℕ) (ts : List Triangle) (at : List (List ℤ))
-    (count : n ≡ length (vertices v.grid (field v.samples level))) (list : ts ≡ triangles v.grid (field v.samples level))
-    (places : at ≡ printed_positions (is_some v.pad) (vertices v.grid (field v.samples level))) where
-  pub measured_is : IfOk r (λ m. m ≡ measures_of n ts (position at)) → IfOk r (λ m. m ≡ measures_at v level)
-  unfolding measures_at
-  measured_is h =
-      subst (λ ps. IfOk r (λ m. m ≡ measures_of (length (vertices v.grid (field v.samples level))) (triangles v.grid (field v.samples level)) (position ps))) places
-      (subst (λ us. IfOk r (λ m. m ≡ measures_of (length (vertices v.grid (field v.samples level))) us (position at))) list
-      (subst (λ k. IfOk r (λ m. m ≡ measures_of k ts (position at))) count h))
+use Rattle.part_laws.specs.Printed.{HasNoBorder, HasOneVolumeIn, measures_at, position_in}
 
 -- what holds of the measures holds of a result that is these
 pub of_measures : {E : Type 0} (r : Result (List Share) E) (measures : List Share) (P : List Share → Type 0) → P measures → IfOk r (λ m. m ≡ measures) → IfOk r P

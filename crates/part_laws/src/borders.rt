@@ -3,7 +3,7 @@
 ghost use Rattle.fan_laws.specs.Padded.{HasPadBelow};
 ghost use Rattle.iso_base.specs.Volume.{IsVolume, Volume};
 ghost use Rattle.measure.specs.Measures.{HasNoArea};
-ghost use Rattle.mesh_measures.specs.Printed.{HasNoBorder, HasOneVolumeIn, measures_at};
+ghost use Rattle.part_laws.specs.Printed.{HasNoBorder, HasOneVolumeIn, measures_at};
 ghost use Rattle.std.specs.Prelude.{All, ℤ};
 
 /// A part without border has no area, and its volume is the same from every point, since the mesh is a manifold. Where a

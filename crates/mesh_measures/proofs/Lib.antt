@@ -1,3 +1,0 @@
-pub mod PositionLaws
-pub mod Triangles
-pub mod MeshLaws

@@ -1,5 +1,0 @@
-use Rattle.mesh_measures.proofs.MeshLaws.{areas_are_none, borders_are_none, volumes_are_one}
-use Rattle.mesh_measures.proofs.laws.parts_without_border.Goals as goal
-
-pub returns : goal.returns
-returns c = record { areas = areas_are_none; volumes = volumes_are_one; closed = λ v level is pad. borders_are_none v level is pad }
