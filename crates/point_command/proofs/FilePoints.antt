@@ -2,7 +2,7 @@
 use Rattle.std.proofs.Common.{◌≡◌, ℕ, List, None, Ok, refl, ap, ◌∙◌, ℤ}
 use Rattle.iso_base.specs.Volume.{Voxels, unpadded}
 use Rattle.nrrd_read.specs.Nrrd.{nrrd_of}
-use Rattle.file_points.specs.Points.{text_of}
+use Rattle.point_command.specs.Texts.{text_of}
 use Rattle.command_terms.specs.Volumes.{text_by}
 use Rattle.command_terms.proofs.ReadVolumes.{read_volume}
 use Rattle.point_command.specs.Meaning.{points_given, points_of}

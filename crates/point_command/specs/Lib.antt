@@ -4,3 +4,6 @@ pub mod Help
 pub mod Words
 pub mod Running
 pub mod Promise
+pub mod Edges
+pub mod Rows
+pub mod Texts

@@ -3,7 +3,7 @@ use Rattle.std.specs.Prelude.{ℕ, List, None, Result, ℤ}
 use Rattle.iso_defs.specs.Texts.{points_text}
 use Rattle.iso_base.specs.Shifted.{field}
 use Rattle.iso_base.specs.Volume.{Volume}
-use Rattle.point_write.specs.Edges.{edge_points}
+use Rattle.point_command.specs.Edges.{edge_points}
 use Rattle.program.specs.declared.answer.VolumeFault.{VolumeFault}
 use Rattle.command_terms.specs.Volumes.{text_by, volume_of}
 

@@ -1,7 +1,7 @@
 -- The points of the volume in an input.
 use Rattle.std.specs.Prelude.{ℕ, List, ℤ, Result}
 use Rattle.byte_streams.specs.Seen.{Feed, Tape}
-use Rattle.file_points.specs.Points.{PutsPointsOf}
+use Rattle.point_command.specs.Texts.{PutsPointsOf}
 use Rattle.command_terms.specs.Inputs.{HasRead}
 use Rattle.command_terms.specs.Volumes.{volume_limit}
 

@@ -2,15 +2,15 @@
 
 ghost use Rattle.std.specs.Prelude.{◌≡◌, None, IfOk, IfErr};
 ghost use Rattle.byte_streams.specs.Seen.{ReadsWithin};
-ghost use Rattle.file_points.specs.Points.{PutsPointsOf};
+ghost use Rattle.point_command.specs.Texts.{PutsPointsOf};
 ghost use Rattle.point_command.specs.Meaning.{points_given};
 ghost use Rattle.point_command.specs.Points.{HoldsPoints};
 ghost use Rattle.command_terms.specs.Outcome.{Converts, streams_between};
 ghost use Rattle.command_terms.specs.Volumes.{HoldsNone, IsNoVolume, volume_limit};
 
+use crate::files::put_points_of_file;
 use byte_streams::{Failed, Sink, Source};
 use command_terms::{NoVolume, bytes_of_input};
-use file_points::put_points_of_file;
 use iso_base::Level;
 use program::Answer;
 use std::alloc::Global;

@@ -3,9 +3,13 @@
 #![tactic(auto)]
 
 mod crossings;
+mod files;
 mod help;
 mod run;
+mod texts;
 mod words;
 
 pub use crossings::points;
+pub use files::put_points_of_file;
 pub use run::run_points;
+pub use texts::put_points;

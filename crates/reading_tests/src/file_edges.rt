@@ -1,8 +1,8 @@
-//! Tests of `file_points`.
+//! Tests of the points of volume files, by `point_command`.
 
 use byte_streams::MemSink;
-use file_points::put_points_of_file;
 use iso_base::Level;
+use point_command::put_points_of_file;
 use std::alloc::Global;
 use std::process::Abort;
 use std::test::Fail;

@@ -1,4 +1,4 @@
-//! Tests of `list_mesh` and `point_write`.
+//! Tests of `list_mesh` and of the points of `point_command`.
 
 use crate::extraction::corner_volume;
 use byte_streams::MemSink;
@@ -6,7 +6,7 @@ use crossing_edges::EdgeRows;
 use iso_base::{Level, MeshFormat, Written};
 use list_mesh::ListMesh;
 use mesh_lines::{Origin, Style};
-use point_write::put_points;
+use point_command::put_points;
 use std::alloc::Global;
 use std::process::Abort;
 use std::test::Fail;

@@ -1,6 +1,6 @@
 use Rattle.std.proofs.Common.{Result, subst}
 use Rattle.byte_streams.specs.declared.Failed.{Failed}
-use Rattle.file_points.specs.Points.{text_of}
+use Rattle.point_command.specs.Texts.{text_of}
 use Rattle.point_command.specs.Points.{HoldsPoints}
 use Rattle.point_command.proofs.FilePoints.{gives_text}
 use Rattle.point_command.proofs.crossings.points.Goals as goal

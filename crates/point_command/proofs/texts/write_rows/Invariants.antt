@@ -3,9 +3,9 @@ use Rattle.byte_streams.specs.Seen.{Stages}
 use Rattle.byte_streams.specs.declared.Failed.{Failed}
 use Rattle.crossing_edges.specs.Leveled.{heights}
 use Rattle.crossing_edges.specs.Slices.{AreAtRow}
-use Rattle.point_write.specs.Edges.{lines_in}
-use Rattle.point_write.specs.Rows.{AreTextsOf}
-use Rattle.point_write.proofs.points.write_rows.Given as goal
+use Rattle.point_command.specs.Edges.{lines_in}
+use Rattle.point_command.specs.Rows.{AreTextsOf}
+use Rattle.point_command.proofs.texts.write_rows.Given as goal
 
 abbrev pub invariant-loop-number : goal.invariant-loop-number
 invariant-loop-number g l = record {

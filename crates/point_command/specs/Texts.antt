@@ -5,7 +5,7 @@ use Rattle.iso_base.specs.Shifted.{field}
 use Rattle.iso_base.specs.Volume.{Voxels}
 use Rattle.byte_streams.specs.Seen.{Puts, Tape}
 use Rattle.nrrd_read.specs.Nrrd.{nrrd_of}
-use Rattle.point_write.specs.Edges.{edge_points}
+use Rattle.point_command.specs.Edges.{edge_points}
 
 -- the text of the vertices on the crossing edges of a volume at a level
 abbrev pub text_of : Voxels → ℤ → List ℕ

@@ -3,13 +3,13 @@ ghost use Rattle.std.specs.Prelude.{◌≡◌, IfOk, IfErr};
 ghost use Rattle.byte_streams.specs.Seen.{Puts};
 ghost use Rattle.nrrd_read.specs.Files.{file_voxels};
 ghost use Rattle.nrrd_read.specs.Nrrd.{Fails, nrrd_of};
-ghost use Rattle.file_points.specs.Points.{PutsPointsOf, text_of};
+ghost use Rattle.point_command.specs.Texts.{PutsPointsOf, text_of};
 
+use crate::texts::put_points;
 use byte_streams::{Failed, Sink};
 use crossing_edges::EdgeRows;
 use iso_base::{Level, Memory};
 use nrrd_read::{FileVolume, NrrdFault, RawVolume, read_file_volume};
-use point_write::put_points;
 use raw_samples::with_samples;
 use samples::Samples;
 use std::alloc::Global;

@@ -11,7 +11,7 @@ use Rattle.mesh_lines.specs.RowLines.{RowPlace, edge_at}
 use Rattle.mesh_lines.specs.declared.style.Origin.TheVariants.{Volume}
 use Rattle.mesh_lines.specs.declared.style.Style.{Style}
 use Rattle.iso_base.specs.declared.format.MeshFormat.TheVariants.{Ply}
-use Rattle.point_write.specs.Edges.{lines_in, row_line, row_lines}
+use Rattle.point_command.specs.Edges.{lines_in, row_line, row_lines}
 
 three : (a b c d e f : ℕ) → a ≡ d → b ≡ e → c ≡ f → ◌≡◌ {A = Position} (a, b, c) (d, e, f)
 three a b c d e f p q r = rw (p, q, r) refl

@@ -1,7 +1,7 @@
 use Rattle.std.proofs.lemmas.Result.{err_from_is_err_and}
 use Rattle.byte_streams.proofs.Staging.{stages_first}
-use Rattle.point_write.proofs.Waiting.{line_behind}
-use Rattle.point_write.proofs.points.write_edge.Goals as goal
+use Rattle.point_command.proofs.Waiting.{line_behind}
+use Rattle.point_command.proofs.texts.write_edge.Goals as goal
 
 pub returns-in_err-reserve : goal.returns-in_err-reserve
 returns-in_err-reserve g c =

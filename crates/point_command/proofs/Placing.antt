@@ -4,7 +4,7 @@ use Rattle.std.proofs.lemmas.List.{drop_more, drop_all}
 use Rattle.byte_streams.specs.Seen.{Tape, Stages}
 use Rattle.byte_streams.proofs.Staging.{HasStaged, staged_front, staged_more, staged_whole}
 use Rattle.mesh_lines.specs.RowLines.{RowPlace}
-use Rattle.point_write.specs.Edges.{row_line, row_lines}
+use Rattle.point_command.specs.Edges.{row_line, row_lines}
 
 module _ (row : RowPlace) (edges places : List ℕ) (same : length places ≡ length edges) where
   abbrev rest_of : ℕ → List ℕ

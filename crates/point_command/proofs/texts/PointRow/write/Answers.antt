@@ -6,9 +6,9 @@ use Rattle.byte_streams.proofs.Staging.{nothing_staged}
 use Rattle.crossing_edges.specs.Leveled.{heights}
 use Rattle.crossing_edges.proofs.OffsetEdges.{offset_at, offsets_low}
 use Rattle.mesh_lines.specs.RowLines.{RowPlace}
-use Rattle.point_write.proofs.Crossings.{lines_none, places_low}
-use Rattle.point_write.proofs.RowPoints.{lines_are}
-use Rattle.point_write.proofs.points.PointRow.write.Goals as goal
+use Rattle.point_command.proofs.PointLines.{lines_none, places_low}
+use Rattle.point_command.proofs.RowPoints.{lines_are}
+use Rattle.point_command.proofs.texts.PointRow.write.Goals as goal
 
 pub returns-then-count-eq0-clause-lines : goal.returns-then-count-eq0-clause-lines
 returns-then-count-eq0-clause-lines g c =

@@ -1,7 +1,7 @@
 use Rattle.std.proofs.lemmas.Result.{err_from_is_err_and}
 use Rattle.byte_streams.proofs.Staging.{staged_first}
-use Rattle.point_write.proofs.Placing.{edge_failed, edge_staged, edges_staged}
-use Rattle.point_write.proofs.points.write_edges.Goals as goal
+use Rattle.point_command.proofs.Placing.{edge_failed, edge_staged, edges_staged}
+use Rattle.point_command.proofs.texts.write_edges.Goals as goal
 
 pub loop-k-init : goal.loop-k-init
 loop-k-init g c = record { staged = staged_first _ _ _ }

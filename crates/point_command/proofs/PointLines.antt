@@ -17,8 +17,8 @@ use Rattle.byte_streams.proofs.Staging.{stages_both, stages_first, stages_not_pu
 use Rattle.mesh_text.specs.Lines.{points_head}
 use Rattle.crossing_edges.specs.Flags.{edge_place, names_in, places_in}
 use Rattle.crossing_edges.proofs.Counting.{names_all, names_empty, names_more}
-use Rattle.point_write.specs.Edges.{edge_points, lines_in}
-use Rattle.point_write.proofs.Waiting.{line_kept}
+use Rattle.point_command.specs.Edges.{edge_points, lines_in}
+use Rattle.point_command.proofs.Waiting.{line_kept}
 
 -- a place is at most 1,000
 rounded : (a d : ℕ) → a ≤ d → (2000 * a + d) / (2 * d) ≤ 1000

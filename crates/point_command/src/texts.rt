@@ -9,8 +9,8 @@ ghost use Rattle.byte_streams.specs.Seen.{Puts, Stages};
 ghost use Rattle.crossing_edges.specs.Flags.{flags_from};
 ghost use Rattle.crossing_edges.specs.Leveled.{heights};
 ghost use Rattle.crossing_edges.specs.Slices.{HaveSlices};
-ghost use Rattle.point_write.specs.Edges.{edge_points, lines_in, row_line, row_lines};
-ghost use Rattle.point_write.specs.Rows.{AreTextsOf};
+ghost use Rattle.point_command.specs.Edges.{edge_points, lines_in, row_line, row_lines};
+ghost use Rattle.point_command.specs.Rows.{AreTextsOf};
 
 use byte_streams::{Failed, Sink};
 use crossing_edges::{EdgeRows, RowEdges, SliceSigns};

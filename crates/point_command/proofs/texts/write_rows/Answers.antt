@@ -7,8 +7,8 @@ use Rattle.byte_streams.specs.declared.Failed.{Failed}
 use Rattle.byte_streams.proofs.Staging.{nothing_staged}
 use Rattle.crossing_edges.specs.Leveled.{heights}
 use Rattle.mesh_lines.specs.RowLines.{RowPlace}
-use Rattle.point_write.proofs.Crossings.{no_rows, row_failed, row_staged}
-use Rattle.point_write.proofs.points.write_rows.Goals as goal
+use Rattle.point_command.proofs.PointLines.{no_rows, row_failed, row_staged}
+use Rattle.point_command.proofs.texts.write_rows.Goals as goal
 
 pub loop-number-init : goal.loop-number-init
 loop-number-init g c =

@@ -1,7 +1,7 @@
 use Rattle.std.proofs.Common.{◌++◌, drop}
 use Rattle.byte_streams.proofs.Staging.{HasStaged}
-use Rattle.point_write.specs.Edges.{row_lines}
-use Rattle.point_write.proofs.points.write_edges.Given as goal
+use Rattle.point_command.specs.Edges.{row_lines}
+use Rattle.point_command.proofs.texts.write_edges.Given as goal
 
 abbrev pub invariant-loop-k : goal.invariant-loop-k
 invariant-loop-k g l = record {

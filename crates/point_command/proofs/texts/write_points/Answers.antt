@@ -3,8 +3,8 @@ use Rattle.std.proofs.lemmas.Result.{err_from_is_err_and}
 use Rattle.crossing_edges.specs.Leveled.{heights}
 use Rattle.mesh_lines.specs.Blocks.{Gathered}
 use Rattle.mesh_text.specs.Lines.{points_head}
-use Rattle.point_write.proofs.Crossings.{points_are, text_not_put, text_put}
-use Rattle.point_write.proofs.points.write_points.Goals as goal
+use Rattle.point_command.proofs.PointLines.{points_are, text_not_put, text_put}
+use Rattle.point_command.proofs.texts.write_points.Goals as goal
 
 pub returns-in_err-write_rows : goal.returns-in_err-write_rows
 returns-in_err-write_rows g c =

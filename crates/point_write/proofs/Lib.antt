@@ -1,4 +1,0 @@
-pub mod Crossings
-pub mod Placing
-pub mod RowPoints
-pub mod Waiting
