@@ -30,10 +30,10 @@ class Refused(Exception):
 class Session:
     """A running session. One line is asked at a time, and its whole reply is read before the next one is sent."""
 
-    def __init__(self, program, volume, *options, folder=None):
+    def __init__(self, program, volume, *options, folder=None, pass_fds=()):
         words = [program, "session", *options, volume]
         pipes = {"stdin": subprocess.PIPE, "stdout": subprocess.PIPE, "stderr": subprocess.PIPE}
-        self.process = subprocess.Popen(words, bufsize=0, cwd=folder, **pipes)
+        self.process = subprocess.Popen(words, bufsize=0, cwd=folder, pass_fds=pass_fds, **pipes)
         self.replies = io.BufferedReader(self.process.stdout)
 
     def ask(self, line):

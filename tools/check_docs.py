@@ -15,7 +15,8 @@ or with that which a comment tells. Above a block may stand, as a comment of the
     <!-- not run: WHY -->        it is never run here
 
 Each `teem-unu` command in the table of refused files of using.md is run on a file that is refused with the message of its row,
-and must make a file that is read. Tools that are missing are listed at the end, with the packages of tools/packages.txt.
+and must make a file that is read. In the table of cli.md of what was typed, what stands left must be refused as bad words, and
+what stands right must work. Tools that are missing are listed at the end, with the packages of tools/packages.txt.
 
 Then each link of a page, or of the README.md of a crate, to a file of this repository, with its place in it, is looked up; and
 so is what guarantees.md names:
@@ -39,6 +40,7 @@ FENCE = re.compile(r"^```(\w*)$")
 MARK = re.compile(r"^<!-- (needs|status|not run:) (.*) -->$")
 PACKAGES = dict(line.split() for line in (TOP / "tools" / "packages.txt").read_text(encoding="utf-8").splitlines() if line[0] != "#")
 REFUSED = re.compile(r"^\|(?: `(volume \d+)[^`]*`)?[^|]*\|[^|]*\| (.*`teem-unu .*)", re.MULTILINE)
+TYPED = re.compile(r"^\| you typed \| type \|\n\|---\|---\|\n((?:\|.*\n)+)", re.MULTILINE)
 REMEDY = re.compile(r"`(teem-unu [^`]* -i in\.nrrd [^`]*)`")
 LINK = re.compile(r"\]\(([^)\s]+)\)")
 CALL = re.compile(r"`([a-z_]+)((?:::\w+)+)`")
@@ -172,12 +174,42 @@ def helps(folder, message, command):
     read = "isobench points --level=0.5 < {} > points.ply"
     steps = [(read.format("in.nrrd"), 3), (command, 0), (read.format("out.nrrd"), 0)]
     for step, status in steps:
-        ran = subprocess.run(["bash", "-o", "pipefail", "-c", step], cwd=folder, env=environment(folder), stdin=subprocess.DEVNULL,
-                             capture_output=True, text=True, timeout=60)
+        ran = shell(folder, step)
         if ran.returncode != status or status and f"isobench: {message} " not in ran.stderr:
             print(f"docs/using.md: {message}: `{step}` ends with {ran.returncode}: {ran.stderr.strip()}")
             return False
     return True
+
+
+def run_typed(page):
+    """How many commands of the table of what was typed end otherwise than it says."""
+    if not PROGRAM.exists():
+        return 0
+    wrong = 0
+    for row in TYPED.search(page.read_text(encoding="utf-8"))[1].splitlines():
+        refused, helpful = (re.findall(r"`([^`]+)`", cell) for cell in row.strip("|").split(" | "))
+        with tempfile.TemporaryDirectory() as room:
+            shutil.copyfile(TOP / "examples" / "corner.nrrd", f"{room}/{'My Scan' if 'My Scan' in row else 'scan'}.nrrd")
+            wrong += 0 if shell(room, "isobench extract --level=5 < *.nrrd > mesh.ply").returncode == 0 else 1
+            for command, status in [*((it, 2) for it in refused), *((it, 0) for it in helpful)]:
+                ended = shell(room, completed(command)).returncode
+                if ended != status:
+                    wrong += 1
+                    print(f"{page.relative_to(TOP)}: `{completed(command)}` ends with {ended}")
+    return wrong
+
+
+def completed(command):
+    """A command of that table with what is left out there: the program's name, and for an option alone the command."""
+    command = command.replace("=V", "=5")
+    if command.startswith("-"):
+        return f"isobench extract {command} < scan.nrrd"
+    return command if command.startswith(("isobench ", "ln ")) else f"isobench {command}"
+
+
+def shell(folder, command):
+    return subprocess.run(["bash", "-o", "pipefail", "-c", command], cwd=folder, env=environment(folder), stdin=subprocess.DEVNULL,
+                          capture_output=True, text=True, timeout=60)
 
 
 def is_shown(printed, shown):
@@ -285,7 +317,7 @@ def main():
         print(f"docs/guarantees.md: {lost}")
     if words == ["--list"]:
         sys.exit(1 if wrong else 0)
-    wrong += run_rows(TOP / "docs" / "using.md")
+    wrong += run_rows(TOP / "docs" / "using.md") + run_typed(TOP / "docs" / "cli.md")
     if not PROGRAM.exists():
         print("crates/isobench/out/isobench is not built")
     if missing:

@@ -5,6 +5,7 @@
 
 PROGRAM is a built isobench, without it the one of this checkout. Ends with 1 where a test fails.
 """
+import os
 import pathlib
 import shutil
 import subprocess
@@ -31,8 +32,8 @@ class Sessions(unittest.TestCase):
         self.folder = pathlib.Path(room.name)
         shutil.copy(EXAMPLES / "ties.nrrd", self.folder)
 
-    def opened(self, *options):
-        return session.Session(PROGRAM, "ties.nrrd", *options, folder=self.folder)
+    def opened(self, *options, **more):
+        return session.Session(PROGRAM, "ties.nrrd", *options, folder=self.folder, **more)
 
     def test_an_edited_mesh_is_a_fresh_extraction(self):
         with self.opened("--level=4.5", "--pad=0") as opened:
@@ -47,6 +48,14 @@ class Sessions(unittest.TestCase):
             self.assertEqual((len(lines), lines[0].split()[0], rest), (2, "mesh", ""))
             self.assertEqual(opened.ask("contour 2")[0][0].split()[0], "cycle")
             self.assertEqual(opened.ask("ply a.ply")[1].split()[0], "vertices")
+
+    def test_a_file_that_the_client_passes_on(self):
+        with open(os.memfd_create("mesh"), "r+b") as file, self.opened("--level=4.5", pass_fds=[file.fileno()]) as opened:
+            for level in ("3", "4.5"):
+                opened.ask(f"level {level}")
+                opened.ask(f"ply /dev/fd/{file.fileno()}")
+                file.seek(0)
+                self.assertEqual(file.read(), extracted(level, EXAMPLES / "ties.nrrd"))
 
     def test_a_refused_line_changes_nothing(self):
         with self.opened("--level=4.5") as opened:
