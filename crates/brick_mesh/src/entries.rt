@@ -200,7 +200,7 @@ fn add_planes<T: Packed, L: Ledger>(
     }
 }
 
-/// The same, in whichever width the brick is kept.
+/// Puts the entries of a brick into an empty list, in whichever width its samples are packed.
 fn add_entries<L: Ledger>(
     block: &Block<'_>,
     rows: &PairRows,
@@ -319,7 +319,7 @@ fn put_row<T: Packed, L: Ledger>(
     }
 }
 
-/// The same, in whichever width the brick is kept.
+/// Replaces the rows by the numbers of the cases of a row of cells, in whichever width the brick's samples are packed.
 fn put_cases<L: Ledger>(
     block: &Block<'_>,
     y: u8,

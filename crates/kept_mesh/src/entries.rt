@@ -7,7 +7,7 @@ ghost use Rattle.kept_mesh.specs.Kept.{last_case};
 
 use page_pool::Entries;
 
-/// So many cells has a brick at most.
+/// The most cells of a brick.
 pub const CELLS: usize = 512;
 
 /// Planes across z of the cells of a brick: from one to before another.

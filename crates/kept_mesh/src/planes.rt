@@ -18,19 +18,19 @@ use iso_base::Level;
 use page_pool::Entries;
 use stitch_rows::count_along;
 
-/// So many bricks have a place for their cases: all of a layer in a volume of 128 points along x and y. The place of a
+/// The bricks that have a place for their cases: all of a slice of bricks in a volume of 128 points along x and y. The place of a
 /// brick is found without a division.
 pub const PLACES: u32 = 256;
 
-/// Several planes of a brick are held at once where a layer has at most so many bricks. Where there are more, a brick has
-/// lost its place before its next plane is asked for. Of the 289 of a volume of 130 points, which is one of 128 in a pad,
+/// The most bricks of a slice with which several slices of a brick's cells are held at once. Where there are more, a brick has
+/// lost its place before its next slice is asked for. Of the 289 of a volume of 130 points, which is one of 128 in a pad,
 /// most have a place of their own.
 const MOST: u32 = 320;
 
-/// So many planes of a brick are held at most, half of them: more take more room than they save time.
+/// The most slices of a brick's cells that are held, half of them: more take more room than they save time.
 const GROUP: u8 = 4;
 
-/// So many cells have these planes.
+/// The cells of these slices.
 const HELD: usize = 64 * GROUP as usize;
 
 /// The case numbers of the cells of a kept brick in some planes across z, 0 of those without a crossing edge: which

@@ -60,7 +60,7 @@ fn hold_anew(
     }
 }
 
-/// The same, unless this plane is there already.
+/// Puts slices of a brick, this one among them, in the brick's place, unless it is there already; says whether it is there then.
 #[inline(always)]
 fn hold(
     store: &BrickStore,

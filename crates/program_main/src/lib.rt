@@ -1,4 +1,4 @@
-//! What stands round a program: its words, the standard streams and its exit status.
+//! What stands around a program: its words, the standard streams and its exit status.
 #![tactic(auto)]
 
 mod program;

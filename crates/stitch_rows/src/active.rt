@@ -10,7 +10,7 @@ ghost use Rattle.mesh_rows.specs.Rows.{IsStill};
 use crate::bricks::{BrickRow, count_along};
 use crate::field::Field;
 
-/// The most bricks of a layer.
+/// The most bricks of a slice.
 const LAYER: usize = 16_641;
 
 /// Which bricks are active of a layer of bricks, from the one numbered `first` on: those that hold points of one slice. For each of them
