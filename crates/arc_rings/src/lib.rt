@@ -1,4 +1,4 @@
-//! The arcs round each vertex of a list of triangles, for those who look at a mesh vertex by vertex.
+//! The arcs around each vertex of a list of triangles, for those who look at a mesh vertex by vertex.
 #![tactic(auto)]
 
 mod rings;

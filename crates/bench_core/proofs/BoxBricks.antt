@@ -89,7 +89,7 @@ module _ (g : Grid) (a : Area) where
     row_without : (reaches_into (8 * y) a.low.y a.high.y && reaches_into (8 * z) a.low.z a.high.z) ≡ false → held (brick_at g 0 y z) (bricks_along g 0) ≡ []
     row_without none = filter_none (holds_some g a) (brick_at g 0 y z) (bricks_along g 0) (λ k h. holds_at k h ∙ rw none (never (reaches_into (8 * k) a.low.x a.high.x)))
 
-  -- the first rows of a layer, so many
+  -- the first rows of a slice, so many
   abbrev pub rows_held : ℕ → ℕ → List ℕ
   rows_held z n = held (brick_at g 0 0 z) (bricks_along g 0 * n)
 
@@ -123,7 +123,7 @@ module _ (g : Grid) (a : Area) where
       none : (m : ℕ) → m * 0 ≡ 0
       none m = omega arith
 
-  -- a layer that is reached
+  -- a slice that is reached
   module _ (z : ℕ) (z_low : z < bricks_along g 2) (rz : reaches_into (8 * z) a.low.z a.high.z ≡ true) (first end : ℕ) (is : IsReach g.ny a.low.y a.high.y first end) where
     pub rows_begun : rows_held z first ≡ []
     rows_begun =
@@ -147,7 +147,7 @@ module _ (g : Grid) (a : Area) where
         sym (ap (rows_held z) whole
         ∙ rows_still z end (bricks_along g 1 - end) z_low (omega arith) (λ i h k. rw (not_after g.ny a.low.y a.high.y first end is i h (omega arith)) refl))
 
-  -- the first layers, so many
+  -- the first slices, so many
   abbrev pub layers_held : ℕ → List ℕ
   layers_held n = held 0 (bricks_along g 0 * bricks_along g 1 * n)
 

@@ -57,7 +57,7 @@ holds_some g a brick =
 unfoldable pub bricks_of : Grid → Area → List ℕ
 bricks_of g a = filter (holds_some g a) (below (brick_count g))
 
--- those of a layer of bricks across z
+-- those of a slice of bricks
 abbrev pub layer_held : Grid → Area → ℕ → List ℕ
 layer_held g a z = filter (holds_some g a) (range_with_len (brick_at g 0 0 z) (bricks_along g 0 * bricks_along g 1))
 

@@ -95,7 +95,7 @@ impl Bench {
         Bench::begin_over(alloc, store, level, capacity)
     }
 
-    /// The same for a volume that is in bricks already.
+    /// Opens a workbench on a volume that is in bricks already.
     pub fn begin_over(
         alloc: Global,
         store: BrickStore,

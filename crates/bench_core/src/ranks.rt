@@ -9,7 +9,7 @@ use edge_points::RowRanks;
 use iso_base::{Memory, Sizes};
 use std::alloc::Global;
 
-/// For so many numbers there is room for the lists of rows that a write keeps: all those of a volume of 128 points along each axis, unless
+/// The numbers that the lists of rows which a write keeps have room for: all those of a volume of 128 points along each axis, unless
 /// it is noisy. A page of this memory is first touched when lists are put there.
 const ROOM: usize = 2_097_152;
 

@@ -180,7 +180,7 @@ pub fn dot_bench(alloc: Global) -> Option<Bench> {
     begin(alloc, volume_of(alloc, DOT.as_bytes())?, 5_000, capacity()?)
 }
 
-/// The same with the pad 0 round it.
+/// The same with the pad 0 around it.
 pub fn padded_bench(alloc: Global) -> Option<Bench> {
     let volume = volume_of(alloc, DOT.as_bytes())?.padded(alloc, 0).ok()?;
     begin(alloc, volume, 5_000, capacity()?)

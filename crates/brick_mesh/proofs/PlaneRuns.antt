@@ -1,4 +1,4 @@
--- The sign bytes of a plane of cells of a brick, and the runs of entries up to a cell of it.
+-- The sign bytes of a slice of cells of a brick, and the runs of entries up to a cell of it.
 use Rattle.std.proofs.Common.{◌≡◌, ◌∙◌, ℕ, ◌+◌, ◌-◌, ◌*◌, ◌<◌, ◌≤◌, ◌++◌, ◌==◌, ◌&&◌, ◌||◌, Bool, true, false, not, cond, List, [], get_or, sym, ap, ap₂, subst, refl, inl, inr, arith, append-nil}
 use Rattle.std.proofs.lemmas.Bool.{cases_Bool, cases_lt}
 use Rattle.iso_defs.specs.Bricks.{bits_of, brick_cell, has_cell, is_mixed}

@@ -112,7 +112,7 @@ fn put_bytes(row: &[u8; 8], start: usize, bytes: &mut [u8; 64])
     bytes[start..start + 8].copy_from_slice(row);
 }
 
-/// The sign bytes of a plane of cells across z, from the rows of signs.
+/// The sign bytes of a slice of cells, from the rows of signs.
 #[inline(always)]
 fn bytes_of_plane(block: &Block<'_>, rows: &PairRows, z: u8) -> [u8; 64]
     requires z { z < 8 }
@@ -150,7 +150,7 @@ fn add_there<T: Packed, L: Ledger>(
     }
 }
 
-/// Puts the entries of a plane of cells across z behind those of the planes before it. The cells are gone through by the bits of
+/// Puts the entries of a slice of cells behind those of the slices before it. The cells are gone through by the bits of
 /// a mask, since a processor cannot foresee which of them have a crossing edge.
 fn add_plane<T: Packed, L: Ledger>(
     block: &Block<'_>,
@@ -200,7 +200,7 @@ fn add_planes<T: Packed, L: Ledger>(
     }
 }
 
-/// The same, in whichever width the brick is kept.
+/// Puts the entries of a brick into an empty list, in whichever width its samples are packed.
 fn add_entries<L: Ledger>(
     block: &Block<'_>,
     rows: &PairRows,
@@ -319,7 +319,7 @@ fn put_row<T: Packed, L: Ledger>(
     }
 }
 
-/// The same, in whichever width the brick is kept.
+/// Replaces the rows by the numbers of the cases of a row of cells, in whichever width the brick's samples are packed.
 fn put_cases<L: Ledger>(
     block: &Block<'_>,
     y: u8,

@@ -42,7 +42,7 @@ both_put brick whole s first second both old mid new low split left right one tw
       two.others b x y z hx hy hz (λ o. not (o.0, right x y z o.1)) ∙ one.others b x y z hx hy hz (λ o. not (o.0, left x y z o.1));
 }
 
--- one row of a layer more
+-- one row of a slice more
 pub row_more : (brick : ℕ) (p : Part) (s : Source) (z0 k : ℕ) (old mid new : List ℤ) → IsPart p → z0 < p.z_end → p.y ≤ k → k < p.y_end
     → AreRowsPut brick p s (record (one_layer p z0) { y_end = k }) old mid → AreRowsPut brick p s (one_row p k z0) mid new
     → AreRowsPut brick p s (record (one_layer p z0) { y_end = k + 1 }) old new
@@ -60,7 +60,7 @@ row_more brick p s z0 k old mid new is hz le low one two =
     (λ x y z w. record { x_from = w.x_from; x_end = w.x_end; y_from = omega (arith, w.y_from, le); y_end = w.y_end; z_from = w.z_from; z_end = w.z_end })
     one two
 
--- one layer of a part more
+-- one slice of a part more
 pub layer_more : (brick : ℕ) (p : Part) (s : Source) (k : ℕ) (old mid new : List ℤ) → IsPart p → p.z ≤ k → k < p.z_end
     → AreRowsPut brick p s (record p { z_end = k }) old mid → AreRowsPut brick p s (one_layer p k) mid new
     → AreRowsPut brick p s (record p { z_end = k + 1 }) old new
@@ -78,7 +78,7 @@ layer_more brick p s k old mid new is le low one two =
     (λ x y z w. record { x_from = w.x_from; x_end = w.x_end; y_from = w.y_from; y_end = w.y_end; z_from = omega (arith, w.z_from, le); z_end = w.z_end })
     one two
 
--- no row and no layer
+-- no row and no slice
 pub no_row : (brick : ℕ) (p : Part) (s : Source) (z0 : ℕ) (old : List ℤ) → AreRowsPut brick p s (record (one_layer p z0) { y_end = p.y }) old old
 no_row brick p s z0 old = none_put brick p s (record (one_layer p z0) { y_end = p.y }) old (λ x y z w. absurd (omega (arith, w.y_from, w.y_end)))
 
@@ -173,7 +173,7 @@ module _ (p : Part) (s : Source) (value : ℤ) (is : IsPart p) (nine : s.values.
       ap (λ l. sample l (row_place p s y z + (x - p.x))) nine
       ∙ get_or-replicate 9 (row_place p s y z + (x - p.x)) value (pos 0) (omega (arith, first_row y z, w.x_end, w.x_from, is.x_most))
 
--- how wide a box is, and how many points a layer of it has, as they are computed
+-- how wide a box is, and how many points a slice of it has, as they are computed
 pub widths_are : (a : Area) (low high : Point) → low ≡ a.low → high ≡ a.high
     → (high.x - low.x + 1 ≡ a.high.x - a.low.x + 1)
     × ((high.x - low.x + 1) * (high.y - low.y + 1) ≡ (a.high.x - a.low.x + 1) * (a.high.y - a.low.y + 1))

@@ -105,7 +105,7 @@ pub record IsPartOf (g : Grid) (a : Area) (b : ℕ) (p : Part) : Type 0 where
   pub each : (x y z : ℕ) → p.x ≤ x → x < p.x_end → p.y ≤ y → y < p.y_end → p.z ≤ z → z < p.z_end → IsOfBox g a b x y z
   pub all : (x y z : ℕ) → x < 9 → y < 9 → z < 9 → IsOfBox g a b x y z → IsWithin p x y z
 
--- one layer of a part across z, and one row
+-- one slice of a part, and one row
 abbrev pub one_layer : Part → ℕ → Part
 one_layer p z = record p { z = z; z_end = z + 1 }
 
@@ -145,7 +145,7 @@ box_line g a y z = record {
   z_end = z + 1;
 }
 
--- those of a layer across z
+-- those of a slice
 abbrev pub box_layer : Grid → Area → ℕ → Zone
 box_layer g a z = record {
   x = home a.low.x;

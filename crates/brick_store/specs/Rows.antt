@@ -56,7 +56,7 @@ line_zone g p count y z = record {
   z_end = z + 1;
 }
 
--- those of a layer across z
+-- those of a slice
 abbrev pub layer_zone : Grid → Point → ℕ → ℕ → Zone
 layer_zone g p count z =
     record {

@@ -135,7 +135,7 @@ fn write_row<C: PackedList>(
     copies.put(start, source.values, from, count);
 }
 
-/// Writes the rows of a layer of a part across z.
+/// Writes the rows of a slice of a part.
 fn write_rows<C: PackedList>(copies: &mut C, brick: BrickId, part: &Part, source: Source, z: u32)
     requires few { brick.0 < 2 ^ 22 }
     requires room { 729 * brick.0 + 729 ≤ length (C.list copies.old) }
@@ -294,7 +294,7 @@ fn write_line<C: PackedList>(
     }
 }
 
-/// Writes the copies of the points of a box in the bricks of a layer across z.
+/// Writes the copies of the points of a box in the bricks of a slice.
 fn write_layer<C: PackedList>(sizes: &Sizes, copies: &mut C, area: &FillBox, values: Values, z: u32)
     requires count { length (C.list copies.old) ≡ 729 * brick_count sizes.now }
     requires high { IsPoint sizes.now area.now.high }

@@ -134,7 +134,7 @@ fn put_run(from: u32, end: u32, held: &mut ArrayVec<BrickId, 8>)
     }
 }
 
-/// Puts the bricks of a layer across z that hold a point behind those of the layers before it.
+/// Puts the bricks of a slice that hold a point behind those of the slices before it.
 #[tactic(auto, using(crate::proofs::Reaching::layer_begun))]
 fn put_layer(sizes: &Sizes, p: Point, z: u32, held: &mut ArrayVec<BrickId, 8>)
     requires point { IsPoint sizes.now p }

@@ -76,7 +76,7 @@ fn write_line<C: PackedList>(
     }
 }
 
-/// Writes the copies of a row in the bricks of a layer across z.
+/// Writes the copies of a row in the bricks of a slice.
 fn write_layer<C: PackedList>(sizes: &Sizes, copies: &mut C, z: u32, p: Point, values: &[i64])
     requires count { length (C.list copies.old) ≡ 729 * brick_count sizes.now }
     requires point { IsPoint sizes.now p }

@@ -89,7 +89,7 @@ fn no_cell_with_a_crossing_edge(rt: HostRuntime) {
 }
 
 /// A cell with two corners above, across a face, has two loops of three edges where the face holds them apart, and one loop of
-/// six, round a centre, where it joins them.
+/// six, around a centre, where it joins them.
 #[test]
 fn entries_are_counted(rt: HostRuntime) {
     let apart = count_entries(&[10]);

@@ -62,7 +62,7 @@ impl From<AllocError> for ReadFault {
     }
 }
 
-/// So many bytes are asked for at a time.
+/// The bytes that are asked for at a time.
 const CHUNK: usize = 65_536;
 
 // Apart, so that callers see the length alone.

@@ -7,7 +7,7 @@ use crate::Failed;
 use crate::sink::{Sink, write_all_of};
 use arrayvec::ArrayString;
 
-/// So many bytes are written at once: a write of the system costs as much as thousands of bytes.
+/// The bytes that are written at once: a write of the system costs as much as thousands of bytes.
 const BLOCK: usize = 32_768;
 
 /// Puts bytes behind those that wait; false, with nothing changed, where memory is wanted for it.

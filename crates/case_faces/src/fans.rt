@@ -10,10 +10,10 @@ ghost use Rattle.cell_loops.specs.Loops.{row_centres};
 
 use case_table::CaseRow;
 
-/// So many sets of edges there are.
+/// The number of sets of edges.
 const FANS: usize = 115;
 
-/// For each of them 32 weights, by which the places on the edges round a cell are summed up: eight for each of the four rows of
+/// For each of them 32 weights, by which the places on the edges around a cell are summed up: eight for each of the four rows of
 /// points. Behind them stand the sums of where the edges begin along the three axes, four times 0, and how many edges there are.
 static NUMBERS: [[u16; 40]; FANS] = [
     [

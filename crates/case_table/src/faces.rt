@@ -73,7 +73,7 @@ fn are_short(values: &[i64; 8]) -> bool
     size < 1 << 31
 }
 
-/// An answer, or the other one where it is turned round.
+/// An answer, or the other one where it is reversed.
 #[inline(always)]
 fn turn_round(answer: bool, is_turned: bool) -> bool
     ensures { result ≡ (if is_turned then not answer else answer) }
@@ -92,7 +92,7 @@ fn short_digit(cycle: [i64; 4]) -> u8
 {
     let even = cycle[0] * cycle[2];
     let odd = cycle[1] * cycle[3];
-    // The first value turns the comparison round; equal products join the face either way.
+    // The first value reverses the comparison; equal products join the face either way.
     let (is_less, is_more) = (odd <= even, even <= odd);
     u8::from(turn_round(is_less, cycle[0] < 0) | (is_less & is_more))
 }
@@ -119,7 +119,7 @@ fn joined_long(values: &[i64; 8], faces: u8) -> u8
     d0 + 2 * (d1 + 2 * (d2 + 2 * (d3 + 2 * (d4 + 2 * d5))))
 }
 
-/// The same where the values are short: each face is decided, without a branch, and those that are not ambiguous are left out.
+/// The joined faces of short values: each face is decided, without a branch, and those that are not ambiguous are left out.
 #[inline(always)]
 fn joined_short(values: &[i64; 8], faces: u8) -> u8
     requires known { bits_of 6 faces ≡ ambiguous_flags (signs_of values.now) }

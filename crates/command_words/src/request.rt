@@ -4,7 +4,7 @@ use iso_base::{Level, Sizes};
 use mesh_text::TwoWayFormat;
 use script::FileName;
 
-/// What the program is asked to do. A level is in thousandths; a pad is a sample that is put round the volume.
+/// What the program is asked to do. A level is in thousandths; a pad is a sample that is put around the volume.
 #[derive(Drop)]
 pub enum Request {
     /// The points at which the surface crosses lattice edges.

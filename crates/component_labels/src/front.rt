@@ -1,4 +1,4 @@
-//! The labels of the lattice edges round the row of cells at hand.
+//! The labels of the lattice edges around the row of cells at hand.
 
 ghost use Rattle.std.specs.Prelude.{◌≡◌, ◌≢◌, ◌⊎◌, ℕ, ◌+◌, ◌*◌, ◌%◌, ◌<◌, ◌≤◌, All, IfOk, length, slice_index, slice_set};
 ghost use Rattle.std.specs.Int.{bit_at};

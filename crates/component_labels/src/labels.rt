@@ -13,8 +13,7 @@ use iso_base::{Memory, Sizes};
 use std::alloc::Global;
 use std::marker::Model;
 
-/// Where so many pairs or labels are there, no more are made, since the place of each is a number of 32 bits. It takes 30 gigabytes to come
-/// there.
+/// The most pairs or labels that are made, since the place of each is a number of 32 bits. That many take 30 gigabytes.
 const MOST: usize = 4_294_967_292;
 
 /// Labels of loops, and the pairs of them that met, each in both orders. For each label the lesser one is kept that it was noted with last, so

@@ -34,7 +34,7 @@ pub fn x_in_cell(edge: u8, place: u16) -> u32
     X[edge as usize] + ALONG_X[edge as usize] * u32::from(place)
 }
 
-/// The same along y.
+/// Where the crossing of an edge of a cell is along y, as `x_in_cell` says it along x.
 #[inline(always)]
 pub fn y_in_cell(edge: u8, place: u16) -> u32
     requires edge { edge < 12 }
@@ -45,7 +45,7 @@ pub fn y_in_cell(edge: u8, place: u16) -> u32
     Y[edge as usize] + ALONG_Y[edge as usize] * u32::from(place)
 }
 
-/// The same along z.
+/// Where the crossing of an edge of a cell is along z, as `x_in_cell` says it along x.
 #[inline(always)]
 pub fn z_in_cell(edge: u8, place: u16) -> u32
     requires edge { edge < 12 }

@@ -10,7 +10,7 @@ use iso_base::Memory;
 use std::alloc::Global;
 use std::marker::Model;
 
-/// So many changes are kept, done and undone together.
+/// The most changes that are kept, done and undone together.
 const DEPTH: usize = 128;
 
 /// The last changes: those that were made, and those that were taken back and not yet made again, 128 together at most.

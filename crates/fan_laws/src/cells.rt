@@ -19,7 +19,7 @@ pub fn cell_successor_is_permutation(values: [i64; 8])
     ensures { IsPermutationOfCrossings (signs_of values) (next_pairs (signs_of values) (joined_of values)) }
 {}
 
-/// Exactly one loop of a cell with these shifted values holds a crossing edge. The arcs round the vertex of that edge
+/// Exactly one loop of a cell with these shifted values holds a crossing edge. The arcs around the vertex of that edge
 /// in the loop's triangles form one path from the edge that follows to the edge before, straight or through the loop's
 /// centre. The edge that follows lies in the face where the edge runs from below to above, and the edge before in the
 /// face where it runs from above to below.

@@ -6,7 +6,7 @@ ghost use Rattle.iso_defs.specs.Manifold.{IsFan, arcs, times_run};
 ghost use Rattle.iso_defs.specs.Verdict.{IsVerdict, Verdict};
 ghost use Rattle.std.specs.Prelude.{List, true, ℕ, ◌↔◌, ◌≡◌, ◌≤◌};
 
-/// Where no ordered pair is run twice, the triangles round a vertex form one fan exactly where one walk takes all its arcs.
+/// Where no ordered pair is run twice, the triangles around a vertex form one fan exactly where one walk takes all its arcs.
 pub fn walk_decides_fan()
     ensures { (ts : List Triangle) (v : ℕ) → ((a b : ℕ) → times_run ts a b ≤ 1) →
         (fan_walk (arcs ts v) ≡ true) ↔ IsFan ts v }

@@ -20,7 +20,7 @@ pub fn directed_once(volume: &VoxelList, level: Level)
     ensures { (a b : ℕ) → times_run (triangles volume.now.grid (field volume.now.samples level)) a b ≤ 1 }
 {}
 
-/// The triangles round each vertex of the mesh form one cycle or one path, and the mesh is an oriented surface: each
+/// The triangles around each vertex of the mesh form one cycle or one path, and the mesh is an oriented surface: each
 /// edge off the border lies in two triangles that run it in opposite directions, each border edge in one. Each crossing
 /// lattice edge names exactly one vertex, and no other lattice edge names any.
 pub fn one_fan(volume: &VoxelList, level: Level)

@@ -49,7 +49,7 @@ fn fill_eight(from: usize, number: u32, out: &mut [u32])
     out[from..from + 8].fill(number);
 }
 
-/// The same of the eight points from a place on: where no crossing edge begins, they all have one number.
+/// Writes the numbers of the eight points from a place on: where no crossing edge begins, they all have one number.
 #[inline(always)]
 fn rank_eight(flags: &[u8], from: usize, start: u32, out: &mut [u32]) -> u32
     requires flags { All (λ f. f < 8) flags.now }

@@ -203,7 +203,7 @@ fn put_rows<K: Sink, D: Digits>(
     }
 }
 
-/// The same. A table of the digits of numbers is made only where there are numbers.
+/// Appends the rows as `put_rows` does, in hex digits or as numbers. A table of the digits of numbers is made only for numbers.
 fn put_coded_rows<K: Sink>(
     sink: &mut K,
     store: &BrickStore,

@@ -19,7 +19,7 @@ use nrrd::{put_nrrd_head, put_packed_samples, volume_bytes};
 use packed_samples::PackedRun;
 use samples::Packed;
 
-/// So many samples are gathered from rows before they are written.
+/// The samples that are gathered from rows before they are written.
 const BLOCK: usize = 16_384;
 
 /// Writes what a block holds where so many more have no room in it, and says how many it then holds.

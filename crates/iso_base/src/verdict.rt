@@ -12,6 +12,6 @@ pub enum Verdict {
     RepeatedCorner { t: u32 },
     /// The least ordered pair of vertices that two triangles run.
     EdgeTwice { a: u32, b: u32 },
-    /// The least vertex round which the triangles form more than one fan.
+    /// The least vertex around which the triangles form more than one fan.
     SplitVertex { v: u32 },
 }

@@ -33,7 +33,7 @@ pub trait FileText {
     ghost stays: { (writer : Self) → keeps writer writer };
 }
 
-/// The name of a file of the system has at most so many bytes.
+/// The most bytes of the name of a file of the system.
 const LONGEST: usize = 255;
 
 /// Whether no file of the system has the name.

@@ -1,4 +1,4 @@
--- The rows of a plane of a brick.
+-- The rows of a slice of a brick.
 use Rattle.std.proofs.Common.{◌≡◌, ◌∙◌, ℕ, ◌+◌, ◌-◌, ◌*◌, ◌/◌, ◌%◌, ◌<◌, ◌≤◌, ◌&&◌, ℤ, true, cond, List, length, drop, get_or, set, take, refl, sym, ap, subst, arith, zero-add}
 use Rattle.std.proofs.lemmas.List.{ext_get_or, get_or-drop, get_or-set_same, get_or-take, length-drop, length-take}
 use Rattle.std.proofs.lemmas.List.FromFn.{get_or-map-range_with_len, length-map-range_with_len}
@@ -20,7 +20,7 @@ use Rattle.kept_mesh.specs.Kept.{last_case, looped_case, looped_cases}
 use Rattle.kept_mesh.specs.Planes.{AreNone, ArePlanes, HavePlane, IsHeld}
 use Rattle.kept_mesh.proofs.EntryRuns.{case_at, case_of_cell}
 
--- the first row of cells of a plane in which the brick has a row of cells
+-- the first row of cells of a slice in which the brick has a row of cells
 pub first_there : (g : Grid) (brick y z : ℕ) → IsCellRow g brick y z → in_brick g brick 1 1 (z + 1) ≡ true
 first_there g brick y z row =
     let hy : y < 8 = row.y_low in
@@ -28,7 +28,7 @@ first_there g brick y z row =
     let o = offsets g brick 1 (y + 1) (z + 1) (omega arith) (omega arith) (omega arith) row.there in
     inside g brick 1 1 (z + 1) (record { x-in = o.x-in; y-in = omega (arith, o.y-in); z-in = o.z-in }) (omega arith) (omega arith) (omega arith)
 
--- and that of a plane before it
+-- and that of a slice before it
 pub before_there : (g : Grid) (brick z first : ℕ) → in_brick g brick 1 1 (z + 1) ≡ true → z < 8 → first ≤ z → in_brick g brick 1 1 (first + 1) ≡ true
 before_there g brick z first there low from =
     let o = offsets g brick 1 1 (z + 1) (omega arith) (omega arith) (omega (arith, low)) there in
@@ -47,7 +47,7 @@ cell_there b y z x cell row room few is =
           (omega arith) (omega arith) (omega arith);
     }
 
--- the cases of some planes of a brick, by its entries
+-- the cases of some slices of a brick, by its entries
 module _ (b : BrickAt) (first end : ℕ) (all whole cases : List ℕ) (is : all ≡ entries b.grid (heights b) b.brick) (long : length cases ≡ 256)
     (half : end ≤ first / 4 * 4 + 4) (each : (k : ℕ) → 64 * first ≤ k → k < 64 * end → get_or whole k 0 ≡ last_case 0 all k)
     (put : (k : ℕ) → k < 256 → get_or cases k 0 ≡ get_or whole (64 * (first / 4 * 4) + k) 0) where
@@ -95,7 +95,7 @@ module _ (b : BrickAt) (first end : ℕ) (all whole cases : List ℕ) (is : all 
         ∙ (case_here x (omega arith) (omega arith)
         ∙ sym (get_or-map-range_with_len case 0 (cells_along b.grid b.brick) x x 0 (omega arith) (zero-add x)))))
 
--- no planes
+-- no slices
 pub none_planes : (v : Volume) (level : ℤ) (items : List Item) (planes : Planes) → AreNone planes → ArePlanes v level items planes
 none_planes v level items planes are = record {
   narrow = are.narrow;
@@ -104,7 +104,7 @@ none_planes v level items planes are = record {
 }
 
 module _ (v : Volume) (level : ℤ) (items : List Item) (brick z : ℕ) (planes : Planes) (are : ArePlanes v level items planes) (have : HavePlane brick z planes) where
-  -- the cases of a row of a plane that they have
+  -- the cases of a row of a slice that they have
   pub row_held : (y : ℕ) → IsCellRow v.grid brick y z → take planes.width (drop (8 * (y + 8 * (z % 4))) planes.cases) ≡ looped_cases v.grid (field v.samples level) brick y z
   row_held y row =
       are.rows y z have.from have.to (subst (λ n. IsCellRow v.grid n y z) (sym have.same_brick) row)
@@ -114,7 +114,7 @@ module _ (v : Volume) (level : ℤ) (items : List Item) (brick z : ℕ) (planes 
   pub fresh_held : is_fresh brick level items ≡ true
   fresh_held = subst (λ n. is_fresh n level items ≡ true) have.same_brick (are.fresh (omega (arith, have.from, have.to)))
 
--- planes that are put in the place of their brick
+-- slices that are put in the place of their brick
 pub held_here : (brick z : ℕ) (held : List Planes) (planes : Planes) → length held ≡ 256 → HavePlane brick z planes → IsHeld brick z (set held (brick % 256) planes)
 held_here brick z held planes long have = record {
   here = λ other. subst (HavePlane brick z) (sym (get_or-set_same held (brick % 256) planes other (omega (arith, long)))) have;

@@ -35,7 +35,7 @@ module _ (p : ℕ → Bool) (es : List ℕ) (parted : IsPartitionedBy p es) (n :
       subst (λ e. p e ≡ true) (sym (get_or-drop n es i d))
       (parted (n + i) (n + j) d (omega arith) (omega arith) (subst (λ e. p e ≡ true) (get_or-drop n es j d) is))
 
--- entries of planes behind some are of none of their cells
+-- entries of slices behind some are of none of their cells
 pub none_behind : (end : ℕ) (es : List ℕ) → IsPartitionedBy (λ e. ltb e (65536 * end)) es → (0 < length es → 65536 * end ≤ get_or es 0 0)
     → (other k : ℕ) → k < 64 * end → last_case other es k ≡ other
 none_behind end es parted first other k low = no_case other es k (λ j there.
@@ -46,7 +46,7 @@ none_behind end es parted first other k low = no_case other es k (λ j there.
     ] in
     ne_eqb (get_or es j 0 / 1024) k (omega (arith, behind, low)))
 
--- and so are those of planes before them
+-- and so are those of slices before them
 pub none_before : (first : ℕ) (es : List ℕ) → ((i : ℕ) → i < length es → get_or es i 0 < 65536 * first)
     → (other k : ℕ) → 64 * first ≤ k → last_case other es k ≡ other
 none_before first es before other k from = no_case other es k (λ j there.

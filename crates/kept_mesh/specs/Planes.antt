@@ -1,4 +1,4 @@
--- The cases of the cells of a brick that lie in some planes across z.
+-- The cases of the cells of a brick that lie in some slices.
 use Rattle.std.specs.Prelude.{◌≡◌, ℕ, ◌+◌, ◌*◌, ◌%◌, ◌<◌, ◌≤◌, ℤ, List, drop, slice_index_or, take, true}
 use Rattle.iso_base.specs.Shifted.{field}
 use Rattle.iso_base.specs.Volume.{Volume}
@@ -8,7 +8,7 @@ use Rattle.stitch_rows.specs.Named.{IsCellRow}
 use Rattle.kept_mesh.specs.Kept.{looped_cases}
 use Rattle.kept_mesh.specs.declared.planes.Planes.{Planes}
 
--- these are the cases of some planes of a brick, if there are any; it is kept at the level then
+-- these are the cases of some slices of a brick, if there are any; it is kept at the level then
 pub record ArePlanes (v : Volume) (level : ℤ) (items : List Item) (planes : Planes) : Type 0 where
   pub narrow : planes.width ≤ 8
   pub fresh : planes.across.first < planes.across.end → is_fresh planes.brick level items ≡ true
@@ -20,7 +20,7 @@ pub record AreNone (planes : Planes) : Type 0 where
   pub none : planes.across.end ≡ 0
   pub narrow : planes.width ≤ 8
 
--- that plane of that brick is among these
+-- that slice of that brick is among these
 pub record HavePlane (brick z : ℕ) (planes : Planes) : Type 0 where
   pub same_brick : planes.brick ≡ brick
   pub from : planes.across.first ≤ z

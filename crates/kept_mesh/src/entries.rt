@@ -1,4 +1,4 @@
-//! The cases of the cells of a brick that lie in some planes across z, by the brick's entries.
+//! The cases of the cells of a brick that lie in some slices, by the brick's entries.
 
 ghost use Rattle.std.specs.Prelude.{◌≡◌, ℕ, ◌*◌, ◌/◌, ◌<◌, ◌≤◌, ◌∷◌, [], All, false, IsTrue, length, nat_lt};
 ghost use Rattle.std.specs.Prelude.{slice_index};
@@ -7,7 +7,7 @@ ghost use Rattle.kept_mesh.specs.Kept.{last_case};
 
 use page_pool::Entries;
 
-/// So many cells has a brick at most.
+/// The most cells of a brick.
 pub const CELLS: usize = 512;
 
 /// Planes across z of the cells of a brick: from one to before another.
@@ -37,7 +37,7 @@ fn put_each(entries: &[u32], cases: &mut [u16; CELLS])
     }
 }
 
-/// In which plane across z the cell of an entry lies.
+/// In which slice the cell of an entry lies.
 #[inline(always)]
 fn plane_of_entry(entry: u32) -> u32
     ensures { result ≡ entry / 65536 }
@@ -45,7 +45,7 @@ fn plane_of_entry(entry: u32) -> u32
     entry / 65_536
 }
 
-/// Whether the cells of some ascending entries all lie in planes before one.
+/// Whether the cells of some ascending entries all lie in slices before one.
 #[inline(always)]
 fn end_before(page: &[u32], z: u8) -> bool
     requires { IsPartitionedBy (λ e. nat_lt e (65536 * z)) page.now }
@@ -57,7 +57,7 @@ fn end_before(page: &[u32], z: u8) -> bool
     }
 }
 
-/// Whether there are entries, and the first one's cell lies in a plane before one.
+/// Whether there are entries, and the first one's cell lies in a slice before one.
 #[inline(always)]
 fn begin_before(page: &[u32], z: u8) -> bool
     ensures some { IsTrue result → 0 < length page.now }
@@ -69,8 +69,8 @@ fn begin_before(page: &[u32], z: u8) -> bool
     }
 }
 
-/// Writes the cases of some ascending entries in the places of their cells, unless all of them lie in planes before
-/// one. To test each entry would cost more than to write the few of such planes too.
+/// Writes the cases of some ascending entries in the places of their cells, unless all of them lie in slices before
+/// one. To test each entry would cost more than to write the few of such slices too.
 #[inline(always)]
 fn put_page(page: &[u32], first: u8, cases: &mut [u16; CELLS])
     requires cells { All (λ e. e < 524288) page.now }
@@ -84,8 +84,8 @@ fn put_page(page: &[u32], first: u8, cases: &mut [u16; CELLS])
     put_each(page, cases);
 }
 
-/// Writes the cases of the cells of some planes across z over zeros in their places, by the entries of their brick.
-/// What stands in the places of other cells is left free. Of pages that end before the planes the last entry is read,
+/// Writes the cases of the cells of some slices over zeros in their places, by the entries of their brick.
+/// What stands in the places of other cells is left free. Of pages that end before the slices the last entry is read,
 /// and none of those behind them.
 // What is written stays where it is: a list of so many cases that were a result would be copied.
 #[inline(always)]

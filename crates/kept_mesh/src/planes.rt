@@ -1,8 +1,8 @@
-//! The cases of the cells of a brick that lie in some planes across z.
+//! The cases of the cells of a brick that lie in some slices.
 //!
 //! Entries of a cached brick are read once for each half of it, and the cases of four slices of 256 bricks are held, so
 //! that a brick's place is its last eight bits. To find where a slice begins, or to test each entry, costs more. All
-//! eight slices would be read once, but their 528 KB lie on the stack. Where a layer has more than 320 bricks one slice
+//! eight slices would be read once, but their 528 KB lie on the stack. Where a slice has more than 320 bricks one slice
 //! is held, since a brick would lose its place before its next slice is asked for.
 
 ghost use Rattle.std.specs.Prelude.{◌≡◌, ℕ, ◌+◌, ◌*◌, ◌/◌, ◌<◌, ◌≤◌, All, List, slice_index, true};
@@ -18,24 +18,24 @@ use iso_base::Level;
 use page_pool::Entries;
 use stitch_rows::count_along;
 
-/// So many bricks have a place for their cases: all of a layer in a volume of 128 points along x and y. The place of a
+/// The bricks that have a place for their cases: all of a slice of bricks in a volume of 128 points along x and y. The place of a
 /// brick is found without a division.
 pub const PLACES: u32 = 256;
 
-/// Several planes of a brick are held at once where a layer has at most so many bricks. Where there are more, a brick has
-/// lost its place before its next plane is asked for. Of the 289 of a volume of 130 points, which is one of 128 in a pad,
+/// The most bricks of a slice with which several slices of a brick's cells are held at once. Where there are more, a brick has
+/// lost its place before its next slice is asked for. Of the 289 of a volume of 130 points, which is one of 128 in a pad,
 /// most have a place of their own.
 const MOST: u32 = 320;
 
-/// So many planes of a brick are held at most, half of them: more take more room than they save time.
+/// The most slices of a brick's cells that are held, half of them: more take more room than they save time.
 const GROUP: u8 = 4;
 
-/// So many cells have these planes.
+/// The cells of these slices.
 const HELD: usize = 64 * GROUP as usize;
 
-/// The case numbers of the cells of a kept brick in some planes across z, 0 of those without a crossing edge: which
-/// brick and which planes, all in one half of it, how many cells a row has, and the cells of the rows of this half,
-/// eight places for each row along y, and eight rows for each plane.
+/// The case numbers of the cells of a kept brick in some slices, 0 of those without a crossing edge: which
+/// brick and which slices, all in one half of it, how many cells a row has, and the cells of the rows of this half,
+/// eight places for each row along y, and eight rows for each slice.
 #[derive(Clone, Copy, Drop)]
 pub struct Planes {
     pub brick: u32,
@@ -44,7 +44,7 @@ pub struct Planes {
     pub cases: [u16; HELD],
 }
 
-/// Copies the cases of the planes of a half of a brick, from its first plane on.
+/// Copies the cases of the slices of a half of a brick, from its first slice on.
 #[inline(always)]
 fn put_half(all: &[u16; CELLS], first: u8, cases: &mut [u16; HELD])
     requires first { first ≤ 4 }
@@ -55,7 +55,7 @@ fn put_half(all: &[u16; CELLS], first: u8, cases: &mut [u16; HELD])
 }
 
 impl Planes {
-    /// No planes.
+    /// No slices.
     #[inline(always)]
     fn none() -> Planes
         ensures { AreNone result }
@@ -68,7 +68,7 @@ impl Planes {
         }
     }
 
-    /// Turns to some planes of a brick, by its entries: wherever these are kept at the level.
+    /// Turns to some slices of a brick, by its entries: wherever these are kept at the level.
     #[inline(always)]
     pub fn turn_to(
         &mut self,
@@ -103,7 +103,7 @@ impl Planes {
     }
 }
 
-/// No planes, in each place.
+/// No slices, in each place.
 #[inline(always)]
 pub fn no_planes() -> [Planes; PLACES as usize]
     ensures { All AreNone result }
@@ -111,13 +111,13 @@ pub fn no_planes() -> [Planes; PLACES as usize]
     [Planes::none(); PLACES as usize]
 }
 
-/// Whether a layer has few bricks. This saves work and no result rests on it: the contract leaves both answers free.
+/// Whether a slice has few bricks. This saves work and no result rests on it: the contract leaves both answers free.
 pub fn has_few_bricks(store: &BrickStore) -> bool {
     let sizes = store.sizes();
     count_along(sizes.nx()) * count_along(sizes.ny()) <= MOST
 }
 
-/// Which planes of a brick are held when one of them is asked for: those of its half of the brick, or this one.
+/// Which slices of a brick are held when one of them is asked for: those of its half of the brick, or this one.
 #[inline(always)]
 pub fn across_of(z: u8, many: bool) -> Across
     requires z { z < 8 }

@@ -21,7 +21,7 @@ use std::simd::prelude::*;
 use std::sync::ledger::Ledger;
 use stitch_rows::{CellRows, Counts};
 
-/// Whether a plane across z of a brick is among these.
+/// Whether a slice of a brick is among these.
 #[inline(always)]
 fn has_plane(planes: &Planes, brick: BrickId, z: u8) -> bool
     ensures { OnTrue result (HavePlane brick.0 z planes.now) }
@@ -29,9 +29,9 @@ fn has_plane(planes: &Planes, brick: BrickId, z: u8) -> bool
     planes.brick == brick.0 && planes.across.first <= z && z < planes.across.end
 }
 
-/// Puts planes of a brick, this one among them, in the brick's place, where the cache keeps the brick's entries at a
+/// Puts slices of a brick, this one among them, in the brick's place, where the cache keeps the brick's entries at a
 /// level; says whether they are there.
-// Apart, since a row's plane is nearly always at hand.
+// Apart, since a row's slice is nearly always at hand.
 #[inline(never)]
 fn hold_anew(
     store: &BrickStore,
@@ -60,7 +60,7 @@ fn hold_anew(
     }
 }
 
-/// The same, unless this plane is there already.
+/// Puts slices of a brick, this one among them, in the brick's place, unless it is there already; says whether it is there then.
 #[inline(always)]
 fn hold(
     store: &BrickStore,
@@ -99,7 +99,7 @@ fn put_cases(row: &[u16], width: u8, rows: &mut ArrayVec<u16, 8>)
     }
 }
 
-/// Replaces the rows by the cases of a row of some planes.
+/// Replaces the rows by the cases of a row of some slices.
 #[inline(always)]
 fn put_row(planes: &Planes, y: u8, z: u8, rows: &mut ArrayVec<u16, 8>)
     requires y { y < 8 }
@@ -112,8 +112,8 @@ fn put_row(planes: &Planes, y: u8, z: u8, rows: &mut ArrayVec<u16, 8>)
 }
 
 /// The cases of the rows of a volume's bricks at a level: of a brick that the cache keeps at the level by its entries.
-/// These are taken from the cache once for all rows of half a brick, or where many bricks of a layer share places, once
-/// for all rows of a plane across z, since a walk asks for the rows of neighbours in between.
+/// These are taken from the cache once for all rows of half a brick, or where many bricks of a slice share places, once
+/// for all rows of a slice, since a walk asks for the rows of neighbours in between.
 #[derive(Drop)]
 pub struct KeptRows<'a> {
     store: &'a BrickStore,

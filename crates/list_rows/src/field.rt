@@ -170,7 +170,7 @@ impl<'a, S: Samples> ListField<'a, S> {
         sample_place(self.level, ends[x], ends[x + step])
     }
 
-    /// The same, from samples that are asked for by their points.
+    /// The place of `place_on`, from samples that are asked for by their points.
     #[inline(always)]
     fn place_between(&self, y: u32, z: u32, edge: u16) -> u16
         requires y { y < self.now.grid.ny }

@@ -159,7 +159,7 @@ fn are_rows_alike(signs: RowSigns, sign: u8) -> bool
         && are_from(signs.both, 64 * runs, sign)
 }
 
-/// Whether all points round a row of cells are above, or none is: no crossing edge begins in the row of points then, and the
+/// Whether all points around a row of cells are above, or none is: no crossing edge begins in the row of points then, and the
 /// cells have no loops. `false` is free, as above.
 pub fn are_alike<H: Heights>(field: &H, signs: RowSigns, y: u32, z: u32) -> bool
     requires y { y < (H.leveled field.now).grid.ny }

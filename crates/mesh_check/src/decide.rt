@@ -49,7 +49,7 @@ fn first_repeated(triangles: &[[u32; 3]]) -> Option<u32>
     None
 }
 
-/// The verdict on triangles of three corners each: looks at the arcs round each vertex in turn.
+/// The verdict on triangles of three corners each: looks at the arcs around each vertex in turn.
 fn surface_verdict(alloc: Global, vertices: u32, triangles: &[[u32; 3]]) -> Result<Verdict, Memory>
     requires count { length triangles.now ≤ 2 ^ 30 }
     requires inside { All (λ t. IsBelow vertices (triangle_of t)) triangles.now }

@@ -7,7 +7,7 @@ ghost use Rattle.mesh_check.specs.Judged.{IsFanOf};
 
 use crate::marks::{Mark, ends_of, mark_arcs, walk_length};
 
-/// What the arcs round one vertex are.
+/// What the arcs around one vertex are.
 #[derive(Clone, Copy)]
 pub enum Fan {
     /// Some vertex begins two of them: the least one.
@@ -18,7 +18,7 @@ pub enum Fan {
     Split(u32),
 }
 
-/// Looks at the arcs round one vertex. The stamp is new to the marks, and stays in them.
+/// Looks at the arcs around one vertex. The stamp is new to the marks, and stays in them.
 pub fn fan_of(marks: &mut [Mark], arcs: &[(u32, u32)], stamp: u32) -> Fan
     requires vertices { All (ArcBelow (length marks.old)) arcs.now }
     requires unmarked { IsUnmarked marks.old stamp }

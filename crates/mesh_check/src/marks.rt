@@ -7,7 +7,7 @@ ghost use Rattle.iso_defs.specs.Lists.{ends};
 ghost use Rattle.arc_rings.specs.Arcs.{ArcBelow};
 ghost use Rattle.mesh_check.specs.Marks.{IsMarked, IsUnmarked, IsPut, begun, noted_of, IsLeastTwice};
 
-/// What the arcs round one vertex do at another. Marks are written with a stamp that is new for each vertex looked at,
+/// What the arcs around one vertex do at another. Marks are written with a stamp that is new for each vertex looked at,
 /// so they are never cleared.
 #[derive(Clone, Copy)]
 pub struct Mark {

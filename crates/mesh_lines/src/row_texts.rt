@@ -187,7 +187,7 @@ fn set_middle_x(middle: &mut Piece<32>)
     middle.len = 0;
 }
 
-/// Of one along y.
+/// Sets what stands before the decimals of a place along y.
 #[inline(always)]
 fn set_middle_y(middle: &mut Piece<32>, y: &Piece<16>)
     requires { y.now.len ≤ 12 }
@@ -227,7 +227,7 @@ fn set_tail_x(tail: &mut Piece<32>, y: &Piece<16>, z: &Piece<16>)
     tail.push(b"000\n");
 }
 
-/// Of one along y.
+/// Sets what stands behind the decimals of a place along y.
 #[inline(always)]
 fn set_tail_y(tail: &mut Piece<32>, z: &Piece<16>)
     requires { z.now.len ≤ 12 }

@@ -18,7 +18,7 @@ const LAYER: i64 = 1000;
 pub enum Origin {
     /// The lowest point of the volume.
     Volume,
-    /// The same where the volume lies in a pad: the pad's layer is taken off each coordinate.
+    /// The lowest point of the volume within its padding: the padding's layer is subtracted from each coordinate.
     Pad,
     /// The lowest point of a larger volume, of which this one is a window that begins at that point: its coordinates are added.
     Window(Point),
@@ -67,7 +67,7 @@ impl Style {
         }
     }
 
-    /// The same in a window, apart, so that what is inlined for volumes stays short.
+    /// Appends the line of a vertex of a window. It is a function of its own, so that what is inlined for volumes stays short.
     #[inline(never)]
     fn gather_in_window(self, low: Point, at: &[u32; 3], lines: &mut Lines)
         requires origin { self.origin ≡ Window low }

@@ -9,7 +9,7 @@ ghost use Rattle.mesh_read.specs.Plain.{BeginsLine, BeginsNumber, BeginsFace, Is
 
 use std::simd::prelude::*;
 
-/// So many bytes are looked at for the end of a line.
+/// The bytes that are searched at once for the end of a line.
 const GROUP: usize = 32;
 
 /// The place of the first line feed, where one is among the first bytes. They are looked at all at once.
@@ -41,7 +41,7 @@ pub fn behind_plain_line(bytes: &[u8]) -> Option<&[u8]>
     Some(&bytes[end + 1..])
 }
 
-/// So many bytes are looked at for a number and the byte behind it.
+/// The bytes that are searched for a number and the byte behind it.
 const REACH: usize = 11;
 
 /// The number at the front, where digits begin the text and this byte comes soon behind them, and what follows that byte.

@@ -13,11 +13,11 @@ pub struct Tally {
     pub least: u32,
     /// The vertices that a triangle uses.
     pub vertices: u32,
-    /// The arcs round them: one at each corner of a triangle.
+    /// The arcs around them: one at each corner of a triangle.
     pub corners: u64,
     /// The edges from them to greater vertices.
     pub edges: u64,
-    /// Those of these edges that lie in more than one triangle.
+    /// The edges among these that lie in more than one triangle.
     pub shared: u64,
 }
 

@@ -33,7 +33,7 @@ impl RowCells {
         }
     }
 
-    /// So many cells can be listed.
+    /// The most cells that can be listed.
     #[inline(always)]
     fn room(&self) -> usize
         ensures cells { result ≡ length self.now.places }

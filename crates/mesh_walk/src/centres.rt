@@ -25,7 +25,7 @@ use flat_mesh::Heights;
 use mesh_lines::{Block, CentreTexts};
 use mesh_rows::MeshRows;
 
-/// So many loops with a centre can be listed: two for each cell of the longest row.
+/// The most loops with a centre that can be listed: two for each cell of the longest row.
 const FANS: usize = 2052;
 
 /// A loop with a centre of a row of cells: how far its cell is along x, and its number in the table of loops.
@@ -65,7 +65,7 @@ fn list_fans<H: Heights>(field: &H, cells: &RowCells, fans: &mut [RowFan; FANS])
     count
 }
 
-/// A row of cells: the texts of its lines, the places on the edges round it, and the slots with which these begin.
+/// A row of cells: the texts of its lines, the places on the edges around it, and the slots with which these begin.
 #[derive(Clone, Copy)]
 struct CentreRow<'a> {
     texts: &'a CentreTexts,

@@ -17,7 +17,7 @@ use cell_loops::centre_count;
 use row_bits::EDGES;
 use std::simd::prelude::*;
 
-/// So many slots a table has: those of all corners of triangles, and behind them some that are read and have no meaning.
+/// The slots of a table: those of all corners of triangles, and behind them some that are read and have no meaning.
 const TABLE: usize = 13_312;
 
 /// Room for the slots of the corners of the triangles of the longest row of cells, and for what is written behind them.
@@ -72,7 +72,7 @@ impl CornerSlots {
         }
     }
 
-    /// Those of a row of cells.
+    /// The slots of the corners of a row of cells.
     pub fn of_row(&self, y: u32, z: u32) -> &[u16; TABLE]
         requires { HaveCorners self.now.tables }
         ensures { HasCorners y z result.now }

@@ -60,7 +60,7 @@ fn put_faces<K: Sink>(
 }
 
 /// How far the lines of the triangles are: the number of the next centre, the slots of the corners of all triangles, and buffers for a
-/// row of cells, the slots of the corners of its triangles, and the texts in the slots round it.
+/// row of cells, the slots of the corners of its triangles, and the texts in the slots around it.
 #[derive(Drop)]
 struct Faces {
     cells: RowCells,
@@ -71,7 +71,7 @@ struct Faces {
 }
 
 impl Faces {
-    /// Puts the lines of the triangles of the row of cells behind the others, with the texts round it.
+    /// Puts the lines of the triangles of the row of cells behind the others, with the texts around it.
     fn write<H: Heights, K: Sink>(
         &mut self,
         field: &H,

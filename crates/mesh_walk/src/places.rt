@@ -15,10 +15,10 @@ use mesh_rows::MeshRows;
 use row_bits::EDGES;
 use std::simd::prelude::*;
 
-/// So many numbers hold the places: two more than there are slots, so that eight can be read from each cell on.
+/// The length of the list of places: two more than there are slots, so that eight can be read from each cell on.
 const PLACES: usize = 12_314;
 
-/// The places on the edges round a cell. Those of the four rows of points stand in slots, so far behind those of the first cell of its
+/// The places on the edges around a cell. Those of the four rows of points stand in slots, so far behind those of the first cell of its
 /// row, with which the rows begin.
 #[derive(Clone, Copy)]
 pub struct CellPlaces<'a> {
@@ -44,7 +44,7 @@ impl<'a> CellPlaces<'a> {
         eight * u16x8::from_slice(&fan[8 * row..8 * row + 8])
     }
 
-    /// Those of the four rows together.
+    /// The weighted places on the edges of all four rows, added up lane by lane.
     #[inline(always)]
     fn sum_rows(self, fan: &[u16; 40]) -> u16x8
         requires room { (row : ℕ) → row < 4 → slice_index self.rows row + self.at + 8 ≤ 12314 }
@@ -116,7 +116,7 @@ fn lay_places<H: Heights>(
     }
 }
 
-/// The places of the crossing edges of the rows of points round a row of cells, in thousandths from the edges' lower
+/// The places of the crossing edges of the rows of points around a row of cells, in thousandths from the edges' lower
 /// ends. The other fields are buffers for a row: its crossing edges by their offsets, and their places.
 #[derive(Drop)]
 pub struct EdgePlaces {

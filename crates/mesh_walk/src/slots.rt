@@ -1,4 +1,4 @@
-//! What belongs to the crossing edges of the four rows of points round a row of cells, each edge's in a slot of its own.
+//! What belongs to the crossing edges of the four rows of points around a row of cells, each edge's in a slot of its own.
 //!
 //! Ranks would find the edges around a row of cells too, one for each of twelve edges of a cell, where a slot takes one
 //! look into a table. Slots of rows at even and odd coordinates are apart, so rows stay where they are while the cells
@@ -14,11 +14,11 @@ use crate::walk::Walk;
 use mesh_lines::{Block, Style};
 use mesh_rows::MeshRows;
 
-/// So many slots there are: those of four of the longest rows of points.
+/// The number of slots: those of four of the longest rows of points.
 pub const SLOTS: usize = 12_312;
 
-/// So many slots there are for the texts of corners: those of edges, and behind them three for each cell of the longest row, in which
-/// the texts of its centres stand.
+/// The number of slots for the texts of corners: those of edges, and behind them three for each cell of the longest row, for the texts
+/// of its centres.
 pub const TEXTS: usize = 15_390;
 
 /// The first slot of the centres of a row's cells.
@@ -33,7 +33,7 @@ pub fn row_slot(y: u32, z: u32) -> usize
     3078 * (y % 2 + 2 * (z % 2)) as usize
 }
 
-/// The first slots of the four rows of points round a row of cells.
+/// The first slots of the four rows of points around a row of cells.
 pub fn first_slots(y: u32, z: u32) -> [usize; 4]
     requires y { y < 1026 }
     requires z { z < 1026 }
@@ -94,7 +94,7 @@ pub trait Slots {
         ensures spent { R.spent rows.new ≡ R.spent rows.old };
 }
 
-/// The slots of the rows of points round a row of cells. Two of these rows stay when the next row of cells is the one behind,
+/// The slots of the rows of points around a row of cells. Two of these rows stay when the next row of cells is the one behind,
 /// which begins with the row of points numbered `next`.
 #[derive(Drop)]
 pub struct Around<S: Slots> {
@@ -135,7 +135,7 @@ impl<S: Slots> Around<S> {
         }
     }
 
-    /// Lays the rows of points round a row of cells.
+    /// Lays the rows of points around a row of cells.
     pub fn turn_to<R: MeshRows>(
         &mut self,
         rows: &mut R,

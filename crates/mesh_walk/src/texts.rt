@@ -42,7 +42,7 @@ fn set_texts(
     }
 }
 
-/// The texts of the numbers of the crossing edges of the rows of points round a row of cells, with a buffer.
+/// The texts of the numbers of the crossing edges of the rows of points around a row of cells, with a buffer.
 #[derive(Drop)]
 pub struct NumberTexts {
     pub texts: [Number; TEXTS],

@@ -250,7 +250,7 @@ fn fill<T: Packed>(kind: SampleKind, piece: &[T], room: &mut [u8])
     }
 }
 
-/// So many bytes are written at once: a write of the system costs as much as thousands of bytes.
+/// The bytes that are written at once: a write of the system costs as much as thousands of bytes.
 const BLOCK: usize = 32_768;
 
 /// How many samples fill a block.

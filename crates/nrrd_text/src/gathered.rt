@@ -12,7 +12,7 @@ use byte_streams::{Failed, Sink, write_all_of};
 use number_digits::Digits;
 use samples::Packed;
 
-/// So many samples are put at once: whether there is room is asked for all of them, and not for each.
+/// The samples that are appended at once: one test finds whether there is room for all of them.
 const PIECE: usize = 256;
 
 /// The first samples of a row, and the others.
@@ -114,7 +114,7 @@ pub(crate) fn gather_samples<K: Sink, D: Digits, T: Packed>(
     Ok(())
 }
 
-/// The same, and says how many bytes they have.
+/// Appends samples to those that wait, as `gather` does, and says how many bytes they have.
 pub(crate) fn gather_counted<K: Sink, D: Digits, T: Packed>(
     sink: &mut K,
     waiting: &mut SampleLines,

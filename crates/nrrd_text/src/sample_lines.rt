@@ -13,7 +13,7 @@ use number_digits::Digits;
 use samples::Packed;
 use std::marker::Model;
 
-/// So many bytes wait at most: a write of the system costs as much as thousands of bytes.
+/// The most bytes that wait: a write of the system costs as much as thousands of bytes.
 const BLOCK: usize = 32_768;
 
 /// Lines of samples, one behind another, each written where it stays until all are taken, and tables of what is printed.

@@ -13,7 +13,7 @@ ghost use Rattle.part_laws.specs.Loops.{AreLong, Loop, mesh_loops};
 ghost use Rattle.part_laws.specs.Meets.{IsLabelling, IsNext, is_met, least_joined, relabelled};
 ghost use Rattle.std.specs.Prelude.{[], length, List, true, ℕ, ℤ, ◌++◌, ◌≡◌, ◌≤◌, ◌∷◌};
 
-/// A labelling tells classes: vertices of one class have labels that pairs join, and the other way round; each label has the class of the vertex
+/// A labelling tells classes: vertices of one class have labels that pairs join, and the other way around; each label has the class of the vertex
 /// that it began at as its root.
 pub fn labelling_told()
     ensures one { (xs : List (ℕ × Loop)) (ps : List (ℕ × ℕ)) (label : ℕ → ℕ) → IsLabelling xs ps label → (v w : ℕ) →

@@ -105,7 +105,7 @@ fn is_inside(sizes: &Sizes, cell: Cell) -> bool
     true
 }
 
-/// How many steps round a loop of a cell lie in the border.
+/// How many steps around a loop of a cell lie in the border.
 fn outer_steps(sizes: &Sizes, cell: Cell, edges: &[u8]) -> u32
     requires cell { IsCellAt sizes.now cell }
     requires edges { IsLoop edges.now }
@@ -120,7 +120,7 @@ fn outer_steps(sizes: &Sizes, cell: Cell, edges: &[u8]) -> u32
     outer + outer_step(sizes, cell, edges[count - 1], edges[0])
 }
 
-/// The same, quicker where the cell does not touch the border.
+/// How many steps around a loop of a cell lie in the border, found sooner where the cell does not touch it.
 #[inline(always)]
 pub fn border_steps(sizes: &Sizes, cell: Cell, edges: &[u8]) -> u32
     requires cell { IsCellAt sizes.now cell }

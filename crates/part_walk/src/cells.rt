@@ -60,7 +60,7 @@ fn looped_of(cases: &[u16], from: usize) -> u64
     some & eight.simd_ne(u16x8::splat(655)).to_bitmask()
 }
 
-/// The same of the cases from a place to before an end.
+/// Which of the cases from a place to before an end have loops, as `looped_of` says it of eight.
 #[inline(always)]
 fn looped_among(cases: &[u16], from: usize, end: usize) -> u64
     requires from { from ≤ end }

@@ -13,7 +13,7 @@ use flat_mesh::Cell;
 /// The corner of a cell at the lower end of each of its edges.
 const LOWER: [u8; 12] = [0, 2, 4, 6, 0, 1, 4, 5, 0, 1, 2, 3];
 
-/// And that at the upper end.
+/// The corner of a cell at the upper end of each of its edges.
 const UPPER: [u8; 12] = [1, 3, 5, 7, 2, 3, 6, 7, 4, 5, 6, 7];
 
 /// The corner of a cell at the lower end of an edge.
@@ -26,7 +26,7 @@ pub fn lower_corner(edge: u8) -> u8
     LOWER[edge as usize]
 }
 
-/// And that at the upper end.
+/// The corner of a cell at the upper end of an edge.
 #[inline(always)]
 fn upper_corner(edge: u8) -> u8
     requires edge { edge < 12 }

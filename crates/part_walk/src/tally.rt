@@ -64,7 +64,7 @@ pub fn sum_of<T: Tally>(tallies: &[T]) -> T
 pub struct Counts {
     /// The loops of three vertices.
     pub threes: u32,
-    /// The others, each of which has a centre.
+    /// The loops of more vertices, each of which has a centre.
     pub centres: u32,
     /// The vertices of these, each counted with each of its loops.
     pub spokes: u32,

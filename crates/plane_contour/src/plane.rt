@@ -187,7 +187,7 @@ fn start_of(ends: [u8; 4], end: u8) -> Option<usize>
     ends.iter().position(|e| *e == end)
 }
 
-/// The segments of a square with these shifted values round it.
+/// The segments of a square with these shifted values around it.
 fn square_segments(a: i64, b: i64, c: i64, d: i64) -> FaceSegs
     requires a { unsigned_abs a < 2 ^ 44 }
     requires b { unsigned_abs b < 2 ^ 44 }

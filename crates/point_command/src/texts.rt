@@ -20,7 +20,7 @@ use mesh_text::points_head_text;
 use samples::Samples;
 use std::alloc::Global;
 
-/// So many points are in the longest row.
+/// The points of the longest row.
 const ROW: usize = 1026;
 
 /// How points are written.

@@ -40,7 +40,7 @@ impl ReadVolume {
         ReadVolume { sizes, kind, bytes }
     }
 
-    /// The same volume, which lends its bytes: it is served as raw samples are.
+    /// The volume over its bytes, which are lent: it is served as raw samples are.
     pub fn raw(&self) -> RawVolume<'_>
         ensures { result ≡ self.now }
     {

@@ -11,7 +11,7 @@ use std::simd::prelude::*;
 /// The most points of a row.
 pub const POINTS: usize = 1026;
 
-/// So many cells are looked at at once.
+/// The cells that are tested at once.
 const GROUP: usize = 32;
 
 /// Room for the cases of the longest row of cells in whole groups.

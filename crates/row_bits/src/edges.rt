@@ -8,7 +8,7 @@ ghost use Rattle.row_bits.specs.Edges.{edges_among, edges_at};
 
 use std::simd::prelude::*;
 
-/// So many points are passed over at once where no crossing edge begins.
+/// The points that are passed over at once where no crossing edge begins.
 const BLOCK: usize = 32;
 
 /// So many lattice edges begin in the longest row of points.

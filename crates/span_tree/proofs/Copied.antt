@@ -113,7 +113,7 @@ module _ (v : Volume) (b : ℕ) (copies : List ℤ) (is : IsVolume v) (low : b <
     layer_there : (z : ℕ) → z < points_along v.grid b 2 → layer_of v b z ≡ take (9 * points_along v.grid b 1) (drop (81 * z) copies)
     layer_there z hz = parts_join (row_of v b z) copies (81 * z) 9 (points_along v.grid b 1) (λ y hy. row_there y z hy hz)
 
-    -- those of a layer
+    -- those of a slice
     pub layer_among : (start n z : ℕ) → start ≡ 81 * z → n ≡ 9 * points_along v.grid b 1 → z < points_along v.grid b 2
         → (0 < n) × ((start + n ≤ length copies) × ((take (start + n - start) (drop start copies) ≡ layer_of v b z) × All IsSample (layer_of v b z)))
     layer_among start n z at size hz =

@@ -59,7 +59,7 @@ fn is_one_line(
     true
 }
 
-/// The same for those of a layer across z.
+/// Whether the bricks of a slice have one value where they are the first that hold a point of the box.
 fn is_one_layer(
     sizes: &Sizes,
     nodes: &[Span],

@@ -129,8 +129,8 @@ impl SpanTree {
         put(&mut self.nodes, leaf, bricks::span_of(store, brick));
     }
 
-    /// The same after the samples of a box were replaced, all by one value where one is told. Of a brick that lies in the box all
-    /// samples are then that value, and none is looked at.
+    /// Takes the least and the greatest samples again after those of a box were replaced, by one value if one is given: a brick within
+    /// the box has that value alone then, and its samples are not read.
     pub fn touch_in(
         &mut self,
         store: &BrickStore,

@@ -5,10 +5,10 @@ ghost use Rattle.std.specs.Prelude.{◌≡◌, ◌⊎◌, ℕ, ◌+◌, ◌/◌,
 ghost use Rattle.std.specs.Bool.{OnTrue};
 ghost use Rattle.stitch.specs.Recent.{AreNoted, AreWithin, IsKept, IsNoted, IsPut, numbers_in, numbers_of};
 
-/// So many lists have a place: three for each of 16,384 rows, which are all rows of a volume of 128 points along each axis.
+/// The places for lists: three for each of 16,384 rows, which are all rows of a volume of 128 points along each axis.
 pub const PLACES: usize = 49_152;
 
-/// So many numbers are used at most, however many there is room for.
+/// The most numbers that are used, however many there is room for.
 const MOST: usize = (1 << 31) - 1;
 
 /// Stands in place of where a list begins where none is noted.
@@ -96,7 +96,7 @@ fn put_list(list: &[u16], room: &mut Option<Vec<u16>>) -> bool
     }
 }
 
-/// So many places there are. That is said here, and nothing else is done.
+/// Tells contracts how many places there are, and does nothing else.
 #[inline(always)]
 fn tell_places(tags: &[u8; PLACES], starts: &[u32; PLACES], counts: &[u16; PLACES])
     ensures tags { length tags.now ≡ 49152 }

@@ -1,7 +1,7 @@
 //! The rows of a volume in bricks.
 //!
 //! Bricks that are not active are not read. All edges from a point lie in the last brick that holds it. For each brick
-//! of a layer the next active one is noted once for its eight slices; flags, cases and lines go from one active brick
+//! of a slice the next active one is noted once for its eight slices; flags, cases and lines go from one active brick
 //! to the next by these notes.
 ghost use Rattle.std.specs.Prelude.{◌≡◌, ◌+◌, ◌*◌, ◌<◌, ◌≤◌};
 ghost use Rattle.flat_mesh.specs.Lattice.{heights};

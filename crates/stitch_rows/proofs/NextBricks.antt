@@ -60,7 +60,7 @@ noted v is row y z held hy hz hold marks same x low =
     subst (λ n. IsNextFrom v.grid (heights v) n (get_or row.layer.next_from (row.start + x) 0)) at
     (marks.next x low (subst (λ n. n < brick_count v.grid) (sym at) (number_in v.grid is x y z wide hy hz held hold)))
 
--- where a row of bricks stands in its layer
+-- where a row of bricks stands in its slice
 pub row_in_layer : (v : Leveled) (is : IsGrid v.grid) (y z : ℕ) → y < v.grid.ny → z < v.grid.nz
     → (first_brick v.grid 0 z ≤ first_brick v.grid y z) × (first_brick v.grid y z - first_brick v.grid 0 z + bricks_along v.grid 0 ≤ bricks_along v.grid 0 * bricks_along v.grid 1)
 row_in_layer v is y z hy hz =
@@ -74,7 +74,7 @@ row_in_layer v is y z hy hz =
     let here : first_brick g y z ≡ bricks_along g 0 * at + bricks_along g 0 * layer = omega arith in
     (omega arith, omega arith)
 
--- a layer's notes say it of a row of its bricks
+-- a slice's notes say it of a row of its bricks
 pub row_marked : (v : Leveled) (is : IsGrid v.grid) (layer : ActiveLayer) (y z first start : ℕ) → y < v.grid.ny → z < v.grid.nz → IsMarkedLayer v layer
     → layer.first ≡ first_brick v.grid 0 z → first ≡ first_brick v.grid y z → start ≡ first - layer.first
     → AreMarked v (record { y = y; z = z; first = first; start = start; layer = layer })
@@ -126,6 +126,6 @@ first_of v active row marks is same_y same_z =
 pub at_row : (P : ℕ → ℕ → Type 0) (y z a b : ℕ) → y ≡ a → z ≡ b → P y z → P a b
 at_row P y z a b ey ez h = subst (λ n. P n b) ey (subst (λ n. P y n) ez h)
 
--- a layer has at most so many bricks
+-- a slice has at most so many bricks
 pub few_in_layer : (a b : ℕ) → a ≤ 129 → b ≤ 129 → a * b ≤ 16641
 few_in_layer a b x y = let l : a * b ≤ 129 * b = mul-le-mul_right b x in omega arith

@@ -56,7 +56,7 @@ pub record AreNextTo (v : Leveled) (first count : ℕ) (next : List ℕ) : Type 
   pub each : (x : ℕ) → x < count → first + x < brick_count v.grid →
       IsNextFrom v.grid (heights v) (first + x) (slice_index next x)
 
--- these are noted for all bricks of a layer
+-- these are noted for all bricks of a slice
 abbrev pub IsMarkedLayer : Leveled → ActiveLayer → Type 0
 IsMarkedLayer v layer = AreNextTo v layer.first (bricks_along v.grid 0 * bricks_along v.grid 1) layer.next_from
 

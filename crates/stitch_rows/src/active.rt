@@ -10,10 +10,10 @@ ghost use Rattle.mesh_rows.specs.Rows.{IsStill};
 use crate::bricks::{BrickRow, count_along};
 use crate::field::Field;
 
-/// The most bricks of a layer.
+/// The most bricks of a slice.
 const LAYER: usize = 16_641;
 
-/// Which bricks are active of a layer of bricks, from the one numbered `first` on: those that hold points of one slice. For each of them
+/// Which bricks are active of a slice of bricks, from the one numbered `first` on: those that hold points of one slice. For each of them
 /// the least active brick from it on is noted: the brick itself where it is active.
 #[derive(Drop)]
 pub struct ActiveLayer {
@@ -22,7 +22,7 @@ pub struct ActiveLayer {
 }
 
 /// The row of points at `y` and `z`, and which bricks are active of those that hold it. They stand one after the other along x, from
-/// the one numbered `first` on, and their notes begin at `start` among those of their layer. A walk comes back to the rows of a layer
+/// the one numbered `first` on, and their notes begin at `start` among those of their slice. A walk comes back to the rows of a slice
 /// slice after slice, and looks for its active bricks once.
 #[derive(Drop)]
 pub struct ActiveRow {
@@ -62,7 +62,7 @@ fn mark_bricks(field: &Field, first: u32, count: u32, next_from: &mut [u32])
     }
 }
 
-/// Marks the layer of bricks that holds a slice, unless it is marked.
+/// Marks the slice of bricks that holds a slice, unless it is marked.
 fn mark_layer(field: &Field, z: u32, layer: &mut ActiveLayer)
     requires z { z < field.now.grid.nz }
     requires marked { IsMarkedLayer field.now layer.old }
@@ -96,7 +96,7 @@ impl ActiveRow {
         }
     }
 
-    /// Goes to a row of points that other bricks hold, and marks their layer unless it is marked.
+    /// Goes to a row of points that other bricks hold, and marks their slice unless it is marked.
     fn mark_anew(&mut self, field: &Field, y: u32, z: u32)
         requires y { y < field.now.grid.ny }
         requires z { z < field.now.grid.nz }

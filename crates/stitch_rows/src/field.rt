@@ -136,7 +136,7 @@ impl<'a> Field<'a> {
         &copies[start..start + count]
     }
 
-    /// The same where more points than the nine of the brick are in the row, from where they begin among the samples of all bricks.
+    /// The nine samples of a brick in a row that has more points than these, from where they begin among the samples of all bricks.
     #[inline(always)]
     pub(crate) fn full_run<'c, T: Packed>(
         &self,

@@ -8,7 +8,7 @@ use std::alloc::Global;
 use std::process::Abort;
 use std::test::Fail;
 
-/// The arcs round each of five vertices.
+/// The arcs around each of five vertices.
 const ARCS: &[&[(u32, u32)]; 5] = &[
     &[(1, 2), (3, 2)],
     &[(2, 0), (3, 2)],

@@ -20,7 +20,7 @@ fn points_of(alloc: Global, volume: &VoxelList, level: Level) -> Result<EdgeVert
     edge_vertices(alloc, &sizes, volume, level, &bits.flags)
 }
 
-/// The edges at level 9 round the middle of three points a side.
+/// The edges at level 9 around the middle of three points a side.
 fn edges_at_9(alloc: Global) -> Result<EdgeVertices, Fail> {
     let sizes = three_a_side().ok_or("3, 3 and 3 are sizes")?;
     let level = Level::new(9_000).ok_or("9 is a level")?;
@@ -33,7 +33,7 @@ fn check_edges(rt: &impl Abort, edges: &EdgeVertices) {
     assert!(rt; edges.places.as_slice() == [900, 900, 900, 100, 100, 100].as_slice());
 }
 
-/// How many edges at level 9 there are round the middle of three points a side, counted row by row.
+/// How many edges at level 9 there are around the middle of three points a side, counted row by row.
 fn count_at_9(alloc: Global) -> Result<u32, Fail> {
     let sizes = three_a_side().ok_or("3, 3 and 3 are sizes")?;
     let level = Level::new(9_000).ok_or("9 is a level")?;

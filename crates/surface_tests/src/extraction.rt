@@ -52,7 +52,7 @@ fn lower_mesh(alloc: Global, sizes: Sizes, level: Level) -> Result<Mesh, Memory>
     extract_flat(alloc, &volume, level)
 }
 
-/// That mesh at level 5: one loop of four edges round a centre.
+/// That mesh at level 5: one loop of four edges around a centre.
 fn lower_at_5(alloc: Global) -> Result<Mesh, Fail> {
     let sizes = two_a_side().ok_or("2, 2 and 2 are sizes")?;
     let level = Level::new(5_000).ok_or("5 is a level")?;
@@ -97,7 +97,7 @@ fn the_triangles_of_one_corner(rt: HostRuntime) -> Result<(), Fail> {
     Ok(())
 }
 
-/// The mesh at level 5 round the middle of three points a side.
+/// The mesh at level 5 around the middle of three points a side.
 fn above_at_5(alloc: Global) -> Result<Mesh, Fail> {
     let sizes = three_a_side().ok_or("3, 3 and 3 are sizes")?;
     let level = Level::new(5_000).ok_or("5 is a level")?;

@@ -17,7 +17,7 @@ fn without_return(bytes: &[u8], end: usize) -> usize
     }
 }
 
-/// So many bytes are looked at in one step.
+/// The bytes that are searched in one step.
 const STEP: usize = 16;
 
 /// Whether there is a line feed in the step of bytes from a place on.

@@ -46,7 +46,7 @@ pub fn number(word: &[u8]) -> Option<i64>
     Some(positive(digits(word)?))
 }
 
-/// The same where it is not negative, and none where it is.
+/// The number of a word if it is not negative, and none otherwise.
 pub fn whole(word: &[u8]) -> Option<u64>
     ensures { result ≡ whole_of word.now }
 {

@@ -118,7 +118,7 @@ fn spaced_byte(rest: &[u8], done: u64, wanted: Wanted) -> Result<(u8, &[u8]), Sa
     Ok((16 * high + low, rest))
 }
 
-/// The same. Mostly both digits stand at the front, and this is asked first.
+/// The byte of `spaced_byte`. Mostly both digits are the next two bytes, which is tested first.
 #[inline(always)]
 fn byte(rest: &[u8], done: u64, wanted: Wanted) -> Result<(u8, &[u8]), SampleFault>
     requires each { 0 < wanted.each }

@@ -134,7 +134,7 @@ impl<'a> BoxSamples<'a> {
         self.store.copy_row(self.whole(point), into);
     }
 
-    /// The same in another width.
+    /// Copies the samples of a row from a point of the box on, in another width.
     fn copy_part<T: Packed>(&self, point: Point, into: &mut [T])
         requires point { IsPoint self.now.window.grid point }
         requires row { point.x + length into.old ≤ self.now.window.grid.nx }

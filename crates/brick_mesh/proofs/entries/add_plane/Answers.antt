@@ -9,7 +9,7 @@ use Rattle.brick_mesh.proofs.PlaneRuns.{next_run, plane_quiet, still_run}
 use Rattle.brick_mesh.proofs.Runs.{entries_few, is_active_in}
 use Rattle.brick_mesh.proofs.entries.add_plane.Goals as goal
 
--- what is known of a cell of a plane whose bit is not set
+-- what is known of a cell of a slice whose bit is not set
 abbrev IsStill : BrickAt → ℕ → ℕ → Type 0
 IsStill b z k = is_active_in b (64 * z + k) ≡ false
 
