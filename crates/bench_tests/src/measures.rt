@@ -6,15 +6,12 @@ ghost use Rattle.iso_base.specs.Triangles.{triangle_of};
 ghost use Rattle.measure.specs.Positions.{IsWithin, vector_of};
 
 use flat_mesh::{Mesh, extract_flat};
-use iso_base::{Level, Memory, TriangleList};
+use iso_base::{Level, Memory, PAD_SHIFT, TriangleList};
 use measure::{Measures, measure};
 use std::alloc::Global;
 use std::process::Abort;
 use std::test::Fail;
 use voxel_list::VoxelList;
-
-/// A pad's layer along an axis, in thousandths.
-const LAYER: i64 = 1000;
 
 /// The position of a vertex of a mesh, as it is printed.
 fn position_of(mesh: &Mesh, padded: bool, i: u32) -> [i64; 3]
@@ -22,7 +19,7 @@ fn position_of(mesh: &Mesh, padded: bool, i: u32) -> [i64; 3]
 {
     let (_, [x, y, z]) = mesh.vertex(i);
     if padded {
-        [x.0 - LAYER, y.0 - LAYER, z.0 - LAYER]
+        [x.0 - PAD_SHIFT, y.0 - PAD_SHIFT, z.0 - PAD_SHIFT]
     } else {
         [x.0, y.0, z.0]
     }

@@ -13,5 +13,5 @@ mod store;
 mod taken;
 
 pub use boxes::Values;
-pub use numbering::{BrickId, brick_at, home};
+pub use numbering::{BrickId, brick_at, bricks_along, home};
 pub use store::BrickStore;

@@ -18,10 +18,12 @@ use iso_base::{CellName, Point, Sizes, point_of};
 #[derive(Clone, Copy, Debug, Default, PartialEq, Eq)]
 pub struct BrickId(pub u32);
 
-/// How many bricks stand along an axis of so many points.
+/// The number of bricks along an axis with this many points.
+#[inline(always)]
 pub fn bricks_along(points: u32) -> u32
-    requires { points ≤ 1026 }
-    ensures { result ≡ (points + 6) / 8 }
+    requires few { points ≤ 1026 }
+    ensures value { result ≡ (points + 6) / 8 }
+    ensures bound { result ≤ 129 }
 {
     (points + 6) / 8
 }

@@ -13,7 +13,7 @@ use iso_base::BenchFault;
 pub use memory_sink::MemSink;
 pub use memory_source::MemSource;
 pub use sink::{Sink, write_all_of};
-pub use source::{ReadFault, Source, count_read, read_all_of};
+pub use source::{READ_BYTES, ReadFault, Source, count_read, read_all_of};
 pub use staged::{LINES, gather, stage};
 pub use standard::{StdSink, StdSource};
 use thiserror::Error;

@@ -62,8 +62,8 @@ impl From<AllocError> for ReadFault {
     }
 }
 
-/// The bytes that are asked for at a time.
-const CHUNK: usize = 65_536;
+/// The most bytes that a read asks for.
+pub const READ_BYTES: usize = 65_536;
 
 // Apart, so that callers see the length alone.
 fn zeros(alloc: Global, len: usize) -> Result<Vec<u8>, AllocError>
@@ -138,6 +138,6 @@ pub fn read_all_of<S: Source>(
     ensures failed { IsErrOf result ReadFault.Failed → Rose (S.seen source.old).faults (S.seen source.new).faults }
     ensures later { (S.seen source.old).faults ≤ (S.seen source.new).faults }
 {
-    let mut chunk = zeros(alloc, CHUNK)?;
+    let mut chunk = zeros(alloc, READ_BYTES)?;
     read_by(alloc, source, limit, &mut chunk)
 }

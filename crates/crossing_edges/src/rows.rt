@@ -15,8 +15,8 @@ ghost use Rattle.crossing_edges.specs.Slices.{AreSliceSigns, HaveSlices};
 use crate::counts::count_all_edges;
 use crate::slices::SliceSigns;
 use edge_points::sample_place;
-use iso_base::{Level, Sizes};
-use row_bits::{EDGES, list_edges};
+use iso_base::{Level, ROW_EDGES, Sizes};
+use row_bits::list_edges;
 use samples::Samples;
 use std::marker::Model;
 
@@ -24,16 +24,16 @@ use std::marker::Model;
 /// edge is known by its offset: three times how far its point is along x, and its axis.
 #[derive(Drop)]
 pub struct RowEdges {
-    pub edges: [u16; EDGES],
-    pub places: [u16; EDGES],
+    pub edges: [u16; ROW_EDGES],
+    pub places: [u16; ROW_EDGES],
 }
 
 impl RowEdges {
     /// Room for the edges of a row.
     pub fn new() -> RowEdges {
         RowEdges {
-            edges: [0; EDGES],
-            places: [0; EDGES],
+            edges: [0; ROW_EDGES],
+            places: [0; ROW_EDGES],
         }
     }
 }
@@ -126,7 +126,7 @@ impl<'a, S: Samples> EdgeRows<'a, S> {
     }
 
     /// Fills in where the crossing edges of a row are crossed, at the front of a buffer.
-    fn put_places(&self, start: u32, edges: &[u16], places: &mut [u16; EDGES])
+    fn put_places(&self, start: u32, edges: &[u16], places: &mut [u16; ROW_EDGES])
         requires edges { AreOffsets self.now start self.now.grid.nx edges.now }
         requires points { start + self.now.grid.nx ≤ point_count self.now.grid }
         requires few { length edges.now ≤ 3078 }

@@ -11,7 +11,7 @@ ghost use Rattle.inner_volume.specs.Rows.{ArePieces, AreRowsOf, AreSamples, HasC
 ghost use Rattle.inner_volume.specs.Unpadded.{inner_samples};
 
 use crate::places::layer_of;
-use brick_store::{BrickId, BrickStore};
+use brick_store::{BrickId, BrickStore, bricks_along};
 use iso_base::Sizes;
 use samples::Packed;
 
@@ -40,7 +40,7 @@ fn brick_rows(store: &BrickStore, sizes: &Sizes, row: u32) -> BrickRows
     let layer = layer_of(store);
     let (y, z) = (row % sizes.ny() + layer, row / sizes.ny() + layer);
     let (across, up) = (y.saturating_sub(1) / 8, z.saturating_sub(1) / 8);
-    let (along_x, along_y) = ((stored.nx() + 6) / 8, (stored.ny() + 6) / 8);
+    let (along_x, along_y) = (bricks_along(stored.nx()), bricks_along(stored.ny()));
     BrickRows {
         row,
         count: (9 - (y - 8 * across)).min(sizes.ny() - row % sizes.ny()),
@@ -179,7 +179,7 @@ fn copy_rest<T: Packed>(
     if count == 0 {
         return;
     }
-    let brick = (x as u32 / 8).min((stored.nx() + 6) / 8 - 1);
+    let brick = (x as u32 / 8).min(bricks_along(stored.nx()) - 1);
     let offset = (x as u32 + rows.x - 8 * brick) as usize;
     copy_from_brick(store, copies, sizes, rows, brick, offset, count, samples, x);
 }

@@ -12,6 +12,9 @@ use itoa::Buffer;
 #[derive(Clone, Copy, PartialEq, Eq)]
 pub struct Thousandth(pub i64);
 
+/// What the layer of padding adds to a coordinate, in thousandths.
+pub const PAD_SHIFT: i64 = 1000;
+
 fn put_digit(digit: u64, into: &mut ArrayString<24>)
     requires digit { digit < 10 }
     requires room { array_string_len into.old < 24 }

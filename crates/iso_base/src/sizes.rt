@@ -7,6 +7,12 @@ ghost use Rattle.iso_base.specs.Sizing.{IsGrid, sized};
 use std::marker::Model;
 use thiserror::Error;
 
+/// The most points along an axis, and so of a row.
+pub const LONGEST_ROW: usize = 1026;
+
+/// The most lattice edges that begin in a row of points.
+pub const ROW_EDGES: usize = 3 * LONGEST_ROW;
+
 /// Why sizes are refused. Axis 0 is x, 1 is y, 2 is z.
 #[derive(Clone, Copy, Debug, PartialEq, Eq, Error)]
 pub enum SizeFault {
@@ -57,13 +63,13 @@ impl Sizes {
         if nz < 2 {
             return Err(SizeFault::TooThin { axis: 2, n: nz });
         }
-        if nx > 1026 {
+        if nx > LONGEST_ROW as u64 {
             return Err(SizeFault::AxisTooLong { axis: 0, n: nx });
         }
-        if ny > 1026 {
+        if ny > LONGEST_ROW as u64 {
             return Err(SizeFault::AxisTooLong { axis: 1, n: ny });
         }
-        if nz > 1026 {
+        if nz > LONGEST_ROW as u64 {
             return Err(SizeFault::AxisTooLong { axis: 2, n: nz });
         }
         let n = nx * ny * nz;

@@ -13,10 +13,9 @@ ghost use Rattle.mesh_cache.specs.Economy.{is_fresh};
 ghost use Rattle.kept_mesh.specs.Planes.{AreNone, ArePlanes};
 
 use crate::entries::{Across, CELLS, put_across};
-use brick_store::{BrickId, BrickStore};
+use brick_store::{BrickId, BrickStore, bricks_along};
 use iso_base::Level;
 use page_pool::Entries;
-use stitch_rows::count_along;
 
 /// The bricks that have a place for their cases: all of a slice of bricks in a volume of 128 points along x and y. The place of a
 /// brick is found without a division.
@@ -114,7 +113,7 @@ pub fn no_planes() -> [Planes; PLACES as usize]
 /// Whether a slice has few bricks. This saves work and no result rests on it: the contract leaves both answers free.
 pub fn has_few_bricks(store: &BrickStore) -> bool {
     let sizes = store.sizes();
-    count_along(sizes.nx()) * count_along(sizes.ny()) <= MOST
+    bricks_along(sizes.nx()) * bricks_along(sizes.ny()) <= MOST
 }
 
 /// Which slices of a brick are held when one of them is asked for: those of its half of the brick, or this one.

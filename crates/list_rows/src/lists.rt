@@ -9,13 +9,14 @@ ghost use Rattle.list_rows.specs.Parts.{AreCells, HaveAllRows, part_cases, part_
 
 use crate::parts::{RowPart, RowParts, numbers_from, part_of};
 use flat_mesh::Heights;
-use row_bits::{CASES, EDGES, POINTS, list_cases, list_edges};
+use iso_base::{LONGEST_ROW, ROW_EDGES};
+use row_bits::{CASES, list_cases, list_edges};
 
 /// Buffers for a row that is kept whole: the flags of its points, and the cases of the cells that begin at them. They are made once, since
 /// what stands in them is written over, and to clear them for each row takes long.
 #[derive(Drop)]
 pub struct WholeRow {
-    pub flags: [u8; POINTS],
+    pub flags: [u8; LONGEST_ROW],
     pub cases: [u16; CASES],
 }
 
@@ -23,7 +24,7 @@ impl WholeRow {
     /// Buffers for any row.
     pub fn new() -> WholeRow {
         WholeRow {
-            flags: [0; POINTS],
+            flags: [0; LONGEST_ROW],
             cases: [0; CASES],
         }
     }
@@ -31,7 +32,11 @@ impl WholeRow {
 
 /// Lists the crossing edges of a row at the front of a buffer, by the numbers of its points, and says how many there are. `row` is a
 /// buffer too.
-pub fn list_whole_edges(numbers: &[u16], row: &mut [u8; POINTS], edges: &mut [u16; EDGES]) -> usize
+pub fn list_whole_edges(
+    numbers: &[u16],
+    row: &mut [u8; LONGEST_ROW],
+    edges: &mut [u16; ROW_EDGES],
+) -> usize
     requires { length numbers.now ≤ 1026 }
     ensures put { take result edges.new ≡ edges_among (flags_of numbers.now) 0 (length numbers.now) }
     ensures count { result ≤ 3 * length numbers.now }
@@ -48,8 +53,8 @@ pub fn list_whole_edges(numbers: &[u16], row: &mut [u8; POINTS], edges: &mut [u1
 pub fn list_whole_cells(
     numbers: &[u16],
     all: &mut [u16; CASES],
-    places: &mut [u16; POINTS],
-    cases: &mut [u16; POINTS],
+    places: &mut [u16; LONGEST_ROW],
+    cases: &mut [u16; LONGEST_ROW],
 ) -> usize
     requires some { 0 < length numbers.now }
     requires few { length numbers.now ≤ 1026 }
@@ -67,8 +72,8 @@ pub fn list_whole_cells(
 #[derive(Drop)]
 pub struct CellLists {
     pub all: [u16; CASES],
-    pub places: [u16; POINTS],
-    pub cases: [u16; POINTS],
+    pub places: [u16; LONGEST_ROW],
+    pub cases: [u16; LONGEST_ROW],
 }
 
 impl CellLists {
@@ -76,8 +81,8 @@ impl CellLists {
     pub fn new() -> CellLists {
         CellLists {
             all: [0; CASES],
-            places: [0; POINTS],
-            cases: [0; POINTS],
+            places: [0; LONGEST_ROW],
+            cases: [0; LONGEST_ROW],
         }
     }
 }
@@ -120,7 +125,7 @@ pub fn list_row_edges<H: Heights>(
     y: u32,
     z: u32,
     whole: &mut WholeRow,
-    edges: &mut [u16; EDGES],
+    edges: &mut [u16; ROW_EDGES],
 ) -> usize
     requires y { y < (H.leveled field.now).grid.ny }
     requires z { z < (H.leveled field.now).grid.nz }
@@ -144,8 +149,8 @@ pub fn list_row_edges<H: Heights>(
 pub fn list_few_cells(
     rows: &RowParts,
     part: RowPart,
-    places: &mut [u16; POINTS],
-    cases: &mut [u16; POINTS],
+    places: &mut [u16; LONGEST_ROW],
+    cases: &mut [u16; LONGEST_ROW],
 ) -> usize
     requires fit { part.start + part.edges + 2 * part.cells ≤ length rows.now.list.items }
     requires few { part.cells ≤ 1026 }

@@ -6,8 +6,8 @@ ghost use Rattle.list_rows.specs.Places.{HaveAllPlaces, HavePlaces};
 use crate::field::ListField;
 use crate::signs::are_all;
 use flat_mesh::Heights;
-use iso_base::Sizes;
-use row_bits::{EDGES, list_edges};
+use iso_base::{ROW_EDGES, Sizes};
+use row_bits::list_edges;
 use samples::Samples;
 use std::alloc::{AllocError, Global};
 
@@ -23,8 +23,8 @@ pub struct CrossingPlaces {
 #[derive(Drop)]
 pub struct PlaceBuffers {
     pub ends: Vec<i64>,
-    pub edges: [u16; EDGES],
-    pub places: [u16; EDGES],
+    pub edges: [u16; ROW_EDGES],
+    pub places: [u16; ROW_EDGES],
 }
 
 /// Buffers for the rows of a volume.
@@ -33,8 +33,8 @@ pub fn place_buffers(alloc: Global, sizes: &Sizes) -> Result<PlaceBuffers, Alloc
 {
     Ok(PlaceBuffers {
         ends: vec![in alloc; 0i64; 3 * sizes.nx() as usize]?,
-        edges: [0; EDGES],
-        places: [0; EDGES],
+        edges: [0; ROW_EDGES],
+        places: [0; ROW_EDGES],
     })
 }
 
@@ -45,7 +45,7 @@ fn put_front<S: Samples>(
     z: u32,
     edges: &[u16],
     ends: &mut [i64],
-    places: &mut [u16; EDGES],
+    places: &mut [u16; ROW_EDGES],
 )
     requires y { y < field.now.grid.ny }
     requires z { z < field.now.grid.nz }

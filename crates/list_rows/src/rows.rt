@@ -9,9 +9,8 @@ use crate::lists::{WholeRow, list_few_cells, list_row_edges, list_whole_cells};
 use crate::parts::{numbers_from, part_of};
 use crate::places::{count_row, place_row};
 use flat_mesh::{Cell, Heights};
-use iso_base::{Level, Memory, Sizes};
+use iso_base::{LONGEST_ROW, Level, Memory, ROW_EDGES, Sizes};
 use mesh_rows::{Counts, MeshRows};
-use row_bits::{EDGES, POINTS};
 use samples::Samples;
 use std::alloc::Global;
 use std::marker::Model;
@@ -87,7 +86,7 @@ impl<'a, S: Samples> MeshRows for ListRows<'a, S> {
         count_row(&self.field, &self.kept.places, y, z)
     }
 
-    fn list_edges(&mut self, y: u32, z: u32, edges: &mut [u16; EDGES]) -> usize {
+    fn list_edges(&mut self, y: u32, z: u32, edges: &mut [u16; ROW_EDGES]) -> usize {
         list_row_edges(&self.field, &self.kept.rows, y, z, &mut self.whole, edges)
     }
 
@@ -100,8 +99,8 @@ impl<'a, S: Samples> MeshRows for ListRows<'a, S> {
         &mut self,
         y: u32,
         z: u32,
-        places: &mut [u16; POINTS],
-        cases: &mut [u16; POINTS],
+        places: &mut [u16; LONGEST_ROW],
+        cases: &mut [u16; LONGEST_ROW],
     ) -> usize {
         let nx = self.field.sizes().nx() as usize;
         let rows = &self.kept.rows;

@@ -12,15 +12,15 @@ ghost use Rattle.mesh_lines.specs.RowLines.{AreFronts, AreLeast, AreParts, AreWh
 
 use crate::block::{Block, put_bytes};
 use crate::style::{Origin, Style};
-use iso_base::MeshFormat;
+use iso_base::{LONGEST_ROW, MeshFormat, ROW_EDGES};
 use mesh_text::{Fours, Lines, Piece};
 use std::marker::Model;
 
 /// The points of a row at most, and one more: an edge along x at the last one ends there.
-pub(crate) const FRONTS: usize = 1027;
+pub(crate) const FRONTS: usize = LONGEST_ROW + 1;
 
-/// The edges that begin at them.
-const EDGES: u16 = 3078;
+/// An offset behind that of each edge of a row.
+const ROW_END: u16 = ROW_EDGES as u16;
 
 /// Whether a whole coordinate is that of a pad's layer: it is printed with a sign.
 fn is_layer(origin: Origin, whole: u32) -> bool
@@ -254,8 +254,8 @@ pub(crate) fn least_of(origin: Origin, y: u32, z: u32) -> [u16; 3]
     ensures { AreLeast origin y z result }
 {
     let from_second = if is_layer(origin, 0) { 3 } else { 0 };
-    let along_y = if is_layer(origin, y) { EDGES } else { 0 };
-    let along_z = if is_layer(origin, z) { EDGES } else { 0 };
+    let along_y = if is_layer(origin, y) { ROW_END } else { 0 };
+    let along_z = if is_layer(origin, z) { ROW_END } else { 0 };
     [from_second, along_y, along_z]
 }
 

@@ -7,11 +7,8 @@ ghost use Rattle.mesh_lines.specs.Lines.{origin_coordinate, vertex_line};
 ghost use Rattle.mesh_lines.specs.declared.style.Origin.TheVariants.{Window};
 ghost use Rattle.mesh_lines.specs.Triangles.{first_of, letter_of};
 
-use iso_base::{MeshFormat, Point, Thousandth};
+use iso_base::{MeshFormat, PAD_SHIFT, Point, Thousandth};
 use mesh_text::{Counter, Lines, Number};
-
-/// A pad's layer along an axis, in thousandths.
-const LAYER: i64 = 1000;
 
 /// Where the coordinates of a mesh are counted from.
 #[derive(Clone, Copy)]
@@ -41,7 +38,7 @@ fn printed_at(stored: u32, origin: Origin, axis: usize) -> Thousandth
     let stored = i64::from(stored);
     Thousandth(match origin {
         Origin::Volume => stored,
-        Origin::Pad => stored - LAYER,
+        Origin::Pad => stored - PAD_SHIFT,
         Origin::Window(at) => 1000 * i64::from([at.x, at.y, at.z][axis]) + stored,
     })
 }

@@ -7,7 +7,7 @@ ghost use Rattle.mesh_rows.specs.Rows.{AreActive, AreEdges, row_names, row_place
 
 use crate::counts::Counts;
 use flat_mesh::Heights;
-use row_bits::{EDGES, POINTS};
+use iso_base::{LONGEST_ROW, ROW_EDGES};
 
 /// The rows of a volume at a level: of points, with the crossing edges that begin at them, and of cells, with their cases. A row
 /// is named by its coordinates along y and z. Contracts see the volume, what else no call changes, and how many cells were
@@ -34,7 +34,7 @@ pub trait MeshRows: Heights {
 
     /// Lists the crossing edges that begin in a row of points at the front of a buffer, in order of name, and says how many there
     /// are. An edge is three times how far its point is along x, and its axis.
-    fn list_edges(&mut self, y: u32, z: u32, edges: &mut [u16; EDGES]) -> usize
+    fn list_edges(&mut self, y: u32, z: u32, edges: &mut [u16; ROW_EDGES]) -> usize
         requires y { y < (Self.leveled self.old).grid.ny }
         requires z { z < (Self.leveled self.old).grid.nz }
         ensures few { result ≤ 3 * (Self.leveled self.old).grid.nx }
@@ -61,8 +61,8 @@ pub trait MeshRows: Heights {
         &mut self,
         y: u32,
         z: u32,
-        places: &mut [u16; POINTS],
-        cases: &mut [u16; POINTS],
+        places: &mut [u16; LONGEST_ROW],
+        cases: &mut [u16; LONGEST_ROW],
     ) -> usize
         requires y { y + 1 < (Self.leveled self.old).grid.ny }
         requires z { z + 1 < (Self.leveled self.old).grid.nz }

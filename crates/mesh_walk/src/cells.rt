@@ -5,8 +5,8 @@ ghost use Rattle.mesh_walk.specs.Cells.{AreCells};
 ghost use Rattle.mesh_walk.specs.Numbers.{AreQuiet, AreRowRanks, cost_of_row};
 
 use crate::walk::Walk;
+use iso_base::LONGEST_ROW;
 use mesh_rows::MeshRows;
-use row_bits::POINTS;
 
 /// A row of cells: where its first point is, and the `count` cells that may have loops, each by how far it is along x and
 /// the number of a case that has its loops. Most cells have none.
@@ -16,8 +16,8 @@ pub struct RowCells {
     pub z: u32,
     pub start: u32,
     pub count: usize,
-    pub places: [u16; POINTS],
-    pub cases: [u16; POINTS],
+    pub places: [u16; LONGEST_ROW],
+    pub cases: [u16; LONGEST_ROW],
 }
 
 impl RowCells {
@@ -28,8 +28,8 @@ impl RowCells {
             z: 0,
             start: 0,
             count: 0,
-            places: [0; POINTS],
-            cases: [0; POINTS],
+            places: [0; LONGEST_ROW],
+            cases: [0; LONGEST_ROW],
         }
     }
 

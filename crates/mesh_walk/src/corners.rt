@@ -14,7 +14,7 @@ use crate::slots::{CENTRES, edge_slots};
 use case_faces::{corner_count, corners_before, face_corners};
 use case_table::CaseRow;
 use cell_loops::centre_count;
-use row_bits::EDGES;
+use iso_base::ROW_EDGES;
 use std::simd::prelude::*;
 
 /// The slots of a table: those of all corners of triangles, and behind them some that are read and have no meaning.
@@ -126,7 +126,7 @@ pub fn list_corners(cells: &RowCells, table: &[u16; TABLE], list: &mut [u16; LIS
 }
 
 /// Lists the slots of the centres of a row's cells, from the first one that centres have on, and says how many there are.
-pub fn list_centres(cells: &RowCells, list: &mut [u16; EDGES]) -> usize
+pub fn list_centres(cells: &RowCells, list: &mut [u16; ROW_EDGES]) -> usize
     requires { AreLow cells.now }
     ensures put { take result list.new ≡ centre_slots_to cells.now cells.now.count }
     ensures count { result ≡ length (centre_slots_to cells.now cells.now.count) }

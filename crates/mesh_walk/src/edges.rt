@@ -12,9 +12,9 @@ use crate::ranks::RowPlace;
 use crate::walk::Walk;
 use byte_streams::{Failed, Sink};
 use flat_mesh::Heights;
+use iso_base::ROW_EDGES;
 use mesh_lines::{Block, RowTexts};
 use mesh_rows::MeshRows;
-use row_bits::EDGES;
 
 /// Fills in where the crossing edges of a row are crossed, at the front of a buffer.
 pub fn set_places<R: MeshRows>(
@@ -22,7 +22,7 @@ pub fn set_places<R: MeshRows>(
     y: u32,
     z: u32,
     edges: &[u16],
-    places: &mut [u16; EDGES],
+    places: &mut [u16; ROW_EDGES],
 )
     requires y { y < (R.leveled rows.old).grid.ny }
     requires z { z < (R.leveled rows.old).grid.nz }
@@ -42,8 +42,8 @@ pub fn set_places<R: MeshRows>(
 pub struct RowEdges {
     pub texts: RowTexts,
     pub count: usize,
-    pub edges: [u16; EDGES],
-    pub places: [u16; EDGES],
+    pub edges: [u16; ROW_EDGES],
+    pub places: [u16; ROW_EDGES],
 }
 
 impl RowEdges {
@@ -54,8 +54,8 @@ impl RowEdges {
         RowEdges {
             texts,
             count: 0,
-            edges: [0; EDGES],
-            places: [0; EDGES],
+            edges: [0; ROW_EDGES],
+            places: [0; ROW_EDGES],
         }
     }
 

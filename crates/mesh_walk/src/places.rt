@@ -10,9 +10,9 @@ use crate::slots::{Slots, row_slot};
 use crate::walk::Walk;
 use edge_points::rounded_mean;
 use flat_mesh::Heights;
+use iso_base::ROW_EDGES;
 use mesh_lines::Block;
 use mesh_rows::MeshRows;
-use row_bits::EDGES;
 use std::simd::prelude::*;
 
 /// The length of the list of places: two more than there are slots, so that eight can be read from each cell on.
@@ -121,8 +121,8 @@ fn lay_places<H: Heights>(
 #[derive(Drop)]
 pub struct EdgePlaces {
     pub places: [u16; PLACES],
-    pub edges: [u16; EDGES],
-    pub row: [u16; EDGES],
+    pub edges: [u16; ROW_EDGES],
+    pub row: [u16; ROW_EDGES],
 }
 
 impl EdgePlaces {
@@ -130,8 +130,8 @@ impl EdgePlaces {
     pub fn new() -> EdgePlaces {
         EdgePlaces {
             places: [0; PLACES],
-            edges: [0; EDGES],
-            row: [0; EDGES],
+            edges: [0; ROW_EDGES],
+            row: [0; ROW_EDGES],
         }
     }
 

@@ -12,10 +12,10 @@ use crate::corners::list_centres;
 use crate::slots::{CENTRES, Slots, TEXTS, row_slot};
 use crate::walk::Walk;
 use flat_mesh::Heights;
+use iso_base::ROW_EDGES;
 use mesh_lines::{Block, Style};
 use mesh_rows::MeshRows;
 use mesh_text::Number;
-use row_bits::EDGES;
 
 /// Sets the texts of the numbers of edges or of centres, from that of the first one on, in their slots, which begin at a place.
 fn set_texts(
@@ -46,7 +46,7 @@ fn set_texts(
 #[derive(Drop)]
 pub struct NumberTexts {
     pub texts: [Number; TEXTS],
-    offsets: [u16; EDGES],
+    offsets: [u16; ROW_EDGES],
 }
 
 impl NumberTexts {
@@ -54,7 +54,7 @@ impl NumberTexts {
     pub fn new() -> NumberTexts {
         NumberTexts {
             texts: [Number::none(); TEXTS],
-            offsets: [0; EDGES],
+            offsets: [0; ROW_EDGES],
         }
     }
 

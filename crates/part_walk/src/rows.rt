@@ -19,12 +19,12 @@ use crate::cells::{RowCells, add_cells};
 use crate::leaving::leave_edges;
 use crate::tally::Tally;
 use crate::walked::Walked;
-use brick_store::BrickStore;
+use brick_store::{BrickStore, bricks_along};
 use iso_base::{Level, Memory, Sizes, Steps};
 use span_tree::SpanTree;
 use std::alloc::Global;
 use std::sync::ledger::Ledger;
-use stitch_rows::{ActiveRow, CellRows, Field, case_row, count_along};
+use stitch_rows::{ActiveRow, CellRows, Field, case_row};
 
 /// Labels the loops of the cells that begin in a row of points, from their cases.
 fn add_row<T: Tally>(
@@ -57,7 +57,7 @@ fn add_row<T: Tally>(
         cases,
     };
     let last = sizes.nx() - 1;
-    let count = count_along(sizes.nx());
+    let count = bricks_along(sizes.nx());
     let mut x = active.next_from(field, 0);
     while x < count {
         let end = (8 * x + 8).min(last);
@@ -73,7 +73,7 @@ fn first_point(sizes: &Sizes, x: u32) -> u32
     requires x { x ≤ bricks_along sizes.now 0 }
     ensures { result ≡ first_point sizes.now x }
 {
-    if x < count_along(sizes.nx()) {
+    if x < bricks_along(sizes.nx()) {
         8 * x
     } else {
         sizes.nx()
@@ -100,7 +100,7 @@ fn leave_row<T: Tally>(
 {
     let sizes = field.sizes();
     let place = walked.labels.row_place(active.y + sizes.ny() * active.z);
-    let count = count_along(sizes.nx());
+    let count = bricks_along(sizes.nx());
     let mut x = active.next_from(field, 0);
     while x < count {
         let points = first_point(&sizes, x + 1) - 8 * x;
@@ -176,7 +176,7 @@ impl<'a, T: Tally> RowWalk<'a, T> {
     {
         let sizes = self.field.sizes();
         self.active.mark(&self.field, y, z);
-        if self.active.next_from(&self.field, 0) >= count_along(sizes.nx()) {
+        if self.active.next_from(&self.field, 0) >= bricks_along(sizes.nx()) {
             return Ok(());
         }
         self.add_row_here(rows, steps)?;

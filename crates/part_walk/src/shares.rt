@@ -6,12 +6,9 @@ ghost use Rattle.part_walk.specs.Shares.{CanMove, off_layer as six_off_layer, sh
 
 use crate::components::Component;
 use crate::sweep::Swept;
-use iso_base::Memory;
+use iso_base::{Memory, PAD_SHIFT};
 use measure::Share;
 use std::alloc::Global;
-
-/// A pad's layer along an axis, in thousandths.
-const LAYER: i128 = 1000;
 
 /// An area as wide as a share has it.
 fn widen(area: &[i64; 3]) -> [i128; 3]
@@ -32,7 +29,7 @@ fn off_layer(six: i128, area: &[i128; 3]) -> i128
     requires area { IsWithin (2 ^ 80) (vector_of area.now) }
     ensures { result ≡ six_off_layer six (vector_of area.now) }
 {
-    six - LAYER * (area[0] + area[1] + area[2])
+    six - PAD_SHIFT as i128 * (area[0] + area[1] + area[2])
 }
 
 /// The share of a component. With a pad, its positions are the stored ones less the layer.

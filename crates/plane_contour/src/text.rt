@@ -10,11 +10,8 @@ ghost use Rattle.plane_contour.specs.Texts.{contours_text, head_line, line_text,
 use crate::line::{Contours, Line};
 use arrayvec::ArrayString;
 use byte_streams::{Failed, LINES, Sink, gather, write_all_of};
-use iso_base::{EdgeName, Thousandth, put_decimal};
+use iso_base::{EdgeName, PAD_SHIFT, Thousandth, put_decimal};
 use number_digits::put_number;
-
-/// A pad's layer along an axis, in thousandths.
-const LAYER: i64 = 1000;
 
 /// Appends the text of contour lines: for each the line `cycle N` or `path N`, and for each of its N points the line
 /// `X Y`. Coordinates have three decimals; with a pad, the pad's layer is taken off each. `Failed` comes only where the
@@ -86,7 +83,7 @@ fn put_coordinate(value: Thousandth, padded: bool, into: &mut ArrayString<40>)
     ensures text { into.new.bytes ≡ into.old.bytes ++ decimal_text (printed_coordinate padded value.0) }
     ensures room { array_string_len into.new ≤ array_string_len into.old + 16 }
 {
-    let printed = if padded { value.0 - LAYER } else { value.0 };
+    let printed = if padded { value.0 - PAD_SHIFT } else { value.0 };
     let mut digits = ArrayString::new();
     put_decimal(Thousandth(printed), &mut digits);
     into.push_str(digits.as_str());

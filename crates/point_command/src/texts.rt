@@ -14,14 +14,11 @@ ghost use Rattle.point_command.specs.Rows.{AreTextsOf};
 
 use byte_streams::{Failed, Sink};
 use crossing_edges::{EdgeRows, RowEdges, SliceSigns};
-use iso_base::{Memory, MeshFormat, Sizes};
+use iso_base::{LONGEST_ROW, Memory, MeshFormat, Sizes};
 use mesh_lines::{Block, Origin, RowTexts, Style};
 use mesh_text::points_head_text;
 use samples::Samples;
 use std::alloc::Global;
-
-/// The points of the longest row.
-const ROW: usize = 1026;
 
 /// How points are written.
 const STYLE: Style = Style {
@@ -152,7 +149,7 @@ fn write_points<S: Samples, K: Sink>(
     ensures { Puts (K.seen sink.old) (K.seen sink.new) result
         (points_text (edge_points rows.now.grid (heights rows.now))) }
 {
-    let mut room = [0; ROW];
+    let mut room = [0; LONGEST_ROW];
     let flags = &mut room[..rows.sizes().nx() as usize];
     let mut block = Block::new();
     block.push(

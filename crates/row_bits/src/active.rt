@@ -6,10 +6,8 @@ ghost use Rattle.std.specs.Prelude.{◌≡◌, ℕ, ◌+◌, ◌-◌, ◌^◌, �
 ghost use Rattle.std.specs.Int.{bit_at};
 ghost use Rattle.row_bits.specs.Active.{active_among};
 
+use iso_base::LONGEST_ROW;
 use std::simd::prelude::*;
-
-/// The most points of a row.
-pub const POINTS: usize = 1026;
 
 /// The cells that are tested at once.
 const GROUP: usize = 32;
@@ -46,7 +44,7 @@ fn put_group(
     cases: &[u16; CASES],
     from: usize,
     count: usize,
-    cells: &mut [u16; POINTS],
+    cells: &mut [u16; LONGEST_ROW],
     at: usize,
 ) -> usize
     requires room { from + 32 ≤ 1056 }
@@ -68,7 +66,7 @@ fn put_group(
 }
 
 /// Lists those of so many cells of a row that have another case than 0, and says how many there are.
-pub fn list_active(cases: &[u16; CASES], count: usize, cells: &mut [u16; POINTS]) -> usize
+pub fn list_active(cases: &[u16; CASES], count: usize, cells: &mut [u16; LONGEST_ROW]) -> usize
     requires few { count ≤ 1026 }
     ensures put { take result cells.new ≡ active_among cases.now 0 count }
     ensures count { result ≡ length (active_among cases.now 0 count) }
@@ -88,8 +86,8 @@ pub fn list_active(cases: &[u16; CASES], count: usize, cells: &mut [u16; POINTS]
 pub fn list_cases(
     all: &[u16; CASES],
     count: usize,
-    places: &mut [u16; POINTS],
-    cases: &mut [u16; POINTS],
+    places: &mut [u16; LONGEST_ROW],
+    cases: &mut [u16; LONGEST_ROW],
 ) -> usize
     requires { count ≤ 1026 }
     ensures places { take result places.new ≡ active_among all.now 0 count }

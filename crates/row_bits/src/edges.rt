@@ -6,18 +6,16 @@
 ghost use Rattle.std.specs.Prelude.{◌≡◌, ℕ, ◌+◌, ◌-◌, ◌*◌, ◌%◌, ◌^◌, ◌<◌, ◌≤◌, ◌++◌, ◌∷◌, [], All, IsTrue, cond, length, map, slice_index, take};
 ghost use Rattle.row_bits.specs.Edges.{edges_among, edges_at};
 
+use iso_base::ROW_EDGES;
 use std::simd::prelude::*;
 
 /// The points that are passed over at once where no crossing edge begins.
 const BLOCK: usize = 32;
 
-/// So many lattice edges begin in the longest row of points.
-pub const EDGES: usize = 3078;
-
 /// Writes the offset of an edge, and says where the next one's goes: behind it, or over it where the edge is not crossing.
 /// So there is no branch whose way a processor would have to guess.
 #[inline(always)]
-fn put_edge(edge: u16, crossing: bool, edges: &mut [u16; EDGES], at: usize) -> usize
+fn put_edge(edge: u16, crossing: bool, edges: &mut [u16; ROW_EDGES], at: usize) -> usize
     requires { at < 3078 }
     ensures put { take result edges.new ≡ take at edges.old ++ cond crossing (edge ∷ []) [] }
     ensures end { result ≤ at + 1 }
@@ -28,7 +26,7 @@ fn put_edge(edge: u16, crossing: bool, edges: &mut [u16; EDGES], at: usize) -> u
 
 /// Writes the offsets of the crossing edges that begin at a point.
 #[inline(always)]
-fn put_point(flags: u8, x: u16, edges: &mut [u16; EDGES], at: usize) -> usize
+fn put_point(flags: u8, x: u16, edges: &mut [u16; ROW_EDGES], at: usize) -> usize
     requires x { x < 1026 }
     requires room { at + 3 ≤ 3078 }
     ensures put { take result edges.new ≡ take at edges.old ++ edges_at flags x }
@@ -41,7 +39,13 @@ fn put_point(flags: u8, x: u16, edges: &mut [u16; EDGES], at: usize) -> usize
 
 /// Writes those of the points from a place to before an end.
 #[inline(always)]
-fn put_points(flags: &[u8], from: usize, end: usize, edges: &mut [u16; EDGES], at: usize) -> usize
+fn put_points(
+    flags: &[u8],
+    from: usize,
+    end: usize,
+    edges: &mut [u16; ROW_EDGES],
+    at: usize,
+) -> usize
     requires from { from ≤ end }
     requires end { end ≤ length flags.now }
     requires few { length flags.now ≤ 1026 }
@@ -141,7 +145,7 @@ fn moved_on(offsets: &[u16; 8], by: u16, from: u16) -> [u16; 8]
 
 /// Writes eight numbers at once.
 #[inline(always)]
-fn put_numbers(numbers: &[u16; 8], edges: &mut [u16; EDGES], at: usize)
+fn put_numbers(numbers: &[u16; 8], edges: &mut [u16; ROW_EDGES], at: usize)
     requires { at + 8 ≤ 3078 }
     ensures { take (at + 8) edges.new ≡ take at edges.old ++ numbers.now }
 {
@@ -162,7 +166,7 @@ fn pair_at(flags: &[u8], x: usize) -> usize
 /// Writes the offsets of the crossing edges that begin at a point and the next one: eight numbers at once, of which so many
 /// stay as there are. So there is no branch whose way a processor would have to guess.
 #[inline(always)]
-fn put_pair(flags: &[u8], from: usize, k: usize, edges: &mut [u16; EDGES], at: usize) -> usize
+fn put_pair(flags: &[u8], from: usize, k: usize, edges: &mut [u16; ROW_EDGES], at: usize) -> usize
     requires flags { All (λ f. f < 8) flags.now }
     requires pair { from + k + 2 ≤ length flags.now }
     requires low { from + k ≤ 1023 }
@@ -192,7 +196,7 @@ fn eight_at(flags: &[u8], from: usize) -> u64
 
 /// Writes those of eight points, by the number of the eight, two points at a time: at once where there are none.
 #[inline(always)]
-fn put_eight(flags: &[u8], eight: usize, edges: &mut [u16; EDGES], at: usize) -> usize
+fn put_eight(flags: &[u8], eight: usize, edges: &mut [u16; ROW_EDGES], at: usize) -> usize
     requires flags { All (λ f. f < 8) flags.now }
     requires eight { 8 * eight + 8 ≤ length flags.now }
     requires few { length flags.now ≤ 1026 }
@@ -223,7 +227,13 @@ fn is_still(flags: &[u8], from: usize) -> bool
 
 /// Writes those of the points from one number of eight points to before another.
 #[inline(always)]
-fn put_eights(flags: &[u8], from: usize, end: usize, edges: &mut [u16; EDGES], at: usize) -> usize
+fn put_eights(
+    flags: &[u8],
+    from: usize,
+    end: usize,
+    edges: &mut [u16; ROW_EDGES],
+    at: usize,
+) -> usize
     requires flags { All (λ f. f < 8) flags.now }
     requires from { from ≤ end }
     requires end { 8 * end ≤ length flags.now }
@@ -241,7 +251,7 @@ fn put_eights(flags: &[u8], from: usize, end: usize, edges: &mut [u16; EDGES], a
 
 /// Writes those of the points of a block, by its number: at once where there are none.
 #[inline(always)]
-fn put_block(flags: &[u8], block: usize, edges: &mut [u16; EDGES], at: usize) -> usize
+fn put_block(flags: &[u8], block: usize, edges: &mut [u16; ROW_EDGES], at: usize) -> usize
     requires flags { All (λ f. f < 8) flags.now }
     requires block { 32 * block + 32 ≤ length flags.now }
     requires few { length flags.now ≤ 1026 }
@@ -257,7 +267,7 @@ fn put_block(flags: &[u8], block: usize, edges: &mut [u16; EDGES], at: usize) ->
 
 /// Writes the offsets of the crossing edges that begin at the points of a row, by their flags, and says how many there are. An
 /// offset is three times how far its point is along x, and the edge's axis.
-pub fn list_edges(flags: &[u8], edges: &mut [u16; EDGES]) -> usize
+pub fn list_edges(flags: &[u8], edges: &mut [u16; ROW_EDGES]) -> usize
     requires few { length flags.now ≤ 1026 }
     requires flags { All (λ f. f < 8) flags.now }
     ensures put { take result edges.new ≡ edges_among flags.now 0 (length flags.now) }

@@ -6,6 +6,6 @@ mod active;
 mod edges;
 mod words;
 
-pub use active::{CASES, POINTS, list_active, list_cases};
-pub use edges::{EDGES, list_edges};
+pub use active::{CASES, list_active, list_cases};
+pub use edges::list_edges;
 pub use words::mixed_at;

@@ -5,7 +5,8 @@ ghost use Rattle.stitch_rows.specs.Bricks.{AreMarked};
 ghost use Rattle.stitch.specs.Recent.{AreKnown};
 
 use crate::recent::{ListRoom, RecentLists};
-use row_bits::{EDGES, POINTS, list_edges};
+use iso_base::{LONGEST_ROW, ROW_EDGES};
+use row_bits::list_edges;
 use stitch_rows::{ActiveRow, Field, flag_row, place_row};
 
 /// Whether a slice of points lies in a slice of bricks of even number.
@@ -28,7 +29,7 @@ fn edges_key(field: &Field, y: u32, z: u32) -> u32
 
 /// Writes a list at the front of a buffer, and says how long it is.
 #[inline(always)]
-fn put_front(list: &[u16], buffer: &mut [u16; EDGES]) -> usize
+fn put_front(list: &[u16], buffer: &mut [u16; ROW_EDGES]) -> usize
     requires few { length list.now ≤ 3078 }
     ensures count { result ≡ length list.now }
     ensures list { take result buffer.new ≡ list.now }
@@ -39,7 +40,7 @@ fn put_front(list: &[u16], buffer: &mut [u16; EDGES]) -> usize
 
 /// Writes some cells and their cases one behind the other, and says how many numbers these are.
 #[inline(always)]
-fn join_cells(places: &[u16], cases: &[u16], list: &mut [u16; EDGES]) -> usize
+fn join_cells(places: &[u16], cases: &[u16], list: &mut [u16; ROW_EDGES]) -> usize
     requires few { length places.now ≤ 1026 }
     requires same { length cases.now ≡ length places.now }
     ensures count { result ≡ 2 * length places.now }
@@ -53,7 +54,11 @@ fn join_cells(places: &[u16], cases: &[u16], list: &mut [u16; EDGES]) -> usize
 
 /// The reverse, at the front of two buffers.
 #[inline(always)]
-fn part_cells(list: &[u16], places: &mut [u16; POINTS], cases: &mut [u16; POINTS]) -> usize
+fn part_cells(
+    list: &[u16],
+    places: &mut [u16; LONGEST_ROW],
+    cases: &mut [u16; LONGEST_ROW],
+) -> usize
     requires few { length list.now ≤ 2052 }
     ensures count { result ≡ length list.now / 2 }
     ensures places { take result places.new ≡ take result list.now }
@@ -69,8 +74,8 @@ fn part_cells(list: &[u16], places: &mut [u16; POINTS], cases: &mut [u16; POINTS
 fn list_marked(
     field: &Field,
     active: &ActiveRow,
-    flags: &mut [u8; POINTS],
-    edges: &mut [u16; EDGES],
+    flags: &mut [u8; LONGEST_ROW],
+    edges: &mut [u16; ROW_EDGES],
 ) -> usize
     requires active { AreMarked field.now active.now }
     requires y { active.now.y < field.now.grid.ny }
@@ -94,8 +99,8 @@ pub struct KnownRows<'a> {
     pub even: ActiveRow,
     pub odd: ActiveRow,
     pub recent: RecentLists<'a>,
-    flags: [u8; POINTS],
-    list: [u16; EDGES],
+    flags: [u8; LONGEST_ROW],
+    list: [u16; ROW_EDGES],
 }
 
 impl<'a> KnownRows<'a> {
@@ -109,8 +114,8 @@ impl<'a> KnownRows<'a> {
             even: ActiveRow::new(),
             odd: ActiveRow::new(),
             recent: RecentLists::new(room),
-            flags: [0; POINTS],
-            list: [0; EDGES],
+            flags: [0; LONGEST_ROW],
+            list: [0; ROW_EDGES],
         }
     }
 
@@ -173,7 +178,13 @@ impl<'a> KnownRows<'a> {
     }
 
     /// Lists the crossing edges of a row of points, and says how many there are.
-    pub fn list_edges(&mut self, field: &Field, y: u32, z: u32, edges: &mut [u16; EDGES]) -> usize
+    pub fn list_edges(
+        &mut self,
+        field: &Field,
+        y: u32,
+        z: u32,
+        edges: &mut [u16; ROW_EDGES],
+    ) -> usize
         requires y { y < field.now.grid.ny }
         requires z { z < field.now.grid.nz }
         requires known { AreKnown field.now self.old }
@@ -219,8 +230,8 @@ impl<'a> KnownRows<'a> {
         field: &Field,
         y: u32,
         z: u32,
-        places: &mut [u16; POINTS],
-        cases: &mut [u16; POINTS],
+        places: &mut [u16; LONGEST_ROW],
+        cases: &mut [u16; LONGEST_ROW],
     ) -> Option<usize>
         requires y { y < field.now.grid.ny }
         requires z { z < field.now.grid.nz }

@@ -17,9 +17,9 @@ use crate::counts::count_all;
 use crate::known::{KnownRows, is_even};
 use crate::recent::ListRoom;
 use flat_mesh::{Cell, Heights};
-use iso_base::{Sizes, Steps};
+use iso_base::{LONGEST_ROW, ROW_EDGES, Sizes, Steps};
 use mesh_rows::{Counts, MeshRows};
-use row_bits::{CASES, EDGES, POINTS, list_cases};
+use row_bits::{CASES, list_cases};
 use std::sync::ledger::Ledger;
 use stitch_rows::{ActiveRow, CellRows, Field, case_row};
 
@@ -154,7 +154,7 @@ impl<'a, R: CellRows, L: Ledger> MeshRows for StoreRows<'a, R, L> {
     }
 
     /// It looks at active bricks alone, and at none where the row was asked for not long before.
-    fn list_edges(&mut self, y: u32, z: u32, edges: &mut [u16; EDGES]) -> usize {
+    fn list_edges(&mut self, y: u32, z: u32, edges: &mut [u16; ROW_EDGES]) -> usize {
         self.known.list_edges(self.field, y, z, edges)
     }
 
@@ -168,8 +168,8 @@ impl<'a, R: CellRows, L: Ledger> MeshRows for StoreRows<'a, R, L> {
         &mut self,
         y: u32,
         z: u32,
-        places: &mut [u16; POINTS],
-        cases: &mut [u16; POINTS],
+        places: &mut [u16; LONGEST_ROW],
+        cases: &mut [u16; LONGEST_ROW],
     ) -> usize {
         if let Some(count) = self.known.find_cells(self.field, y, z, places, cases) {
             return count;

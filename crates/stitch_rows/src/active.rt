@@ -7,8 +7,9 @@ ghost use Rattle.stitch_rows.specs.Bricks.{AreMarked, AreNextTo, IsMarkedLayer, 
 ghost use Rattle.stitch_rows.specs.Rows.{AreStill};
 ghost use Rattle.mesh_rows.specs.Rows.{IsStill};
 
-use crate::bricks::{BrickRow, count_along};
+use crate::bricks::BrickRow;
 use crate::field::Field;
+use brick_store::bricks_along;
 
 /// The most bricks of a slice.
 const LAYER: usize = 16_641;
@@ -75,7 +76,7 @@ fn mark_layer(field: &Field, z: u32, layer: &mut ActiveLayer)
         return;
     }
     layer.first = row.first;
-    let count = count_along(sizes.nx()) * count_along(sizes.ny());
+    let count = bricks_along(sizes.nx()) * bricks_along(sizes.ny());
     mark_bricks(field, row.first, count, &mut layer.next_from);
 }
 
@@ -142,7 +143,7 @@ impl ActiveRow {
         ensures active { result ≡ not (is_active_row field.now self.now.y self.now.z) }
     {
         let sizes = field.sizes();
-        self.next(0) >= count_along(sizes.nx())
+        self.next(0) >= bricks_along(sizes.nx())
     }
 
     /// Where the next active brick stands from a place of the row on, at most behind its last brick: beyond the row where there is none. No
@@ -156,7 +157,7 @@ impl ActiveRow {
         ensures { AreStill field.now self.now.y self.now.z x result }
     {
         let sizes = field.sizes();
-        if x < count_along(sizes.nx()) {
+        if x < bricks_along(sizes.nx()) {
             self.next(x)
         } else {
             x

@@ -13,11 +13,11 @@ ghost use Rattle.stitch_rows.specs.Rows.{AreZerosFrom};
 ghost use Rattle.mesh_rows.specs.Rows.{AreCases, AreCasesTo};
 
 use crate::active::ActiveRow;
-use crate::bricks::{PointRow, count_along};
+use crate::bricks::PointRow;
 use crate::field::Field;
 use crate::named::CellRows;
 use arrayvec::ArrayVec;
-use brick_store::BrickId;
+use brick_store::{BrickId, bricks_along};
 use iso_base::Steps;
 use std::simd::prelude::*;
 use std::sync::ledger::Ledger;
@@ -109,7 +109,7 @@ pub fn case_row<R: CellRows, L: Ledger>(
 {
     let sizes = field.sizes();
     let row = PointRow::of(&sizes, active.y, active.z);
-    let last = count_along(sizes.nx()) - 1;
+    let last = bricks_along(sizes.nx()) - 1;
     put_zeros(cases);
     let mut x = active.next(0);
     while x < last {

@@ -9,8 +9,9 @@ ghost use Rattle.flat_mesh.specs.Rows.{row_start};
 ghost use Rattle.mesh_rows.specs.Rows.{AreEdges, row_places};
 ghost use Rattle.stitch_rows.specs.Bricks.{IsPointRow};
 
-use crate::bricks::{PointRow, count_along, row_place};
+use crate::bricks::{PointRow, row_place};
 use crate::field::Field;
+use brick_store::bricks_along;
 use edge_points::sample_place;
 use packed_samples::PackedRun;
 use samples::{Packed, sample_at};
@@ -68,7 +69,7 @@ fn place_edges<T: Packed>(
 {
     let sizes = field.sizes();
     let start = row_place(row.bricks);
-    let last = count_along(sizes.nx()) - 1;
+    let last = bricks_along(sizes.nx()) - 1;
     for i in 0..edges.len() {
         places[i] = place_of(field, copies, row, start, last, edges[i]);
     }

@@ -13,7 +13,6 @@ mod named;
 mod points;
 
 pub use active::ActiveRow;
-pub use bricks::count_along;
 pub use cases::case_row;
 pub use crossings::place_row;
 pub use field::Field;

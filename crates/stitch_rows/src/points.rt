@@ -12,9 +12,10 @@ ghost use Rattle.stitch_rows.specs.Bricks.{AreMarked, IsPointRow};
 ghost use Rattle.stitch_rows.specs.Rows.{AreRuns, AreZerosFrom};
 
 use crate::active::ActiveRow;
-use crate::bricks::{PointRow, count_along, row_place};
+use crate::bricks::{PointRow, row_place};
 use crate::field::{Field, Offset};
 use crate::flags::{Flagged, put_eight, put_last, put_zeros};
+use brick_store::bricks_along;
 use packed_samples::PackedRun;
 use samples::Packed;
 
@@ -135,7 +136,7 @@ fn flag_bricks<T: Flagged>(field: &Field, copies: &[T], active: &ActiveRow, flag
     let sizes = field.sizes();
     let row = PointRow::of(&sizes, active.y, active.z);
     let place = row_place(row.bricks);
-    let last = count_along(sizes.nx()) - 1;
+    let last = bricks_along(sizes.nx()) - 1;
     put_zeros(flags);
     let mut x = active.next(0);
     while x < last {

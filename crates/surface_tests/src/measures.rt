@@ -11,7 +11,9 @@ use crate::grids::{sizes_of, three_a_side, two_a_side};
 use crate::lists::{has_three_corners, surface_of};
 use crate::volumes::{one_above, one_below};
 use flat_mesh::{Mesh, extract_flat};
-use iso_base::{Level, Memory, Point, SampleKind, Sizes, TriangleList, VoxelData, point_of};
+use iso_base::{
+    Level, Memory, PAD_SHIFT, Point, SampleKind, Sizes, TriangleList, VoxelData, point_of,
+};
 use measure::{Measures, Share, measure};
 use std::alloc::Global;
 use std::process::Abort;
@@ -97,16 +99,13 @@ fn eight(alloc: Global, sizes: Sizes, first: i64, others: i64) -> Result<VoxelLi
     Ok(VoxelList::of(VoxelData::new(sizes, SampleKind::U8, samples)))
 }
 
-/// A pad's layer along an axis, in thousandths.
-const LAYER: i64 = 1000;
-
 /// The position of a vertex of a mesh, as it is printed.
 fn position_of(mesh: &Mesh, padded: bool, i: u32) -> [i64; 3]
     requires { i < length mesh.now.vertex_list }
 {
     let (_, [x, y, z]) = mesh.vertex(i);
     if padded {
-        [x.0 - LAYER, y.0 - LAYER, z.0 - LAYER]
+        [x.0 - PAD_SHIFT, y.0 - PAD_SHIFT, z.0 - PAD_SHIFT]
     } else {
         [x.0, y.0, z.0]
     }

@@ -14,13 +14,10 @@ ghost use Rattle.window_mesh.specs.Views.{InBox, boxed_at, boxed_list, whole_of,
 
 use crate::boxes::{WindowFault, window_sizes};
 use brick_store::BrickStore;
-use iso_base::{Level, Point, Sizes, index, point_of};
+use iso_base::{LONGEST_ROW, Level, Point, Sizes, index, point_of};
 use samples::{Packed, Samples, copy_all, put_signs, sample_sign};
 use std::marker::Model;
 use voxel_list::FillBox;
-
-/// The samples of a row of a grid at most.
-const LONGEST: usize = 1026;
 
 /// The samples of a box of a volume in bricks, the box taken as a volume of its own. They are not copied: each is asked for in
 /// the bricks. Contracts see the volume and the box.
@@ -144,7 +141,7 @@ impl<'a> BoxSamples<'a> {
     {
         // Reading the sizes brings in what is true of every box of a volume.
         let _ = self.sizes();
-        let mut row = [0; LONGEST];
+        let mut row = [0; LONGEST_ROW];
         let row = &mut row[..into.len()];
         self.copy_samples(point, row);
         copy_all(row, into);
@@ -187,7 +184,7 @@ impl<'a> BoxSamples<'a> {
     {
         let sizes = self.sizes();
         let (width, height) = (sizes.nx() as usize, sizes.ny());
-        let mut row = [0; LONGEST];
+        let mut row = [0; LONGEST_ROW];
         let row = &mut row[..width];
         for number in 0..height * sizes.nz() {
             let first = Point {

@@ -37,12 +37,12 @@ reach_y c =
 along_x : (c : After-bricks_along-along_y) → c.bricks_along-along_x.result ≡ bricks_along c.args.store.now.grid 0
 along_x c =
     let size : c.nx-2.result ≡ c.args.store.now.grid.nx = c.nx-2.ensures.value ∙ ap (λ (g : Grid). g.nx) c.sizes-sizes.ensures.value in
-    omega (arith, c.bricks_along-along_x.ensures, size)
+    omega (arith, c.bricks_along-along_x.ensures.value, size)
 
 along_y : (c : After-bricks_along-along_y) → c.bricks_along-along_y.result ≡ bricks_along c.args.store.now.grid 1
 along_y c =
     let size : c.ny-2.result ≡ c.args.store.now.grid.ny = c.ny-2.ensures.value ∙ ap (λ (g : Grid). g.ny) c.sizes-sizes.ensures.value in
-    omega (arith, c.bricks_along-along_y.ensures, size)
+    omega (arith, c.bricks_along-along_y.ensures.value, size)
 
 start : (c : After-bricks_along-along_y) (y : ℕ)
     → c.bricks_along-along_x.result * (y + c.bricks_along-along_y.result * c.args.z) ≡ brick_at c.args.store.now.grid 0 y c.args.z

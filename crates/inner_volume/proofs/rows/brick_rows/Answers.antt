@@ -7,8 +7,8 @@ use Rattle.inner_volume.proofs.rows.brick_rows.Goals as goal
 pub returns-clause-rows : goal.returns-clause-rows
 returns-clause-rows c =
     let v = c.args.store.now in
-    let x : (c.nx.result + 6) / 8 ≡ bricks_along v.grid 0 = omega (arith, c.nx.ensures.value, ap (λ (g : Grid). g.nx) c.sizes-stored.ensures.value) in
-    let y : (c.ny-3.result + 6) / 8 ≡ bricks_along v.grid 1 = omega (arith, c.ny-3.ensures.value, ap (λ (g : Grid). g.ny) c.sizes-stored.ensures.value) in
+    let x : c.bricks_along-along_x.result ≡ bricks_along v.grid 0 = omega (arith, c.bricks_along-along_x.ensures.value, c.nx.ensures.value, ap (λ (g : Grid). g.nx) c.sizes-stored.ensures.value) in
+    let y : c.bricks_along-along_y.result ≡ bricks_along v.grid 1 = omega (arith, c.bricks_along-along_y.ensures.value, c.ny-3.ensures.value, ap (λ (g : Grid). g.ny) c.sizes-stored.ensures.value) in
     let across : c.saturating_sub.result ≡ c.args.row % c.ny.result + c.layer_of-layer.result - 1 = omega (arith, c.saturating_sub.ensures) in
     let up : c.saturating_sub-2.result ≡ c.args.row / c.ny-2.result + c.layer_of-layer.result - 1 = omega (arith, c.saturating_sub-2.ensures) in
     rows_are v c.args.sizes.now _ c.sizes-stored.ensures.volume c.requires.sizes c.requires.row c.layer_of-layer.ensures.value

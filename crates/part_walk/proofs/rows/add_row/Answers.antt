@@ -57,7 +57,7 @@ returns g c =
     let l = c.loop-x.walked in
     let is = c.sizes-sizes.ensures.leveled.grid in
     let nx : c.nx.result ≡ v.grid.nx = c.nx.ensures.value ∙ ap (λ (s : Grid). s.nx) c.sizes-sizes.ensures.value in
-    let end : min (8 * c.loop-x.x) (v.grid.nx - 1) ≡ v.grid.nx - 1 = omega (arith, c.loop-x-test.false, c.count_along-count.ensures.value, nx) in
+    let end : min (8 * c.loop-x.x) (v.grid.nx - 1) ≡ v.grid.nx - 1 = omega (arith, c.loop-x-test.false, c.bricks_along-count.ensures.value, nx) in
     subst (λ ls. IsWalked g.T.Tally.value g.T.Tally.fits g.T.Tally.of_loop v (c.args.active.now.y + v.grid.ny * c.args.active.now.z) ls l.labels l.tallies.items l.edges)
     (ap (λ n. loops_before v (row_start v.grid c.args.active.now.y c.args.active.now.z + n)) end
     ∙ sym (quiet_to v c.args.active.now.y c.args.active.now.z (omega (arith, c.requires.y)) (omega (arith, c.requires.z)) (v.grid.nx - 1) v.grid.nx (omega arith) (omega arith) (λ x wide from low hy hz. absurd (omega (arith, wide, from))))) c.loop-x.invariant

@@ -34,7 +34,7 @@ leave_edges-requires-clause-place g c =
     let wide = ap (λ (s : Grid). s.nx) c.requires.state.labelled_are.grid in
     let nx : c.nx.result ≡ v.grid.nx = c.nx.ensures.value ∙ ap (λ (s : Grid). s.nx) c.sizes-sizes.ensures.value in
     let end : c.first_point.result ≡ first_point v.grid (c.loop-x.x + 1) = c.first_point.ensures ∙ ap (λ (s : Grid). first_point s (c.loop-x.x + 1)) c.sizes-sizes.ensures.value in
-    let low : c.loop-x.x < bricks_along v.grid 0 = omega (arith, c.loop-x-test.true, c.count_along-count.ensures.value, nx) in
+    let low : c.loop-x.x < bricks_along v.grid 0 = omega (arith, c.loop-x-test.true, c.bricks_along-count.ensures.value, nx) in
     let most = begin_low v.grid (c.loop-x.x + 1) in
     let least = brick_some v.grid c.loop-x.x low in
     omega (arith, known, end, most, least, c.row_place-place.ensures.bound, wide)
@@ -57,7 +57,7 @@ leave_edges-requires-clause-state g c =
     let fits : c.row_place-place.result + 3 * v.grid.nx ≤ room v.grid
     = subst (λ (s : Grid). c.row_place-place.result + 3 * s.nx ≤ room s) grid c.row_place-place.ensures.bound in
     let end : c.first_point.result ≡ first_point v.grid (c.loop-x.x + 1) = c.first_point.ensures ∙ ap (λ (s : Grid). first_point s (c.loop-x.x + 1)) c.sizes-sizes.ensures.value in
-    let low : c.loop-x.x < bricks_along v.grid 0 = omega (arith, c.loop-x-test.true, c.count_along-count.ensures.value, nx) in
+    let low : c.loop-x.x < bricks_along v.grid 0 = omega (arith, c.loop-x-test.true, c.bricks_along-count.ensures.value, nx) in
     let most = begin_low v.grid (c.loop-x.x + 1) in
     let least = brick_some v.grid c.loop-x.x low in
     let here = begin_in v.grid c.loop-x.x low in
@@ -89,7 +89,7 @@ loop-x-preserved g c = record {
       let fits : c.row_place-place.result + 3 * v.grid.nx ≤ room v.grid
       = subst (λ (s : Grid). c.row_place-place.result + 3 * s.nx ≤ room s) grid c.row_place-place.ensures.bound in
       let end : c.first_point.result ≡ first_point v.grid (c.loop-x.x + 1) = c.first_point.ensures ∙ ap (λ (s : Grid). first_point s (c.loop-x.x + 1)) c.sizes-sizes.ensures.value in
-      let low : c.loop-x.x < bricks_along v.grid 0 = omega (arith, c.loop-x-test.true, c.count_along-count.ensures.value, nx) in
+      let low : c.loop-x.x < bricks_along v.grid 0 = omega (arith, c.loop-x-test.true, c.bricks_along-count.ensures.value, nx) in
       let most = begin_low v.grid (c.loop-x.x + 1) in
       let least = brick_some v.grid c.loop-x.x low in
       let here = begin_in v.grid c.loop-x.x low in
@@ -110,7 +110,7 @@ returns g c =
     let k = row_here v c.args.active.now.y c.args.active.now.z c.requires.y c.requires.z g.T.Tally.value g.T.Tally.fits g.T.Tally.of_loop l.labels l.tallies.items l.edges is c.requires.state in
     let begun = row_begun v c.args.active.now.y c.args.active.now.z c.requires.y c.requires.z g.T.Tally.value g.T.Tally.fits g.T.Tally.of_loop l.labels l.tallies.items l.edges is c.requires.state in
     let nx : c.nx.result ≡ v.grid.nx = c.nx.ensures.value ∙ ap (λ (s : Grid). s.nx) c.sizes-sizes.ensures.value in
-    let end = begin_behind v.grid c.loop-x.x (omega (arith, c.loop-x-test.false, c.count_along-count.ensures.value, nx)) in
+    let end = begin_behind v.grid c.loop-x.x (omega (arith, c.loop-x-test.false, c.bricks_along-count.ensures.value, nx)) in
     subst
     (λ ts. IsWalked g.T.Tally.value g.T.Tally.fits g.T.Tally.of_loop v (row + 1) (loops_before v (row_start v.grid c.args.active.now.y c.args.active.now.z + v.grid.nx)) c.loop-x.walked.labels ts c.loop-x.walked.edges)
     (sym c.loop-x.invariant.tallies)
@@ -123,7 +123,7 @@ overflow_sub-points g c =
     let v = c.args.field.now in
     let nx : c.nx.result ≡ v.grid.nx = c.nx.ensures.value ∙ ap (λ (s : Grid). s.nx) c.sizes-sizes.ensures.value in
     let end : c.first_point.result ≡ first_point v.grid (c.loop-x.x + 1) = c.first_point.ensures ∙ ap (λ (s : Grid). first_point s (c.loop-x.x + 1)) c.sizes-sizes.ensures.value in
-    let least = brick_some v.grid c.loop-x.x (omega (arith, c.loop-x-test.true, c.count_along-count.ensures.value, nx)) in
+    let least = brick_some v.grid c.loop-x.x (omega (arith, c.loop-x-test.true, c.bricks_along-count.ensures.value, nx)) in
     omega (arith, end, least)
 
 pub overflow_mul-points-in-loop-x : goal.overflow_mul-points-in-loop-x
@@ -142,5 +142,5 @@ overflow_add-brick g c =
     let fits : c.row_place-place.result + 3 * v.grid.nx ≤ room v.grid
     = subst (λ (s : Grid). c.row_place-place.result + 3 * s.nx ≤ room s) c.requires.state.labelled_are.grid c.row_place-place.ensures.bound in
     let slice : v.grid.nx * v.grid.ny ≤ v.grid.nx * 1026 = mul-le-mul_left v.grid.nx is.y.most in
-    let low : c.loop-x.x < bricks_along v.grid 0 = omega (arith, c.loop-x-test.true, c.count_along-count.ensures.value, nx) in
+    let low : c.loop-x.x < bricks_along v.grid 0 = omega (arith, c.loop-x-test.true, c.bricks_along-count.ensures.value, nx) in
     omega (arith, fits, slice, low, is.x.most)

@@ -16,14 +16,14 @@ mark_bricks-requires-clause-first c =
     omega (arith, first, brick_in v.grid grid 0 0 c.args.z wide some c.requires.z, few_bricks v.grid grid)
 
 pub mark_bricks-requires-clause-count : goal.mark_bricks-requires-clause-count
-mark_bricks-requires-clause-count c = few_in_layer c.count_along.result c.count_along-2.result c.count_along.ensures.bound c.count_along-2.ensures.bound
+mark_bricks-requires-clause-count c = few_in_layer c.bricks_along.result c.bricks_along-2.result c.bricks_along.ensures.bound c.bricks_along-2.ensures.bound
 
 pub mark_bricks-requires-clause-room : goal.mark_bricks-requires-clause-room
-mark_bricks-requires-clause-room c = omega (arith, few_in_layer c.count_along.result c.count_along-2.result c.count_along.ensures.bound c.count_along-2.ensures.bound)
+mark_bricks-requires-clause-room c = omega (arith, few_in_layer c.bricks_along.result c.bricks_along-2.result c.bricks_along.ensures.bound c.bricks_along-2.ensures.bound)
 
 pub returns-clause-marked : goal.returns-clause-marked
 returns-clause-marked c =
     let v = c.args.field.now in
-    let x : c.count_along.result ≡ bricks_along v.grid 0 = omega (arith, c.count_along.ensures.value, c.nx.ensures.value, ap (λ (g : Grid). g.nx) c.sizes-sizes.ensures.value) in
-    let y : c.count_along-2.result ≡ bricks_along v.grid 1 = omega (arith, c.count_along-2.ensures.value, c.ny.ensures.value, ap (λ (g : Grid). g.ny) c.sizes-sizes.ensures.value) in
+    let x : c.bricks_along.result ≡ bricks_along v.grid 0 = omega (arith, c.bricks_along.ensures.value, c.nx.ensures.value, ap (λ (g : Grid). g.nx) c.sizes-sizes.ensures.value) in
+    let y : c.bricks_along-2.result ≡ bricks_along v.grid 1 = omega (arith, c.bricks_along-2.ensures.value, c.ny.ensures.value, ap (λ (g : Grid). g.ny) c.sizes-sizes.ensures.value) in
     subst (λ n. AreNextTo v c.of-row.result.first n c.mark_bricks.new.next_from) (ap₂ ◌*◌ x y) c.mark_bricks.ensures

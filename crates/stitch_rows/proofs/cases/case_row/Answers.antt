@@ -60,8 +60,8 @@ active_cases-requires-clause-active g c =
     let up : at.y + 1 < v.grid.ny = omega (arith, c.of-row.ensures.y, c.requires.y) in
     let far : at.z + 1 < v.grid.nz = omega (arith, c.of-row.ensures.z, c.requires.z) in
     let first = first_of v c.args.active.now at c.requires.active row c.of-row.ensures.y c.of-row.ensures.z in
-    let count : c.count_along-last.result ≡ bricks_along v.grid 0
-    = omega (arith, c.count_along-last.ensures.value, c.nx.ensures.value, ap (λ (g : Grid). g.nx) c.sizes-sizes.ensures.value) in
+    let count : c.bricks_along-last.result ≡ bricks_along v.grid 0
+    = omega (arith, c.bricks_along-last.ensures.value, c.nx.ensures.value, ap (λ (g : Grid). g.nx) c.sizes-sizes.ensures.value) in
     is_active_at v grid at.y at.z up far at.bricks row.bricks c.loop-x.x (omega (arith, count, c.loop-x-test.true)) c.loop-x.invariant.active
 
 pub next-x-requires-in-loop-x-clause-least : goal.next-x-requires-in-loop-x-clause-least
@@ -73,8 +73,8 @@ next-x-requires-in-loop-x-clause-least g c =
     let up : at.y + 1 < v.grid.ny = omega (arith, c.of-row.ensures.y, c.requires.y) in
     let far : at.z + 1 < v.grid.nz = omega (arith, c.of-row.ensures.z, c.requires.z) in
     let first = first_of v c.args.active.now at c.requires.active row c.of-row.ensures.y c.of-row.ensures.z in
-    let count : c.count_along-last.result ≡ bricks_along v.grid 0
-    = omega (arith, c.count_along-last.ensures.value, c.nx.ensures.value, ap (λ (g : Grid). g.nx) c.sizes-sizes.ensures.value) in
+    let count : c.bricks_along-last.result ≡ bricks_along v.grid 0
+    = omega (arith, c.bricks_along-last.ensures.value, c.nx.ensures.value, ap (λ (g : Grid). g.nx) c.sizes-sizes.ensures.value) in
     let low : c.loop-x.x + 1 < bricks_along v.grid 0 = omega (arith, count, c.loop-x-test.true) in
     least_of v grid at.y at.z up far at.bricks row.bricks c.args.active.now c.requires.active first (c.loop-x.x + 1) low
 
@@ -87,8 +87,8 @@ loop-x-smaller g c =
     let up : at.y + 1 < v.grid.ny = omega (arith, c.of-row.ensures.y, c.requires.y) in
     let far : at.z + 1 < v.grid.nz = omega (arith, c.of-row.ensures.z, c.requires.z) in
     let first = first_of v c.args.active.now at c.requires.active row c.of-row.ensures.y c.of-row.ensures.z in
-    let count : c.count_along-last.result ≡ bricks_along v.grid 0
-    = omega (arith, c.count_along-last.ensures.value, c.nx.ensures.value, ap (λ (g : Grid). g.nx) c.sizes-sizes.ensures.value) in
+    let count : c.bricks_along-last.result ≡ bricks_along v.grid 0
+    = omega (arith, c.bricks_along-last.ensures.value, c.nx.ensures.value, ap (λ (g : Grid). g.nx) c.sizes-sizes.ensures.value) in
     let low : c.loop-x.x + 1 < bricks_along v.grid 0 = omega (arith, count, c.loop-x-test.true) in
     let next = next_is v grid at.y at.z up far at.bricks row.bricks c.args.active.now c.requires.active first
     (c.loop-x.x + 1) c.next-x-in-loop-x.result low c.next-x-in-loop-x.ensures in
@@ -103,8 +103,8 @@ loop-x-preserved g c =
     let up : at.y + 1 < v.grid.ny = omega (arith, c.of-row.ensures.y, c.requires.y) in
     let far : at.z + 1 < v.grid.nz = omega (arith, c.of-row.ensures.z, c.requires.z) in
     let first = first_of v c.args.active.now at c.requires.active row c.of-row.ensures.y c.of-row.ensures.z in
-    let count : c.count_along-last.result ≡ bricks_along v.grid 0
-    = omega (arith, c.count_along-last.ensures.value, c.nx.ensures.value, ap (λ (g : Grid). g.nx) c.sizes-sizes.ensures.value) in
+    let count : c.bricks_along-last.result ≡ bricks_along v.grid 0
+    = omega (arith, c.bricks_along-last.ensures.value, c.nx.ensures.value, ap (λ (g : Grid). g.nx) c.sizes-sizes.ensures.value) in
     let names : Named = g.R.CellRows.named c.args.rows.now in
     let x = c.loop-x.x in
     let low : c.loop-x.x + 1 < bricks_along v.grid 0 = omega (arith, count, c.loop-x-test.true) in
@@ -146,8 +146,8 @@ active_cases-requires-then-x-last-clause-active g c =
     let up : at.y + 1 < v.grid.ny = omega (arith, c.of-row.ensures.y, c.requires.y) in
     let far : at.z + 1 < v.grid.nz = omega (arith, c.of-row.ensures.z, c.requires.z) in
     let first = first_of v c.args.active.now at c.requires.active row c.of-row.ensures.y c.of-row.ensures.z in
-    let count : c.count_along-last.result ≡ bricks_along v.grid 0
-    = omega (arith, c.count_along-last.ensures.value, c.nx.ensures.value, ap (λ (g : Grid). g.nx) c.sizes-sizes.ensures.value) in
+    let count : c.bricks_along-last.result ≡ bricks_along v.grid 0
+    = omega (arith, c.bricks_along-last.ensures.value, c.nx.ensures.value, ap (λ (g : Grid). g.nx) c.sizes-sizes.ensures.value) in
     subst (λ n. IsActive v (at.bricks.first + n)) c.if-x-last.true
     (is_active_at v grid at.y at.z up far at.bricks row.bricks c.loop-x.x (omega (arith, count, c.if-x-last.true)) c.loop-x.invariant.active)
 
@@ -162,7 +162,7 @@ pub returns-then-x-last-clause-cases : goal.returns-then-x-last-clause-cases
 returns-then-x-last-clause-cases g c =
     let size = ap (λ (g : Grid). g.nx) c.sizes-sizes.ensures.value in
     at_row (λ y z. AreCases c.args.field.now y z c.active_cases-then-x-last.new.cases) _ _ _ _ c.of-row.ensures.y c.of-row.ensures.z
-    (λ x in_row low. c.active_cases-then-x-last.ensures.cases x in_row (omega (arith, c.count_along-last.ensures.value, c.nx.ensures.value, size)))
+    (λ x in_row low. c.active_cases-then-x-last.ensures.cases x in_row (omega (arith, c.bricks_along-last.ensures.value, c.nx.ensures.value, size)))
 
 pub returns-then-x-last-clause-most : goal.returns-then-x-last-clause-most
 returns-then-x-last-clause-most g c =
@@ -173,10 +173,10 @@ returns-then-x-last-clause-most g c =
     let up : at.y + 1 < v.grid.ny = omega (arith, c.of-row.ensures.y, c.requires.y) in
     let far : at.z + 1 < v.grid.nz = omega (arith, c.of-row.ensures.z, c.requires.z) in
     let first = first_of v c.args.active.now at c.requires.active row c.of-row.ensures.y c.of-row.ensures.z in
-    let count : c.count_along-last.result ≡ bricks_along v.grid 0
-    = omega (arith, c.count_along-last.ensures.value, c.nx.ensures.value, ap (λ (g : Grid). g.nx) c.sizes-sizes.ensures.value) in
+    let count : c.bricks_along-last.result ≡ bricks_along v.grid 0
+    = omega (arith, c.bricks_along-last.ensures.value, c.nx.ensures.value, ap (λ (g : Grid). g.nx) c.sizes-sizes.ensures.value) in
     let names : Named = g.R.CellRows.named c.args.rows.now in
-    let last = c.count_along-last.result - 1 in
+    let last = c.bricks_along-last.result - 1 in
     let same = c.loop-x.invariant.same in
     let one = subst (λ (names : Named). c.active_cases-then-x-last.new.steps ≤ c.loop-x.steps + 8 * asked_among v.grid (heights v) names (at.bricks.first + last) 1)
     same c.active_cases-then-x-last.ensures.most in
@@ -184,15 +184,15 @@ returns-then-x-last-clause-most g c =
     (at_place c.loop-x.x (bricks_along v.grid 0) (omega (arith, count, c.if-x-last.true)) ∙ c.if-x-last.true) in
     let all = at_row (λ y z. asked_among v.grid (heights v) names at.bricks.first (last + 1) ≡ asked_along v.grid (heights v) names y z)
     _ _ _ _ c.of-row.ensures.y c.of-row.ensures.z
-    (asked_all v grid at.y at.z up far at.bricks row.bricks names (last + 1) (omega (arith, count, c.count_along-last.ensures.value, c.nx.ensures.grid))) in
+    (asked_all v grid at.y at.z up far at.bricks row.bricks names (last + 1) (omega (arith, count, c.bricks_along-last.ensures.value, c.nx.ensures.grid))) in
     omega (arith, asked_more v.grid (heights v) names at.bricks.first last 1, one, here, all, c.loop-x.invariant.most)
 
 pub returns-else-x-last-clause-cases : goal.returns-else-x-last-clause-cases
 returns-else-x-last-clause-cases g c =
     let size = ap (λ (g : Grid). g.nx) c.sizes-sizes.ensures.value in
-    let beyond : c.count_along-last.result - 1 < c.loop-x.x = omega (arith, c.loop-x-test.false, c.if-x-last.false) in
+    let beyond : c.bricks_along-last.result - 1 < c.loop-x.x = omega (arith, c.loop-x-test.false, c.if-x-last.false) in
     at_row (λ y z. AreCases c.args.field.now y z c.loop-x.cases) _ _ _ _ c.of-row.ensures.y c.of-row.ensures.z
-    (λ x in_row low. c.loop-x.invariant.cases x in_row (omega (arith, beyond, c.count_along-last.ensures.value, c.nx.ensures.value, size)))
+    (λ x in_row low. c.loop-x.invariant.cases x in_row (omega (arith, beyond, c.bricks_along-last.ensures.value, c.nx.ensures.value, size)))
 
 pub returns-else-x-last-clause-most : goal.returns-else-x-last-clause-most
 returns-else-x-last-clause-most g c =
@@ -203,8 +203,8 @@ returns-else-x-last-clause-most g c =
     let up : at.y + 1 < v.grid.ny = omega (arith, c.of-row.ensures.y, c.requires.y) in
     let far : at.z + 1 < v.grid.nz = omega (arith, c.of-row.ensures.z, c.requires.z) in
     let first = first_of v c.args.active.now at c.requires.active row c.of-row.ensures.y c.of-row.ensures.z in
-    let count : c.count_along-last.result ≡ bricks_along v.grid 0
-    = omega (arith, c.count_along-last.ensures.value, c.nx.ensures.value, ap (λ (g : Grid). g.nx) c.sizes-sizes.ensures.value) in
+    let count : c.bricks_along-last.result ≡ bricks_along v.grid 0
+    = omega (arith, c.bricks_along-last.ensures.value, c.nx.ensures.value, ap (λ (g : Grid). g.nx) c.sizes-sizes.ensures.value) in
     let names : Named = g.R.CellRows.named c.args.rows.now in
     let all : min c.loop-x.x (bricks_along v.grid 0) ≡ bricks_along v.grid 0 = omega (arith, count, c.loop-x-test.false, c.if-x-last.false) in
     let end : ℕ = min c.loop-x.x (bricks_along v.grid 0) in

@@ -15,8 +15,8 @@ next-x-requires-clause-least g c =
     let at = c.of-row.result in
     let row = subst (λ (g : Grid). IsPointRow g at) c.sizes-sizes.ensures.value c.of-row.ensures.row in
     let same = first_of v c.args.active.now at c.requires.active row c.of-row.ensures.y c.of-row.ensures.z in
-    let count : c.count_along-last.result ≡ bricks_along v.grid 0
-    = omega (arith, c.count_along-last.ensures.value, c.nx.ensures.value, ap (λ (g : Grid). g.nx) c.sizes-sizes.ensures.value) in
+    let count : c.bricks_along-last.result ≡ bricks_along v.grid 0
+    = omega (arith, c.bricks_along-last.ensures.value, c.nx.ensures.value, ap (λ (g : Grid). g.nx) c.sizes-sizes.ensures.value) in
     let next = noted v c.sizes-sizes.ensures.leveled.grid c.args.active.now at.y at.z at.bricks row.y_low row.z_low row.bricks c.requires.active same 0 (omega (arith, count, c.sizes-sizes.ensures.leveled.grid.x.least)) in
     omega (arith, next.least, same)
 
@@ -26,8 +26,8 @@ loop-x-init g c =
     let at = c.of-row.result in
     let row = subst (λ (g : Grid). IsPointRow g at) c.sizes-sizes.ensures.value c.of-row.ensures.row in
     let same = first_of v c.args.active.now at c.requires.active row c.of-row.ensures.y c.of-row.ensures.z in
-    let count : c.count_along-last.result ≡ bricks_along v.grid 0
-    = omega (arith, c.count_along-last.ensures.value, c.nx.ensures.value, ap (λ (g : Grid). g.nx) c.sizes-sizes.ensures.value) in
+    let count : c.bricks_along-last.result ≡ bricks_along v.grid 0
+    = omega (arith, c.bricks_along-last.ensures.value, c.nx.ensures.value, ap (λ (g : Grid). g.nx) c.sizes-sizes.ensures.value) in
     let next = noted v c.sizes-sizes.ensures.leveled.grid c.args.active.now at.y at.z at.bricks row.y_low row.z_low row.bricks c.requires.active same 0 (omega (arith, count, c.sizes-sizes.ensures.leveled.grid.x.least)) in
     let from = sym c.next-x.ensures ∙ ap (λ n. n + c.next-x.result) same in
     let long : length c.put_zeros.new.flags ≡ v.grid.nx = omega (arith, c.put_zeros.auto.flags, c.requires.flags) in
@@ -44,8 +44,8 @@ next-x-requires-in-loop-x-clause-least g c =
     let at = c.of-row.result in
     let row = subst (λ (g : Grid). IsPointRow g at) c.sizes-sizes.ensures.value c.of-row.ensures.row in
     let same = first_of v c.args.active.now at c.requires.active row c.of-row.ensures.y c.of-row.ensures.z in
-    let count : c.count_along-last.result ≡ bricks_along v.grid 0
-    = omega (arith, c.count_along-last.ensures.value, c.nx.ensures.value, ap (λ (g : Grid). g.nx) c.sizes-sizes.ensures.value) in
+    let count : c.bricks_along-last.result ≡ bricks_along v.grid 0
+    = omega (arith, c.bricks_along-last.ensures.value, c.nx.ensures.value, ap (λ (g : Grid). g.nx) c.sizes-sizes.ensures.value) in
     let next = noted v c.sizes-sizes.ensures.leveled.grid c.args.active.now at.y at.z at.bricks row.y_low row.z_low row.bricks c.requires.active same (c.loop-x.x + 1) (omega (arith, count, c.loop-x-test.true)) in
     omega (arith, next.least, same)
 
@@ -55,8 +55,8 @@ loop-x-smaller g c =
     let at = c.of-row.result in
     let row = subst (λ (g : Grid). IsPointRow g at) c.sizes-sizes.ensures.value c.of-row.ensures.row in
     let same = first_of v c.args.active.now at c.requires.active row c.of-row.ensures.y c.of-row.ensures.z in
-    let count : c.count_along-last.result ≡ bricks_along v.grid 0
-    = omega (arith, c.count_along-last.ensures.value, c.nx.ensures.value, ap (λ (g : Grid). g.nx) c.sizes-sizes.ensures.value) in
+    let count : c.bricks_along-last.result ≡ bricks_along v.grid 0
+    = omega (arith, c.bricks_along-last.ensures.value, c.nx.ensures.value, ap (λ (g : Grid). g.nx) c.sizes-sizes.ensures.value) in
     let next = noted v c.sizes-sizes.ensures.leveled.grid c.args.active.now at.y at.z at.bricks row.y_low row.z_low row.bricks c.requires.active same (c.loop-x.x + 1) (omega (arith, count, c.loop-x-test.true)) in
     omega (arith, next.least, same, c.next-x-in-loop-x.ensures, c.loop-x-test.true)
 
@@ -66,8 +66,8 @@ loop-x-preserved g c =
     let at = c.of-row.result in
     let row = subst (λ (g : Grid). IsPointRow g at) c.sizes-sizes.ensures.value c.of-row.ensures.row in
     let same = first_of v c.args.active.now at c.requires.active row c.of-row.ensures.y c.of-row.ensures.z in
-    let count : c.count_along-last.result ≡ bricks_along v.grid 0
-    = omega (arith, c.count_along-last.ensures.value, c.nx.ensures.value, ap (λ (g : Grid). g.nx) c.sizes-sizes.ensures.value) in
+    let count : c.bricks_along-last.result ≡ bricks_along v.grid 0
+    = omega (arith, c.bricks_along-last.ensures.value, c.nx.ensures.value, ap (λ (g : Grid). g.nx) c.sizes-sizes.ensures.value) in
     let next = noted v c.sizes-sizes.ensures.leveled.grid c.args.active.now at.y at.z at.bricks row.y_low row.z_low row.bricks c.requires.active same (c.loop-x.x + 1) (omega (arith, count, c.loop-x-test.true)) in
     let from = sym c.next-x-in-loop-x.ensures ∙ ap (λ n. n + c.next-x-in-loop-x.result) same in
     let behind : 8 * c.loop-x.x + 8 ≡ 8 * (c.loop-x.x + 1) = omega arith in
@@ -98,7 +98,7 @@ returns-then-x-last g c =
 pub returns-else-x-last : goal.returns-else-x-last
 returns-else-x-last g c =
     let v = c.args.field.now in
-    let beyond : c.count_along-last.result - 1 < c.loop-x.x = omega (arith, c.loop-x-test.false, c.if-x-last.false) in
+    let beyond : c.bricks_along-last.result - 1 < c.loop-x.x = omega (arith, c.loop-x-test.false, c.if-x-last.false) in
     let nx = ap (λ (g : Grid). g.nx) c.sizes-sizes.ensures.value in
     at_row (λ y z. AreFlags v y z c.loop-x.flags) _ _ _ _ c.of-row.ensures.y c.of-row.ensures.z
-    (c.loop-x.invariant.flags.all (omega (arith, beyond, c.count_along-last.ensures.value, c.nx.ensures.value, nx)))
+    (c.loop-x.invariant.flags.all (omega (arith, beyond, c.bricks_along-last.ensures.value, c.nx.ensures.value, nx)))

@@ -10,8 +10,8 @@ use Rattle.part_walk.specs.Walks.{IsWalked, loops_before}
 use Rattle.part_walk.proofs.RowLaws.{no_crossing, quiet_row, quiet_to, row_low, start_next}
 use Rattle.part_walk.proofs.rows.RowWalk.walk_row.Goals as goal
 
-pub returns-then-next_from-count_along-clause-state : goal.returns-then-next_from-count_along-clause-state
-returns-then-next_from-count_along-clause-state g c =
+pub returns-then-next_from-bricks_along-clause-state : goal.returns-then-next_from-bricks_along-clause-state
+returns-then-next_from-bricks_along-clause-state g c =
     let v = c.args.self.now.field in
     let row : ℕ = c.args.y + v.grid.ny * c.args.z in
     let is = c.sizes-sizes.ensures.leveled.grid in
@@ -19,7 +19,7 @@ returns-then-next_from-count_along-clause-state g c =
     let low = row_low v.grid c.args.y c.args.z c.requires.y c.requires.z in
     let l = c.args.self.now.walked in
     let nx : c.nx.result ≡ v.grid.nx = c.nx.ensures.value ∙ ap (λ (s : Grid). s.nx) c.sizes-sizes.ensures.value in
-    let far : v.grid.nx ≤ 8 * c.next_from.result + 1 = omega (arith, c.if-next_from-count_along.true, c.count_along.ensures.value, nx) in
+    let far : v.grid.nx ≤ 8 * c.next_from.result + 1 = omega (arith, c.if-next_from-bricks_along.true, c.bricks_along.ensures.value, nx) in
     let start : row_start v.grid c.args.y c.args.z + 0 ≡ row_start v.grid c.args.y c.args.z = omega arith in
     let quiet : loops_before v (row_start v.grid c.args.y c.args.z + v.grid.nx) ≡ loops_before v (row_start v.grid c.args.y c.args.z)
     = quiet_to v c.args.y c.args.z c.requires.y c.requires.z 0 v.grid.nx (omega arith) (omega arith) (λ x wide from low hy hz. still.cells x wide (omega arith) (omega (arith, wide, far)) hy hz) ∙ ap (loops_before v) start in

@@ -17,14 +17,14 @@ pub returns-clause-still : goal.returns-clause-still
 returns-clause-still c = λ t.
     let first = first_is c.args.field.now c.args.self.now c.requires.y c.requires.z c.requires.active in
     let v = c.args.field.now in
-    let count : c.count_along.result ≡ bricks_along v.grid 0 = omega (arith, c.count_along.ensures.value, c.nx.ensures.value, ap (λ (g : Grid). g.nx) c.sizes-sizes.ensures.value) in
-    let behind : c.count_along.result ≤ c.next.result = leb-true _ _ t in
+    let count : c.bricks_along.result ≡ bricks_along v.grid 0 = omega (arith, c.bricks_along.ensures.value, c.nx.ensures.value, ap (λ (g : Grid). g.nx) c.sizes-sizes.ensures.value) in
+    let behind : c.bricks_along.result ≤ c.next.result = leb-true _ _ t in
     row_still v c.args.self.now c.args.self.now.y c.args.self.now.z c.requires.y c.requires.z c.requires.active first c.next.result c.sizes-sizes.ensures.leveled c.next.ensures (omega (arith, count, behind))
 
 pub returns-clause-active : goal.returns-clause-active
 returns-clause-active c =
     let first = first_is c.args.field.now c.args.self.now c.requires.y c.requires.z c.requires.active in
     let v = c.args.field.now in
-    let count : c.count_along.result ≡ bricks_along v.grid 0 = omega (arith, c.count_along.ensures.value, c.nx.ensures.value, ap (λ (g : Grid). g.nx) c.sizes-sizes.ensures.value) in
+    let count : c.bricks_along.result ≡ bricks_along v.grid 0 = omega (arith, c.bricks_along.ensures.value, c.nx.ensures.value, ap (λ (g : Grid). g.nx) c.sizes-sizes.ensures.value) in
     ap (λ n. leb n c.next.result) count
     ∙ row_active v c.args.self.now c.args.self.now.y c.args.self.now.z c.requires.y c.requires.z c.requires.active first c.next.result c.sizes-sizes.ensures.leveled.grid c.next.ensures

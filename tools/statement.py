@@ -1,0 +1,210 @@
+#!/usr/bin/env python3
+"""Lists the definitions that a clause of `run` rests on, each once, those that it uses before it.
+
+    python3 tools/statement.py headline session_headline     the list: file, line, how many lines, name
+    python3 tools/statement.py --count headline               the numbers of definitions, lines and files
+
+A clause is a field of the record RunsAs in crates/commands/specs/Promise.antt; the name of any other definition of a
+specs/ folder does as well, as CRATE/FILE.NAME. Lines are those of definitions with the comments above them; blank lines,
+imports and heads of files are not counted, nor what the toolchain's library defines. Types that the code declares are
+listed, and not counted.
+"""
+import argparse
+import re
+import sys
+from dataclasses import dataclass, field
+from functools import lru_cache
+from pathlib import Path
+
+ROOT = Path(__file__).resolve().parents[1]
+PROMISE = ("commands", "Promise", "RunsAs")
+BEGINS = re.compile(r"(?:(?:abbrev|unfoldable)\s+)?(?:pub\s+)?(?:(record|data)\s+)?([^\s:(]+)")
+OPENS = re.compile(r"^(abbrev|unfoldable|pub|record|data)\b")
+IMPORT = re.compile(r"^use\s+Rattle\.(\w+)\.specs\.([\w.]+?)(?:\.\{(.*)\}|\s+as\s+([\w-]+))?$")
+WORD = re.compile(r"[^\s(){}\[\],;.λ→×∷]+(?:\.[^\s(){}\[\],;.λ→×∷]+)*")
+
+
+@dataclass
+class Definition:
+    """A definition of a specs/ folder: its name, where it stands, and its text with the comments above it."""
+
+    crate: str
+    file: str
+    name: str
+    line: int
+    lines: list = field(default_factory=list)
+
+    @property
+    def key(self):
+        return self.crate, self.file, self.name
+
+    @property
+    def path(self):
+        return f"crates/{self.crate}/specs/{self.file}.antt"
+
+    @property
+    def code(self):
+        return "\n".join(line for line in self.lines if not line.lstrip().startswith("--"))
+
+
+@dataclass
+class Page:
+    """A file of definitions: what it defines, and where the names come from that it imports."""
+
+    definitions: dict
+    imported: dict
+    qualified: dict
+
+
+def variants_of(definition):
+    """Returns the constructors of a data type, or the fields of a record, by which other definitions may name it."""
+    if not re.search(r"\bdata\b", definition.code.split(":")[0]):
+        return []
+    return re.findall(r"^\s+(\S+)\s+:", definition.code, re.M)
+
+
+@lru_cache(maxsize=None)
+def page_of(crate, file):
+    """Reads a file of definitions, or returns None if there is none."""
+    path = ROOT / "crates" / crate / "specs" / f"{file}.antt"
+    if not path.is_file():
+        return None
+    definitions, imported, qualified, above, last = {}, {}, {}, [], None
+    for number, line in enumerate(path.read_text(encoding="utf-8").splitlines(), 1):
+        found = IMPORT.match(line)
+        if found:
+            note_import(found, imported, qualified)
+        elif not line.strip():
+            above, last = [], None
+        elif line.startswith("--"):
+            above.append(line)
+            last = None
+        elif OPENS.match(line):
+            name = BEGINS.match(line)[2]
+            last = Definition(crate, file, name, number, [*above, line])
+            definitions[name] = last
+            above = []
+        elif last:
+            last.lines.append(line)
+    for definition in list(definitions.values()):
+        for name in variants_of(definition):
+            definitions.setdefault(name, definition)
+    return Page(definitions, imported, qualified)
+
+
+def note_import(found, imported, qualified):
+    """Notes from where the names of a `use` line come."""
+    crate, file, names, alias = found.groups()
+    if crate == "std":
+        return
+    if alias:
+        qualified[alias] = (crate, file)
+        return
+    for name in (names or "").split(","):
+        if name.strip():
+            imported[name.strip()] = (crate, file)
+
+
+def resolve(crate, file, name):
+    """Returns the definition of a name that a file uses, the type of the code that it names, or None."""
+    page = page_of(crate, file)
+    if page is None:
+        return None
+    head = name.split(".")[0]
+    if head in page.qualified:
+        return target(*page.qualified[head], name.split(".")[-1])
+    for word in (name, head):
+        if word in page.definitions:
+            return page.definitions[word]
+        if word in page.imported:
+            return target(*page.imported[word], word)
+    return None
+
+
+def target(crate, file, name):
+    """Returns what a name is that stands in a file of a crate: a definition, or a type that the code declares."""
+    if file.startswith("declared."):
+        parts = [part for part in file.split(".")[1:] if part != "TheVariants"]
+        return f"{crate}::{'::'.join(parts)}"
+    page = page_of(crate, file)
+    if page is None and "." in file:
+        # The constructors of a data type are a module of its file.
+        return target(crate, file.rsplit(".", 1)[0], file.rsplit(".", 1)[1])
+    return page.definitions.get(name) if page else None
+
+
+def uses_of(definition, text=None):
+    """Returns what the text of a definition names, in the order in which it does."""
+    found = []
+    for word in WORD.findall(definition.code if text is None else text):
+        one = resolve(definition.crate, definition.file, word)
+        if one is not None and one is not definition and one not in found:
+            found.append(one)
+    return found
+
+
+def clause_of(name):
+    """Returns the definition that holds a clause, and the clause's own text."""
+    if "." in name:
+        place, own = name.split(".")
+        crate, file = place.split("/")
+        definition = page_of(crate, file).definitions[own]
+        return definition, definition.code
+    crate, file, record = PROMISE
+    definition = page_of(crate, file).definitions[record]
+    found = re.search(rf"^  pub {name} :(.*?)(?=^  (?:pub|--)|\Z)", "\n".join(definition.lines), re.M | re.S)
+    if not found:
+        sys.exit(f"{record} has no clause {name}")
+    return definition, found[1]
+
+
+def in_order(names):
+    """Returns the definitions that clauses rest on, those that one uses before it, and the types of the code."""
+    ordered, types, seen = [], [], set()
+
+    def visit(one):
+        if isinstance(one, str):
+            if one not in types:
+                types.append(one)
+            return
+        if one.key in seen:
+            return
+        seen.add(one.key)
+        for other in uses_of(one):
+            visit(other)
+        ordered.append(one)
+
+    sys.setrecursionlimit(10_000)
+    for name in names:
+        holder, text = clause_of(name)
+        seen.add(holder.key)
+        for one in uses_of(holder, text):
+            visit(one)
+        if "." in name:
+            ordered.append(holder)
+    return ordered, types
+
+
+def main():
+    parser = argparse.ArgumentParser(description=__doc__, formatter_class=argparse.RawDescriptionHelpFormatter)
+    parser.add_argument("clause", nargs="+", help="headline, session_headline, .., or CRATE/FILE.NAME")
+    parser.add_argument("--count", action="store_true", help="print the numbers alone")
+    parser.add_argument("--files", action="store_true", help="print the files with their numbers of lines")
+    words = parser.parse_args()
+    ordered, types = in_order(words.clause)
+    files = {}
+    for one in ordered:
+        files[one.path] = files.get(one.path, 0) + len(one.lines)
+    if words.files:
+        for path, lines in sorted(files.items(), key=lambda it: -it[1]):
+            print(f"{lines:5}  {path}")
+    elif not words.count:
+        for one in ordered:
+            print(f"{one.path}:{one.line}: {one.name} ({len(one.lines)})")
+        for one in types:
+            print(f"type of the code: {one}")
+    print(f"{len(ordered)} definitions, {sum(files.values())} lines, {len(files)} files")
+
+
+if __name__ == "__main__":
+    main()
