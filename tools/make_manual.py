@@ -1,5 +1,5 @@
 #!/usr/bin/env python3
-"""Makes the manual page and the completion for bash out of the help's own text, crates/command_words/src/help.rt.
+"""Makes the manual page and the completion for bash out of the help's own text, crates/arguments/src/help.rt.
 
     python3 tools/make_manual.py            ends with 1 if share/ is not what would be made
     python3 tools/make_manual.py --write    makes share/man/man1/isobench.1 and share/bash-completion/completions/isobench
@@ -11,7 +11,7 @@ import re
 import sys
 
 TOP = pathlib.Path(__file__).resolve().parent.parent
-HELP = TOP / "crates" / "command_words" / "src" / "help.rt"
+HELP = TOP / "crates" / "arguments" / "src" / "help.rt"
 WORDS = TOP / "crates" / "program" / "src"
 PAGE = TOP / "share" / "man" / "man1" / "isobench.1"
 COMPLETION = TOP / "share" / "bash-completion" / "completions" / "isobench"

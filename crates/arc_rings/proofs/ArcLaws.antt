@@ -7,7 +7,7 @@ use Rattle.iso_defs.specs.Cell.{Triangle}
 use Rattle.iso_defs.specs.Manifold.{HasThreeCorners, arcs, arc_of, runs, runs_of, all_runs, times_run}
 use Rattle.iso_defs.specs.Verdict.{triangle_at}
 use Rattle.iso_base.specs.Triangles.{IsBelow, triangle_of, triangles_of}
-use Rattle.verdict_laws.proofs.Counts.{count-cons, count-append, count_some}
+use Rattle.triangle_laws.proofs.Counts.{count-cons, count-append, count_some}
 use Rattle.arc_rings.specs.Arcs.{ArcBelow}
 
 pub triangle_is : (ts : List (List ℕ)) (k : ℕ) → k < length ts → triangle_at (triangles_of ts) k ≡ triangle_of (get_or ts k [])

@@ -12,10 +12,10 @@ use Rattle.edit_log.specs.declared.change.Change.TheVariants as changes
 use Rattle.edit_log.specs.Boxes.{IsBox, IsInnerArea, area_samples, filled, restored}
 use Rattle.edit_log.specs.Changes.{moment, with_samples}
 use Rattle.edit_log.proofs.Inverses.{set_back, restored-filled, length-area_samples, area_samples_are}
-use Rattle.inner_volume.specs.Places.{IsInside}
+use Rattle.unpadded_volume.specs.Places.{IsInside}
 use Rattle.bench_core.specs.Machine.{with_sample}
 use Rattle.bench_core.specs.History.{Leads}
-use Rattle.inner_volume.proofs.Insides.{inside_is_inner, inside_area}
+use Rattle.unpadded_volume.proofs.Insides.{inside_is_inner, inside_area}
 
 -- a box between points inside holds no pad
 pub inner_area : (v : Volume) (a : Area) → IsInside v a.low → IsInside v a.high → IsInnerArea v a

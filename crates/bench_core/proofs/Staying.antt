@@ -13,7 +13,7 @@ use Rattle.iso_defs.specs.Bricks.{brick_count, brick_point, brick_start, in_bric
 use Rattle.iso_defs.proofs.Points.{x_index, y_index, z_index, index_in}
 use Rattle.iso_base.specs.Points.{point_at}
 use Rattle.iso_base.specs.Volume.{Volume, IsVolume, sample}
-use Rattle.verdict_laws.proofs.Lists.{In, in_filter}
+use Rattle.triangle_laws.proofs.Lists.{In, in_filter}
 use Rattle.voxel_list.specs.Areas.{Area, between, is_in_area}
 use Rattle.brick_store.proofs.BrickNumbers as numbers
 use Rattle.brick_store.proofs.Writing.{in_range}
@@ -25,7 +25,7 @@ use Rattle.mesh_cache.specs.Economy.{IsRight, Refresh, SameSamples, is_waiting, 
 use Rattle.mesh_cache.proofs.Refreshing.{refresh_bounded, refresh_right}
 use Rattle.mesh_cache.proofs.Turns.{all_below}
 use Rattle.mesh_cache.proofs.Points.{right_stays}
-use Rattle.kept_mesh.proofs.Waits.{fewer_wait}
+use Rattle.cached_mesh.proofs.Waits.{fewer_wait}
 use Rattle.edit_log.specs.declared.change.Change.{Change}
 use Rattle.edit_log.specs.declared.change.Change.TheVariants as changes
 use Rattle.edit_log.specs.Boxes.{area_place, replaced}

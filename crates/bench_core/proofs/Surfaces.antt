@@ -21,7 +21,7 @@ use Rattle.mesh_laws.proofs.OneVertex.{one_vertex_per_crossing}
 use Rattle.mesh_laws.proofs.Padded.{run_off_border}
 use Rattle.mesh_laws.proofs.Sizes.{corners_low}
 use Rattle.mesh_laws.proofs.Used.{oriented_surface}
-use Rattle.verdict_laws.proofs.Lists.{In}
+use Rattle.triangle_laws.proofs.Lists.{In}
 use Rattle.bench_core.specs.Machine.{IsAbovePad}
 use Rattle.bench_core.specs.Surface.{IsWatertight}
 

@@ -22,7 +22,7 @@ use Rattle.mesh_lines.specs.Lines.{text_of, written_of}
 use Rattle.mesh_lines.specs.declared.style.Origin.TheVariants.{Window}
 use Rattle.mesh_lines.specs.declared.style.Style.{Style}
 use Rattle.mesh_lines.proofs.Texts as lines
-use Rattle.inner_volume.specs.Places.{IsInside}
+use Rattle.unpadded_volume.specs.Places.{IsInside}
 use Rattle.bench_core.specs.Windows.{WritesWindow, inner_corner, mesh_in, numbers_with, text_at, thin_fault, window_fault, window_text, window_written}
 
 -- a point off the pad's layer is one of the grid

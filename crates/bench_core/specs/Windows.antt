@@ -14,7 +14,7 @@ use Rattle.flat_mesh.specs.Mesh.{mesh_of}
 use Rattle.mesh_more.specs.Texts.{moved_text}
 use Rattle.window_laws.specs.Windows.{thin_axis}
 use Rattle.window_mesh.specs.Crops.{cropped, window_of}
-use Rattle.inner_volume.specs.Places.{place_of}
+use Rattle.unpadded_volume.specs.Places.{place_of}
 use Rattle.bench_core.specs.Machine.{State, area_by, three_from}
 use Rattle.bench_core.specs.Texts.{FailsToWrite}
 

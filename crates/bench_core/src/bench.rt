@@ -3,7 +3,7 @@
 ghost use Rattle.std.specs.Prelude.{◌≡◌, ◌⊎◌, ◌+◌, ◌*◌, ◌<◌, ◌≤◌, take, length, is_some, IfSome, IfNone, IsSomeAnd, None, Some, Ok, IfOk, IfErr, OnOk, IsErrOf, All};
 ghost use Rattle.iso_base.specs.Samples.{IsSample, least_of, greatest_of};
 ghost use Rattle.mesh_cache.specs.Cache.{IsCache};
-ghost use Rattle.inner_volume.specs.Places.{IsInside, place_of, plane_of};
+ghost use Rattle.unpadded_volume.specs.Places.{IsInside, place_of, plane_of};
 ghost use Rattle.measure.specs.Measures.{HasNoArea};
 ghost use Rattle.part_laws.specs.Printed.{HasNoBorder, HasOneVolumeIn};
 ghost use Rattle.bench_core.specs.Surface.{IsCutOfMesh, IsWatertight};
@@ -14,23 +14,22 @@ ghost use Rattle.bench_core.specs.Machine.{IsAbovePad, IsState, IsStep, IsSureSt
 ghost use Rattle.bench_core.specs.Keeping.{IsRightBench, Keeps, Refreshes, fill_area, first_area, first_bench, set_area, turn_steps, waiting_bricks, without_points, write_steps};
 ghost use Rattle.bench_core.specs.Windows.{WritesWindow, window_area};
 ghost use Rattle.window_mesh.specs.Crops.{IsWindowOfMesh};
-ghost use Rattle.inner_volume.specs.Unpadded.{inner_voxels};
+ghost use Rattle.unpadded_volume.specs.Unpadded.{inner_voxels};
 ghost use Rattle.nrrd_read.specs.Nrrd.{nrrd_of};
 
 use crate::contour::plane_contours;
 use crate::edits::{area_change, is_in_range, one_change};
 use crate::fault::BeginFault;
 use crate::follow::follow;
+use crate::mesh_numbers::{walked_measures, walked_numbers};
 use crate::ranks::ranks_of;
-use crate::walked::{walked_measures, walked_numbers};
 use crate::windows::{Window, write_window};
 use brick_store::BrickStore;
+use cached_mesh::{KeptVolume, refresh_bricks, write_mesh};
 use edge_points::RowRanks;
 use edit_log::{Change, EditLog};
-use inner_volume::{place_in, plane_in, write_hex, write_text, write_volume};
 use iso_base::{BenchFault, Level, MeshFormat, Point, SampleKind, Steps, Written};
 use iso_io::Shelf;
-use kept_mesh::{KeptVolume, refresh_bricks, write_mesh};
 use measure::Measures;
 use mesh_cache::{Capacity, MeshCache};
 use mesh_report::Report;
@@ -40,6 +39,7 @@ use span_tree::SpanTree;
 use std::alloc::Global;
 use std::marker::Model;
 use std::sync::ledger::Ledger;
+use unpadded_volume::{place_in, plane_in, write_hex, write_text, write_volume};
 use voxel_list::{FillBox, VoxelList};
 
 /// A volume in bricks, a level, and the changes that led there or were taken back. Contracts see it as the state of the

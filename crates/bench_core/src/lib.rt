@@ -8,9 +8,9 @@ mod contour;
 mod edits;
 mod fault;
 mod follow;
+mod mesh_numbers;
 mod ranks;
 mod surface;
-mod walked;
 mod windows;
 
 pub use bench::Bench;

@@ -3,23 +3,23 @@
 ghost use Rattle.std.specs.Prelude.{◌≡◌, OnOk, Some};
 ghost use Rattle.voxel_list.specs.Areas.{IsArea};
 ghost use Rattle.window_mesh.specs.Crops.{IsWindowOfMesh};
-ghost use Rattle.inner_volume.specs.Places.{IsInside};
+ghost use Rattle.unpadded_volume.specs.Places.{IsInside};
 ghost use Rattle.bench_core.specs.Windows.{WritesWindow, inner_corner};
 
 use brick_store::BrickStore;
-use inner_volume::layer_of;
 use iso_base::{BenchFault, Level, MeshFormat, Point, Written};
 use iso_io::{Failed, FileText, Shelf, Sink, write_file};
 use list_mesh::ListMesh;
 use mesh_lines::{Origin, Style};
 use samples::Samples;
 use std::alloc::Global;
+use unpadded_volume::layer_of;
 use voxel_list::FillBox;
 use window_mesh::BoxSamples;
 
 /// So many bytes of stack are taken to write a window, beyond the buffers of `write_window`, which are in its own frame: those
-/// that `Block::new` moves. `tools/measure_stack.py` finds whether they are enough.
-const DEPTH: usize = 300_000;
+/// that `LineBuffer::new` moves. `tools/measure_stack.py` finds whether they are enough.
+const STACK_BYTES: usize = 300_000;
 
 /// A window to be written: a box of points of the stored grid, the format of the text, and the name of the file.
 #[derive(Clone, Copy)]
@@ -46,12 +46,12 @@ fn corner_of(store: &BrickStore, area: &FillBox) -> Point
 
 /// The text of a mesh in a style.
 #[derive(Drop)]
-struct MeshText<'a, S: Samples> {
+struct WindowText<'a, S: Samples> {
     mesh: ListMesh<'a, S>,
     style: Style,
 }
 
-impl<'a, S: Samples> FileText for MeshText<'a, S> {
+impl<'a, S: Samples> FileText for WindowText<'a, S> {
     ghost use Rattle.flat_mesh.specs.Lattice.{heights};
     ghost use Rattle.flat_mesh.specs.Mesh.{mesh_of};
     ghost use Rattle.mesh_lines.specs.Lines.{text_of, written_of};
@@ -91,6 +91,6 @@ pub fn write_window<H: Shelf>(
         format: window.format,
         origin: Origin::Window(corner_of(store, &window.area)),
     };
-    let mut text = MeshText { mesh, style };
-    Ok(write_file::<_, _, DEPTH>(shelf, window.name, &mut text)?)
+    let mut text = WindowText { mesh, style };
+    Ok(write_file::<_, _, STACK_BYTES>(shelf, window.name, &mut text)?)
 }

@@ -2,7 +2,7 @@
 
 ghost use Rattle.std.specs.Prelude.{◌≡◌, IfSome, None};
 
-use crate::asked::{
+use crate::calls::{
     Edit, SaveAs, begin, change, contour, has_file, report, save, shelf, work, write,
 };
 use bench_core::{Bench, BenchFault, Capacity, Contours, Part, Report};

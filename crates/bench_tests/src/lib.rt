@@ -3,12 +3,12 @@
 #![tactic(auto)]
 
 #[cfg(test)]
-mod asked;
-#[cfg(test)]
 mod bench;
+#[cfg(test)]
+mod calls;
 #[cfg(test)]
 mod measures;
 #[cfg(test)]
-mod walked;
+mod random_volumes;
 #[cfg(test)]
 mod windows;

@@ -1,8 +1,8 @@
 //! Windows of the workbench: the worked examples in each format, and the windows of every box of a volume beside the filter of
 //! the text of its whole mesh.
 
-use crate::asked::{has_file, shelf, window, write};
 use crate::bench::{bench, dot_bench, four_a_side, mesh_of, padded_bench};
+use crate::calls::{has_file, shelf, window, write};
 use bench_core::{Bench, BenchFault};
 use iso_base::{MeshFormat, Verdict};
 use iso_io::MemShelf;

@@ -5,15 +5,15 @@ use Rattle.iso_defs.specs.Bricks.{bits_of, brick_cell, has_cell, is_mixed}
 use Rattle.iso_defs.specs.Cell.{cell_signs}
 use Rattle.brick_mesh.specs.Block.{BrickAt, IsCell, heights}
 use Rattle.brick_mesh.specs.Entries.{entries_from}
-use Rattle.brick_mesh.specs.Signs.{AreBytes, ArePlane}
+use Rattle.brick_mesh.specs.Signs.{AreBytes, AreSlice}
 use Rattle.brick_mesh.proofs.Mixed.{mixed_by_byte}
 use Rattle.brick_mesh.proofs.Runs.{entries_join, entries_none, is_active_in}
 
 -- a row of sign bytes behind those of the rows before it
-pub plane_put : (b : BrickAt) (z y start : ℕ) (old new row : List ℕ) → start ≡ 8 * y → ArePlane b z (8 * y) old → AreBytes b (y + 8 * z) row
+pub slice_put : (b : BrickAt) (z y start : ℕ) (old new row : List ℕ) → start ≡ 8 * y → AreSlice b z (8 * y) old → AreBytes b (y + 8 * z) row
     → ((x : ℕ) → x < 8 → get_or new (start + x) 0 ≡ get_or row x 0) → ((k : ℕ) → k < start → get_or new k 0 ≡ get_or old k 0)
-    → ArePlane b z (8 * (y + 1)) new
-plane_put b z y start old new row at are is inside before k low there =
+    → AreSlice b z (8 * (y + 1)) new
+slice_put b z y start old new row at are is inside before k low there =
     elim (cases_lt k start) [
       | inl less ↦ ap (bits_of 8) (before k less) ∙ are k (omega (arith, less, at)) there
       | inr more ↦ (let x : ℕ = k - start in
@@ -34,13 +34,13 @@ entry_gone b cell gone =
     ap (λ h. h && is_mixed (cell_signs b.grid (heights b) (brick_cell b.grid b.brick k))) none))
 
 -- nor has one whose byte is 0 or 255
-pub plane_quiet : (b : BrickAt) (z k : ℕ) (bytes : List ℕ) → z < 8 → k < 64 → ArePlane b z 64 bytes → get_or bytes k 0 < 256
+pub slice_quiet : (b : BrickAt) (z k : ℕ) (bytes : List ℕ) → z < 8 → k < 64 → AreSlice b z 64 bytes → get_or bytes k 0 < 256
     → cond {A = ℕ} (get_or bytes k 0 == 0 || get_or bytes k 0 == 255) 0 1 ≡ 0 → is_active_in b (64 * z + k) ≡ false
-plane_quiet b z k bytes plane low are small none =
+slice_quiet b z k bytes slice low are small none =
     let cell : ℕ = 64 * z + k in
     let byte : ℕ = get_or bytes k 0 in
     elim (cases_Bool (has_cell b.grid b.brick cell)) [
-      | inl there ↦ (let local : cell < 512 = omega (arith, plane, low) in
+      | inl there ↦ (let local : cell < 512 = omega (arith, slice, low) in
           let bits = are k low (record { local = local; there = there }) in
           ap₂ ◌&&◌ there (ap is_mixed (sym bits) ∙ (sym (mixed_by_byte byte small) ∙ alike (byte == 0) (byte == 255) none)))
       | inr not ↦ ap (λ h. h && is_mixed (cell_signs b.grid (heights b) (brick_cell b.grid b.brick cell))) not

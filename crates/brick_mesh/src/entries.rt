@@ -7,7 +7,7 @@ ghost use Rattle.case_table.specs.Cases.{are_ambiguous};
 ghost use Rattle.iso_base.specs.Shifted.{field};
 ghost use Rattle.brick_mesh.specs.Block.{HasPoint, IsCell, IsCellRow, heights};
 ghost use Rattle.brick_mesh.specs.Entries.{IsPlain, case_of, entries_from, first_cases};
-ghost use Rattle.brick_mesh.specs.Signs.{AreBytes, ArePlane, AreRows};
+ghost use Rattle.brick_mesh.specs.Signs.{AreBytes, AreSlice, AreRows};
 ghost use Rattle.brick_store.specs.Copies.{AreCopiesOf};
 ghost use Rattle.brick_store.specs.Holding.{points_along};
 
@@ -104,7 +104,7 @@ fn bytes_of_row(block: &Block<'_>, rows: &PairRows, row: u8) -> [u8; 8]
 
 /// Writes a row of sign bytes from a place on.
 #[inline(always)]
-fn put_bytes(row: &[u8; 8], start: usize, bytes: &mut [u8; 64])
+fn fill_bytes(row: &[u8; 8], start: usize, bytes: &mut [u8; 64])
     requires room { start + 8 ≤ 64 }
     ensures inside { (x : ℕ) → x < 8 → slice_index bytes.new (start + x) ≡ slice_index row.now x }
     ensures before { (k : ℕ) → k < start → slice_index bytes.new k ≡ slice_index bytes.old k }
@@ -114,15 +114,15 @@ fn put_bytes(row: &[u8; 8], start: usize, bytes: &mut [u8; 64])
 
 /// The sign bytes of a slice of cells, from the rows of signs.
 #[inline(always)]
-fn bytes_of_plane(block: &Block<'_>, rows: &PairRows, z: u8) -> [u8; 64]
+fn bytes_of_slice(block: &Block<'_>, rows: &PairRows, z: u8) -> [u8; 64]
     requires z { z < 8 }
     requires rows { AreRows block.now 81 rows.now }
-    ensures { ArePlane block.now z 64 result }
+    ensures { AreSlice block.now z 64 result }
 {
     let mut bytes = [0; 64];
     for y in 0..8 {
         let row = bytes_of_row(block, rows, y + 8 * z);
-        put_bytes(&row, 8 * usize::from(y), &mut bytes);
+        fill_bytes(&row, 8 * usize::from(y), &mut bytes);
     }
     bytes
 }
@@ -152,7 +152,7 @@ fn add_there<T: Packed, L: Ledger>(
 
 /// Puts the entries of a slice of cells behind those of the slices before it. The cells are gone through by the bits of
 /// a mask, since a processor cannot foresee which of them have a crossing edge.
-fn add_plane<T: Packed, L: Ledger>(
+fn add_slice<T: Packed, L: Ledger>(
     block: &Block<'_>,
     copies: &[T],
     rows: &PairRows,
@@ -167,7 +167,7 @@ fn add_plane<T: Packed, L: Ledger>(
     ensures entries { entries.new.items ≡ entries_from block.now 0 (64 * z + 64) }
     ensures counted { steps.new + length entries.old.items ≡ steps.old + length entries.new.items }
 {
-    let signs = bytes_of_plane(block, rows, z);
+    let signs = bytes_of_slice(block, rows, z);
     let mut bits = mixed_at(&signs, 0);
     let mut next = 0;
     while bits != 0 {
@@ -181,7 +181,7 @@ fn add_plane<T: Packed, L: Ledger>(
 }
 
 /// Puts the entries of a brick into an empty list.
-fn add_planes<T: Packed, L: Ledger>(
+fn add_slices<T: Packed, L: Ledger>(
     block: &Block<'_>,
     copies: &[T],
     rows: &PairRows,
@@ -196,7 +196,7 @@ fn add_planes<T: Packed, L: Ledger>(
     ensures bound { steps.new ≤ steps.old + 512 }
 {
     for z in 0..8 {
-        add_plane(block, copies, rows, z, entries, steps);
+        add_slice(block, copies, rows, z, entries, steps);
     }
 }
 
@@ -214,11 +214,11 @@ fn add_entries<L: Ledger>(
     ensures bound { steps.new ≤ steps.old + 512 }
 {
     match block.copies() {
-        PackedRun::U8(copies) => add_planes(block, copies, rows, entries, steps),
-        PackedRun::I16(copies) => add_planes(block, copies, rows, entries, steps),
-        PackedRun::U16(copies) => add_planes(block, copies, rows, entries, steps),
-        PackedRun::I32(copies) => add_planes(block, copies, rows, entries, steps),
-        PackedRun::I64(copies) => add_planes(block, copies, rows, entries, steps),
+        PackedRun::U8(copies) => add_slices(block, copies, rows, entries, steps),
+        PackedRun::I16(copies) => add_slices(block, copies, rows, entries, steps),
+        PackedRun::U16(copies) => add_slices(block, copies, rows, entries, steps),
+        PackedRun::I32(copies) => add_slices(block, copies, rows, entries, steps),
+        PackedRun::I64(copies) => add_slices(block, copies, rows, entries, steps),
     }
 }
 
@@ -291,7 +291,7 @@ fn push_cases<T: Packed, L: Ledger>(
 }
 
 /// Replaces the rows by the numbers of the cases of a row of cells.
-fn put_row<T: Packed, L: Ledger>(
+fn fill_row<T: Packed, L: Ledger>(
     block: &Block<'_>,
     copies: &[T],
     y: u8,
@@ -320,7 +320,7 @@ fn put_row<T: Packed, L: Ledger>(
 }
 
 /// Replaces the rows by the numbers of the cases of a row of cells, in whichever width the brick's samples are packed.
-fn put_cases<L: Ledger>(
+fn fill_cases<L: Ledger>(
     block: &Block<'_>,
     y: u8,
     z: u8,
@@ -333,11 +333,11 @@ fn put_cases<L: Ledger>(
     ensures bound { steps.new ≤ steps.old + 8 }
 {
     match block.copies() {
-        PackedRun::U8(copies) => put_row(block, copies, y, z, rows, steps),
-        PackedRun::I16(copies) => put_row(block, copies, y, z, rows, steps),
-        PackedRun::U16(copies) => put_row(block, copies, y, z, rows, steps),
-        PackedRun::I32(copies) => put_row(block, copies, y, z, rows, steps),
-        PackedRun::I64(copies) => put_row(block, copies, y, z, rows, steps),
+        PackedRun::U8(copies) => fill_row(block, copies, y, z, rows, steps),
+        PackedRun::I16(copies) => fill_row(block, copies, y, z, rows, steps),
+        PackedRun::U16(copies) => fill_row(block, copies, y, z, rows, steps),
+        PackedRun::I32(copies) => fill_row(block, copies, y, z, rows, steps),
+        PackedRun::I64(copies) => fill_row(block, copies, y, z, rows, steps),
     }
 }
 
@@ -361,5 +361,5 @@ pub fn extract_row<L: Ledger>(
     ensures bound { steps.new ≤ steps.old + 8 }
 {
     let block = Block::of(store, brick, level);
-    put_cases(&block, y, z, rows, steps);
+    fill_cases(&block, y, z, rows, steps);
 }

@@ -5,7 +5,7 @@ use Rattle.iso_defs.specs.Grid.{Grid}
 use Rattle.iso_base.specs.declared.kind.SampleKind.{SampleKind}
 use Rattle.iso_base.specs.Volume.{IsVolume}
 use Rattle.packed_samples.specs.Widths.{width_of}
-use Rattle.brick_store.specs.declared.kept.Kept.{Kept}
+use Rattle.brick_store.specs.declared.copy_list.Kept.{Kept}
 use Rattle.brick_store.specs.Copies.{AreCopies, samples_of}
 use Rattle.brick_store.specs.Kept.{IsStored, copies_in, kept_width}
 

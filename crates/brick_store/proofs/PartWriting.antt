@@ -13,7 +13,7 @@ use Rattle.brick_store.specs.declared.boxes.Values.{Values}
 use Rattle.brick_store.specs.declared.boxes.Values.TheVariants.{One}
 use Rattle.brick_store.specs.Copies.{copy_at, copy_place}
 use Rattle.packed_samples.specs.Runs.{row_set}
-use Rattle.brick_store.specs.Boxes.{ArePartWritten, IsBox, IsOfBox, IsOfPart, IsPartOf, IsWithin, area_place, one_layer, one_row, value_in}
+use Rattle.brick_store.specs.Boxes.{ArePartWritten, IsBox, IsOfBox, IsOfPart, IsPartOf, IsWithin, area_place, one_slice, one_row, value_in}
 use Rattle.brick_store.specs.Parts.{AreRowsPut, HasRows, IsPart, row_place, source_value}
 use Rattle.brick_store.proofs.BrickNumbers.{IsIn}
 use Rattle.brick_store.proofs.BoxWriting.{in_grid, place_is, place_low}
@@ -44,10 +44,10 @@ both_put brick whole s first second both old mid new low split left right one tw
 
 -- one row of a slice more
 pub row_more : (brick : ℕ) (p : Part) (s : Source) (z0 k : ℕ) (old mid new : List ℤ) → IsPart p → z0 < p.z_end → p.y ≤ k → k < p.y_end
-    → AreRowsPut brick p s (record (one_layer p z0) { y_end = k }) old mid → AreRowsPut brick p s (one_row p k z0) mid new
-    → AreRowsPut brick p s (record (one_layer p z0) { y_end = k + 1 }) old new
+    → AreRowsPut brick p s (record (one_slice p z0) { y_end = k }) old mid → AreRowsPut brick p s (one_row p k z0) mid new
+    → AreRowsPut brick p s (record (one_slice p z0) { y_end = k + 1 }) old new
 row_more brick p s z0 k old mid new is hz le low one two =
-    both_put brick p s (record (one_layer p z0) { y_end = k }) (one_row p k z0) (record (one_layer p z0) { y_end = k + 1 }) old mid new
+    both_put brick p s (record (one_slice p z0) { y_end = k }) (one_row p k z0) (record (one_slice p z0) { y_end = k + 1 }) old mid new
     (λ x y z w. (omega (arith, w.x_end, is.x_most), (omega (arith, w.y_end, low, is.y_most), omega (arith, w.z_end, hz, is.z_most))))
     (λ x y z w. elim (cases_lt y k) [
       | inl l ↦ inr (
@@ -61,11 +61,11 @@ row_more brick p s z0 k old mid new is hz le low one two =
     one two
 
 -- one slice of a part more
-pub layer_more : (brick : ℕ) (p : Part) (s : Source) (k : ℕ) (old mid new : List ℤ) → IsPart p → p.z ≤ k → k < p.z_end
-    → AreRowsPut brick p s (record p { z_end = k }) old mid → AreRowsPut brick p s (one_layer p k) mid new
+pub slice_more : (brick : ℕ) (p : Part) (s : Source) (k : ℕ) (old mid new : List ℤ) → IsPart p → p.z ≤ k → k < p.z_end
+    → AreRowsPut brick p s (record p { z_end = k }) old mid → AreRowsPut brick p s (one_slice p k) mid new
     → AreRowsPut brick p s (record p { z_end = k + 1 }) old new
-layer_more brick p s k old mid new is le low one two =
-    both_put brick p s (record p { z_end = k }) (one_layer p k) (record p { z_end = k + 1 }) old mid new
+slice_more brick p s k old mid new is le low one two =
+    both_put brick p s (record p { z_end = k }) (one_slice p k) (record p { z_end = k + 1 }) old mid new
     (λ x y z w. (omega (arith, w.x_end, is.x_most), (omega (arith, w.y_end, is.y_most), omega (arith, w.z_end, low, is.z_most))))
     (λ x y z w. elim (cases_lt z k) [
       | inl l ↦ inr (
@@ -79,11 +79,11 @@ layer_more brick p s k old mid new is le low one two =
     one two
 
 -- no row and no slice
-pub no_row : (brick : ℕ) (p : Part) (s : Source) (z0 : ℕ) (old : List ℤ) → AreRowsPut brick p s (record (one_layer p z0) { y_end = p.y }) old old
-no_row brick p s z0 old = none_put brick p s (record (one_layer p z0) { y_end = p.y }) old (λ x y z w. absurd (omega (arith, w.y_from, w.y_end)))
+pub no_row : (brick : ℕ) (p : Part) (s : Source) (z0 : ℕ) (old : List ℤ) → AreRowsPut brick p s (record (one_slice p z0) { y_end = p.y }) old old
+no_row brick p s z0 old = none_put brick p s (record (one_slice p z0) { y_end = p.y }) old (λ x y z w. absurd (omega (arith, w.y_from, w.y_end)))
 
-pub no_layer : (brick : ℕ) (p : Part) (s : Source) (old : List ℤ) → AreRowsPut brick p s (record p { z_end = p.z }) old old
-no_layer brick p s old = none_put brick p s (record p { z_end = p.z }) old (λ x y z w. absurd (omega (arith, w.z_from, w.z_end)))
+pub no_slice : (brick : ℕ) (p : Part) (s : Source) (old : List ℤ) → AreRowsPut brick p s (record p { z_end = p.z }) old old
+no_slice brick p s old = none_put brick p s (record p { z_end = p.z }) old (λ x y z w. absurd (omega (arith, w.z_from, w.z_end)))
 
 -- ---- a row of a part
 
@@ -158,9 +158,9 @@ part_written g a values brick p s old new each is = record {
 }
 
 -- one value in nine places
-module _ (p : Part) (s : Source) (value : ℤ) (is : IsPart p) (nine : s.values.now ≡ replicate 9 value) (from : s.from ≡ 0) (row : s.row ≡ 0) (layer : s.layer ≡ 0) where
+module _ (p : Part) (s : Source) (value : ℤ) (is : IsPart p) (nine : s.values.now ≡ replicate 9 value) (from : s.from ≡ 0) (row : s.row ≡ 0) (slice : s.slice ≡ 0) where
   first_row : (y z : ℕ) → row_place p s y z ≡ 0
-  first_row y z = rw (from, row, layer) (none (y - p.y) (z - p.z))
+  first_row y z = rw (from, row, slice) (none (y - p.y) (z - p.z))
     where
       none : (m n : ℕ) → 0 + m * 0 + n * 0 ≡ 0
       none m n = grind arith
@@ -182,7 +182,7 @@ widths_are a low high el eh = rw (el, eh) (refl, refl)
 -- the values of a box
 module _ (g : Grid) (a : Area) (b : ℕ) (p : Part) (s : Source) (is : IsBox g a) (part : IsPartOf g a b p)
     (from : s.from ≡ area_place g a (brick_point g b p.x p.y p.z)) (row : s.row ≡ a.high.x - a.low.x + 1)
-    (layer : s.layer ≡ (a.high.x - a.low.x + 1) * (a.high.y - a.low.y + 1)) where
+    (slice : s.slice ≡ (a.high.x - a.low.x + 1) * (a.high.y - a.low.y + 1)) where
   -- the number in the box of one of its points
   number_of : (x y z : ℕ) → IsWithin p x y z
       → area_place g a (brick_point g b x y z)
@@ -208,7 +208,7 @@ module _ (g : Grid) (a : Area) (b : ℕ) (p : Part) (s : Source) (is : IsBox g a
       (brick_start g b 2 + z - a.low.z) (brick_start g b 2 + p.z - a.low.z) (z - p.z)
       (a.high.x - a.low.x + 1) (a.high.y - a.low.y + 1)
       (omega (arith, of.x_from, w.x_from)) (omega (arith, of.y_from, w.y_from)) (omega (arith, of.z_from, w.z_from))
-      ∙ rw (from, row, layer) (ap (λ n. n + (y - p.y) * (a.high.x - a.low.x + 1) + (z - p.z) * ((a.high.x - a.low.x + 1) * (a.high.y - a.low.y + 1)) + (x - p.x))
+      ∙ rw (from, row, slice) (ap (λ n. n + (y - p.y) * (a.high.x - a.low.x + 1) + (z - p.z) * ((a.high.x - a.low.x + 1) * (a.high.y - a.low.y + 1)) + (x - p.x))
       (sym (number_of p.x p.y p.z first))))
     where
       plain : (l m u s t q w d : ℕ) → l + m + w * (u + s + d * (t + q)) ≡ l + w * (u + d * t) + s * w + q * (w * d) + m

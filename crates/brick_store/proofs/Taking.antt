@@ -12,7 +12,7 @@ use Rattle.iso_base.specs.Points.{IsPoint, index_of}
 use Rattle.iso_base.specs.declared.point.Point.{Point}
 use Rattle.iso_base.specs.Volume.{sample}
 use Rattle.brick_store.specs.Holding.{brick_at}
-use Rattle.brick_store.specs.Copies.{AreCopies, copy_place, home, home_place, row_rest, samples_of}
+use Rattle.brick_store.specs.Copies.{AreCopies, copy_place, first_brick_along, first_copy_place, row_rest, samples_of}
 use Rattle.packed_samples.specs.Runs.{row_set}
 use Rattle.brick_store.proofs.BrickNumbers.{IsIn, IsPlaced, in_is, is_in, places}
 use Rattle.brick_store.proofs.RowWriting.{length-row_set, put_is, row_set_before, row_set_within}
@@ -55,17 +55,17 @@ module _ (copies into mid : List ℤ) (place n : ℕ) (all : n ≡ length into /
         ]
 
 -- the copies from a point on, so many as the first brick has that holds it
-pub first_are : (g : Grid) (copies : List ℤ) (p : Point) (start n : ℕ) → IsGrid g → AreCopies g copies → IsPoint g p → start ≡ home_place g p → n ≤ row_rest g p
+pub first_are : (g : Grid) (copies : List ℤ) (p : Point) (start n : ℕ) → IsGrid g → AreCopies g copies → IsPoint g p → start ≡ first_copy_place g p → n ≤ row_rest g p
     → (d : ℕ) → d < n → sample copies (start + d) ≡ sample (samples_of g copies) (index_of g p + d)
 first_are g copies p start n is are at place few d low =
-    let b : ℕ = brick_at g (home p.x) (home p.y) (home p.z) in
-    let x : ℕ = p.x - 8 * home p.x in
-    let y : ℕ = p.y - 8 * home p.y in
-    let z : ℕ = p.z - 8 * home p.z in
+    let b : ℕ = brick_at g (first_brick_along p.x) (first_brick_along p.y) (first_brick_along p.z) in
+    let x : ℕ = p.x - 8 * first_brick_along p.x in
+    let y : ℕ = p.y - 8 * first_brick_along p.y in
+    let z : ℕ = p.z - 8 * first_brick_along p.z in
     let first : IsHome g p = home_of g p is at in
     let inside : IsIn g b x y z = is_in g b x y z first.inside in
-    let placed : IsPlaced g b (home p.x) (home p.y) (home p.z)
-    = places g (home p.x) (home p.y) (home p.z) (let h = is.x.least in omega (arith, at.x)) (let h = is.y.least in omega (arith, at.y)) (let h = is.z.least in omega (arith, at.z)) in
+    let placed : IsPlaced g b (first_brick_along p.x) (first_brick_along p.y) (first_brick_along p.z)
+    = places g (first_brick_along p.x) (first_brick_along p.y) (first_brick_along p.z) (let h = is.x.least in omega (arith, at.x)) (let h = is.y.least in omega (arith, at.y)) (let h = is.z.least in omega (arith, at.z)) in
     ap (sample copies) (ap (λ a. a + d) place ∙ on b x (9 * (y + 9 * z)))
     ∙ (are.each b (x + d) y z first.brick (omega (arith, few, low, at.x)) (omega arith) (omega arith)
     (in_is g b (x + d) y z (record { x_in = omega (arith, placed.x_start, few, low, at.x); y_in = inside.y_in; z_in = inside.z_in }))
@@ -79,8 +79,8 @@ first_are g copies p start n is are at place few d low =
     further a x r = omega arith
 
 -- the points that follow one that is the second of a brick along x
-module _ (g : Grid) (copies : List ℤ) (p : Point) (n start : ℕ) (is : IsGrid g) (are : AreCopies g copies) (at : IsPoint g p) (second : p.x ≡ 8 * home p.x + 1)
-    (fits : p.x + n ≤ g.nx) (begins : start ≡ home_place g p) where
+module _ (g : Grid) (copies : List ℤ) (p : Point) (n start : ℕ) (is : IsGrid g) (are : AreCopies g copies) (at : IsPoint g p) (second : p.x ≡ 8 * first_brick_along p.x + 1)
+    (fits : p.x + n ≤ g.nx) (begins : start ≡ first_copy_place g p) where
   abbrev further : ℕ → Point
   further d = record p { x = p.x + d }
 
@@ -88,10 +88,10 @@ module _ (g : Grid) (copies : List ℤ) (p : Point) (n start : ℕ) (is : IsGrid
   further_in d low = record { x = omega (arith, fits, low); y = at.y; z = at.z }
 
   -- where the copy of such a point is
-  pub place_on : (d : ℕ) → d < n → start + (729 * (d / 8) + d % 8) ≡ home_place g (further d)
+  pub place_on : (d : ℕ) → d < n → start + (729 * (d / 8) + d % 8) ≡ first_copy_place g (further d)
   place_on d low =
       ap (λ s. s + (729 * (d / 8) + d % 8)) begins
-      ∙ there p.x (home p.x) (home (p.x + d)) d (bricks_along g 0 * (home p.y + bricks_along g 1 * home p.z)) (9 * (p.y - 8 * home p.y + 9 * (p.z - 8 * home p.z)))
+      ∙ there p.x (first_brick_along p.x) (first_brick_along (p.x + d)) d (bricks_along g 0 * (first_brick_along p.y + bricks_along g 1 * first_brick_along p.z)) (9 * (p.y - 8 * first_brick_along p.y + 9 * (p.z - 8 * first_brick_along p.z)))
       second (omega (arith, second))
     where
       there : (x h h' d b r : ℕ) → x ≡ 8 * h + 1 → h' ≡ h + d / 8
@@ -103,7 +103,7 @@ module _ (g : Grid) (copies : List ℤ) (p : Point) (n start : ℕ) (is : IsGrid
   place_on_low d low =
       let q : Point = record p { x = p.x + d } in
       let first : IsHome g q = home_of g q is (further_in d low) in
-      inside (brick_at g (home q.x) (home q.y) (home q.z)) (brick_count g) (q.x - 8 * home q.x) (q.y - 8 * home q.y) (q.z - 8 * home q.z) first.brick
+      inside (brick_at g (first_brick_along q.x) (first_brick_along q.y) (first_brick_along q.z)) (brick_count g) (q.x - 8 * first_brick_along q.x) (q.y - 8 * first_brick_along q.y) (q.z - 8 * first_brick_along q.z) first.brick
       (omega arith) (omega arith) (omega arith) _ (place_on d low) (length copies) are.count
     where
       inside : (b k x y z : ℕ) → b < k → x < 9 → y < 9 → z < 9 → (s : ℕ) → s ≡ copy_place b x y z → (len : ℕ) → len ≡ 729 * k → s < len
@@ -130,7 +130,7 @@ module _ (g : Grid) (copies : List ℤ) (p : Point) (n start : ℕ) (is : IsGrid
       moved x d r = omega arith
 
 -- the point behind those that the first brick has is the second of the next one
-pub next_second : (g : Grid) (p : Point) (begun n x : ℕ) → IsPoint g p → begun ≡ min (row_rest g p) n → begun < n → p.x + n ≤ g.nx → x ≡ p.x + begun → x ≡ 8 * home x + 1
+pub next_second : (g : Grid) (p : Point) (begun n x : ℕ) → IsPoint g p → begun ≡ min (row_rest g p) n → begun < n → p.x + n ≤ g.nx → x ≡ p.x + begun → x ≡ 8 * first_brick_along x + 1
 next_second g p begun n x at first less fits e = omega (arith, at.x, first, less, fits, e)
 
 -- the samples of the first brick, and those that follow

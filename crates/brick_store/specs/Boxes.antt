@@ -11,7 +11,7 @@ use Rattle.voxel_list.specs.Areas.{Area, IsArea, area_count, is_in_area}
 use Rattle.brick_store.specs.declared.boxes.Values.{Values}
 use Rattle.brick_store.specs.declared.boxes.Values.TheVariants.{One, Each}
 use Rattle.brick_store.specs.declared.boxes.Part.{Part}
-use Rattle.brick_store.specs.Copies.{copy_at, home}
+use Rattle.brick_store.specs.Copies.{copy_at, first_brick_along}
 use Rattle.brick_store.specs.Rows.{AreOffsets, InZone, Zone, reach_end}
 
 -- a box of the grid
@@ -106,8 +106,8 @@ pub record IsPartOf (g : Grid) (a : Area) (b : ℕ) (p : Part) : Type 0 where
   pub all : (x y z : ℕ) → x < 9 → y < 9 → z < 9 → IsOfBox g a b x y z → IsWithin p x y z
 
 -- one slice of a part, and one row
-abbrev pub one_layer : Part → ℕ → Part
-one_layer p z = record p { z = z; z_end = z + 1 }
+abbrev pub one_slice : Part → ℕ → Part
+one_slice p z = record p { z = z; z_end = z + 1 }
 
 abbrev pub one_row : Part → ℕ → ℕ → Part
 one_row p y z = record p { y = y; y_end = y + 1; z = z; z_end = z + 1 }
@@ -137,7 +137,7 @@ AreBoxWritten g a values zone old new = AreWrittenAt g (IsOfZone g a zone) (valu
 -- the bricks of a line along x that hold a point of the box
 abbrev pub box_line : Grid → Area → ℕ → ℕ → Zone
 box_line g a y z = record {
-  x = home a.low.x;
+  x = first_brick_along a.low.x;
   x_end = reach_end g.nx (a.high.x + 1);
   y = y;
   y_end = y + 1;
@@ -146,11 +146,11 @@ box_line g a y z = record {
 }
 
 -- those of a slice
-abbrev pub box_layer : Grid → Area → ℕ → Zone
-box_layer g a z = record {
-  x = home a.low.x;
+abbrev pub box_slice : Grid → Area → ℕ → Zone
+box_slice g a z = record {
+  x = first_brick_along a.low.x;
   x_end = reach_end g.nx (a.high.x + 1);
-  y = home a.low.y;
+  y = first_brick_along a.low.y;
   y_end = reach_end g.ny (a.high.y + 1);
   z = z;
   z_end = z + 1;
@@ -159,10 +159,10 @@ box_layer g a z = record {
 -- all of them
 abbrev pub box_zone : Grid → Area → Zone
 box_zone g a = record {
-  x = home a.low.x;
+  x = first_brick_along a.low.x;
   x_end = reach_end g.nx (a.high.x + 1);
-  y = home a.low.y;
+  y = first_brick_along a.low.y;
   y_end = reach_end g.ny (a.high.y + 1);
-  z = home a.low.z;
+  z = first_brick_along a.low.z;
   z_end = reach_end g.nz (a.high.z + 1);
 }

@@ -5,8 +5,8 @@ use Rattle.iso_base.specs.declared.kind.SampleKind.{SampleKind}
 use Rattle.packed_samples.specs.declared.width.Width.{Width}
 use Rattle.packed_samples.specs.declared.width.Width.TheVariants as widths
 use Rattle.packed_samples.specs.Widths.{width_of}
-use Rattle.brick_store.specs.declared.kept.Kept.{Kept}
-use Rattle.brick_store.specs.declared.kept.Kept.TheVariants.{U8, I16, U16, I32, I64}
+use Rattle.brick_store.specs.declared.copy_list.Kept.{Kept}
+use Rattle.brick_store.specs.declared.copy_list.Kept.TheVariants.{U8, I16, U16, I32, I64}
 use Rattle.brick_store.specs.Copies.{AreBricks}
 
 -- the copies

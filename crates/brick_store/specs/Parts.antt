@@ -17,7 +17,7 @@ pub record IsPart (p : Part) : Type 0 where
 
 -- where the values of a row of a part begin
 abbrev pub row_place : Part → Source → ℕ → ℕ → ℕ
-row_place p s y z = s.from + (y - p.y) * s.row + (z - p.z) * s.layer
+row_place p s y z = s.from + (y - p.y) * s.row + (z - p.z) * s.slice
 
 -- the value for the point at these offsets
 abbrev pub source_value : Part → Source → ℕ → ℕ → ℕ → ℤ

@@ -4,7 +4,7 @@ use Rattle.iso_defs.specs.Grid.{Grid}
 use Rattle.iso_defs.specs.Bricks.{brick_count, brick_start}
 use Rattle.iso_base.specs.declared.point.Point.{Point}
 use Rattle.iso_base.specs.Volume.{sample}
-use Rattle.brick_store.specs.Copies.{copy_at, home}
+use Rattle.brick_store.specs.Copies.{copy_at, first_brick_along}
 
 -- offsets in a brick
 pub record AreOffsets (g : Grid) (b x y z : ℕ) : Type 0 where
@@ -48,7 +48,7 @@ reach_end points end = min ((end + 7) / 8) ((points + 6) / 8)
 -- those along x that reach a row of so many points from one on
 abbrev pub line_zone : Grid → Point → ℕ → ℕ → ℕ → Zone
 line_zone g p count y z = record {
-  x = home p.x;
+  x = first_brick_along p.x;
   x_end = reach_end g.nx (p.x + count);
   y = y;
   y_end = y + 1;
@@ -57,12 +57,12 @@ line_zone g p count y z = record {
 }
 
 -- those of a slice
-abbrev pub layer_zone : Grid → Point → ℕ → ℕ → Zone
-layer_zone g p count z =
+abbrev pub slice_zone : Grid → Point → ℕ → ℕ → Zone
+slice_zone g p count z =
     record {
-      x = home p.x;
+      x = first_brick_along p.x;
       x_end = reach_end g.nx (p.x + count);
-      y = home p.y;
+      y = first_brick_along p.y;
       y_end = reach_end g.ny (p.y + 1);
       z = z;
       z_end = z + 1;
@@ -71,11 +71,11 @@ layer_zone g p count z =
 -- all of them
 abbrev pub row_zone : Grid → Point → ℕ → Zone
 row_zone g p count = record {
-  x = home p.x;
+  x = first_brick_along p.x;
   x_end = reach_end g.nx (p.x + count);
-  y = home p.y;
+  y = first_brick_along p.y;
   y_end = reach_end g.ny (p.y + 1);
-  z = home p.z;
+  z = first_brick_along p.z;
   z_end = reach_end g.nz (p.z + 1);
 }
 

@@ -3,14 +3,14 @@ ghost use Rattle.std.specs.Prelude.{◌≡◌, ◌+◌, ◌-◌, ◌*◌, ◌^�
 ghost use Rattle.iso_defs.specs.Bricks.{brick_count, brick_start, bricks_along};
 ghost use Rattle.iso_base.specs.Points.{IsPoint, index_of};
 ghost use Rattle.voxel_list.specs.Areas.{IsArea, area_count};
-ghost use Rattle.brick_store.specs.Copies.{AreCopies, home, samples_of};
+ghost use Rattle.brick_store.specs.Copies.{AreCopies, first_brick_along, samples_of};
 ghost use Rattle.brick_store.specs.Rows.{brick_zone};
 ghost use Rattle.brick_store.specs.Boxes.{ArePartWritten, AreBoxWritten, AreAsMany, IsPartOf, AreFitting};
-ghost use Rattle.brick_store.specs.Boxes.{area_place, boxed, box_layer, box_line, one_layer, one_row};
+ghost use Rattle.brick_store.specs.Boxes.{area_place, boxed, box_slice, box_line, one_slice, one_row};
 ghost use Rattle.brick_store.specs.Parts.{AreRowsPut, HasRows, IsPart};
 
 use crate::copies::copy_place;
-use crate::numbering::{BrickId, brick_at, first_point, home, row_end};
+use crate::numbering::{BrickId, brick_at, brick_end, first_brick_along, first_point};
 use iso_base::{Point, Sizes};
 use packed_samples::PackedList;
 use voxel_list::FillBox;
@@ -104,7 +104,7 @@ struct Source<'a> {
     values: &'a [i64],
     from: usize,
     row: usize,
-    layer: usize,
+    slice: usize,
 }
 
 /// Writes a row of a part of a brick.
@@ -130,7 +130,7 @@ fn write_row<C: PackedList>(
 {
     let start = copy_place(brick, part.x, y, z);
     let count = (part.x_end - part.x) as usize;
-    let before = (z - part.z) as usize * source.layer;
+    let before = (z - part.z) as usize * source.slice;
     let from = source.from + (y - part.y) as usize * source.row + before;
     copies.put(start, source.values, from, count);
 }
@@ -144,7 +144,7 @@ fn write_rows<C: PackedList>(copies: &mut C, brick: BrickId, part: &Part, source
     requires fits { All C.Fits source.values.now }
     requires z_from { part.now.z ≤ z }
     requires z_to { z < part.now.z_end }
-    ensures { AreRowsPut brick.0 part.now source.entry (one_layer part.now z) (C.list copies.old) (C.list copies.new) }
+    ensures { AreRowsPut brick.0 part.now source.entry (one_slice part.now z) (C.list copies.old) (C.list copies.new) }
 {
     for y in part.y..part.y_end {
         write_row(copies, brick, part, source, y, z);
@@ -189,7 +189,7 @@ fn write_one<C: PackedList>(
         values: &row,
         from: 0,
         row: 0,
-        layer: 0,
+        slice: 0,
     };
     write_part(copies, brick, part, source);
 }
@@ -222,12 +222,12 @@ fn write_each<C: PackedList>(
     };
     let from = place_in(sizes, area, p);
     let row = (high.x - low.x + 1) as usize;
-    let layer = row * (high.y - low.y + 1) as usize;
+    let slice = row * (high.y - low.y + 1) as usize;
     let source = Source {
         values,
         from,
         row,
-        layer,
+        slice,
     };
     write_part(copies, brick, part, source);
 }
@@ -287,15 +287,15 @@ fn write_line<C: PackedList>(
     ensures { AreBoxWritten sizes.now area.now values.entry (box_line sizes.now area.now y z) (C.list copies.old)
         (C.list copies.new) }
 {
-    let first = home(area.low().x);
-    let end = row_end(sizes.nx(), area.high().x + 1);
+    let first = first_brick_along(area.low().x);
+    let end = brick_end(sizes.nx(), area.high().x + 1);
     for x in first..end {
         write_brick(sizes, copies, area, values, x, y, z);
     }
 }
 
 /// Writes the copies of the points of a box in the bricks of a slice.
-fn write_layer<C: PackedList>(sizes: &Sizes, copies: &mut C, area: &FillBox, values: Values, z: u32)
+fn write_slice<C: PackedList>(sizes: &Sizes, copies: &mut C, area: &FillBox, values: Values, z: u32)
     requires count { length (C.list copies.old) ≡ 729 * brick_count sizes.now }
     requires high { IsPoint sizes.now area.now.high }
     requires values { AreAsMany area.now values }
@@ -303,11 +303,11 @@ fn write_layer<C: PackedList>(sizes: &Sizes, copies: &mut C, area: &FillBox, val
     requires z { z < bricks_along sizes.now 2 }
     requires z_from { area.now.low.z ≤ 8 * z + 8 }
     requires z_to { 8 * z ≤ area.now.high.z }
-    ensures { AreBoxWritten sizes.now area.now values.entry (box_layer sizes.now area.now z) (C.list copies.old)
+    ensures { AreBoxWritten sizes.now area.now values.entry (box_slice sizes.now area.now z) (C.list copies.old)
         (C.list copies.new) }
 {
-    let first = home(area.low().y);
-    let end = row_end(sizes.ny(), area.high().y + 1);
+    let first = first_brick_along(area.low().y);
+    let end = brick_end(sizes.ny(), area.high().y + 1);
     for y in first..end {
         write_line(sizes, copies, area, values, y, z);
     }
@@ -323,9 +323,9 @@ pub fn write_box<C: PackedList>(sizes: &Sizes, copies: &mut C, area: &FillBox, v
     ensures samples { samples_of sizes.now (C.list copies.new)
         ≡ boxed sizes.now area.now values.entry (samples_of sizes.now (C.list copies.old)) }
 {
-    let first = home(area.low().z);
-    let end = row_end(sizes.nz(), area.high().z + 1);
+    let first = first_brick_along(area.low().z);
+    let end = brick_end(sizes.nz(), area.high().z + 1);
     for z in first..end {
-        write_layer(sizes, copies, area, values, z);
+        write_slice(sizes, copies, area, values, z);
     }
 }

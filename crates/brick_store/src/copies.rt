@@ -7,7 +7,7 @@ ghost use Rattle.iso_defs.specs.Bricks.{brick_count};
 ghost use Rattle.iso_base.specs.Points.{IsPoint, index_of};
 ghost use Rattle.iso_base.specs.Volume.{sample};
 ghost use Rattle.brick_store.specs.Holding.{holds_point};
-ghost use Rattle.brick_store.specs.Copies.{AreCopies, copy_place, home_place, own_place, samples_of};
+ghost use Rattle.brick_store.specs.Copies.{AreCopies, copy_place, first_copy_place, own_place, samples_of};
 
 use crate::numbering::{self, BrickId};
 use iso_base::{CellName, Point, Sizes, point_of};
@@ -26,17 +26,17 @@ pub fn copy_place(brick: BrickId, x: u32, y: u32, z: u32) -> usize
 
 /// The place of the copy of a point in the first brick that holds it.
 #[inline(always)]
-pub fn home_place(sizes: &Sizes, p: Point) -> usize
+pub fn first_copy_place(sizes: &Sizes, p: Point) -> usize
     requires { IsPoint sizes.now p }
-    ensures value { result ≡ home_place sizes.now p }
+    ensures value { result ≡ first_copy_place sizes.now p }
     ensures bound { result < 729 * brick_count sizes.now }
 {
     // Reading a size brings in that the sizes are those of a grid.
     let _ = sizes.nx();
     let (x, y, z) = (
-        numbering::home(p.x),
-        numbering::home(p.y),
-        numbering::home(p.z),
+        numbering::first_brick_along(p.x),
+        numbering::first_brick_along(p.y),
+        numbering::first_brick_along(p.z),
     );
     let brick = numbering::brick_at(sizes, x, y, z);
     copy_place(brick, p.x - 8 * x, p.y - 8 * y, p.z - 8 * z)
@@ -49,7 +49,7 @@ pub fn get<C: PackedList>(sizes: &Sizes, copies: &C, p: Point) -> i64
     requires point { IsPoint sizes.now p }
     ensures { result ≡ sample (samples_of sizes.now (C.list copies.now)) (index_of sizes.now p) }
 {
-    copies.at(home_place(sizes, p))
+    copies.at(first_copy_place(sizes, p))
 }
 
 /// The samples at the corners of a cell whose lowest copy is at this place.

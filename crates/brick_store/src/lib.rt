@@ -4,14 +4,14 @@
 
 mod boxes;
 mod copies;
+mod copy_list;
 mod filling;
 mod flat;
-mod kept;
 mod numbering;
+mod row_samples;
 mod rows;
 mod store;
-mod taken;
 
 pub use boxes::Values;
-pub use numbering::{BrickId, brick_at, bricks_along, home};
+pub use numbering::{BrickId, brick_at, bricks_along, first_brick_along};
 pub use store::BrickStore;

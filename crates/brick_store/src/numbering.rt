@@ -7,7 +7,7 @@ ghost use Rattle.iso_defs.specs.Grid.{is_cell, point_count};
 ghost use Rattle.iso_defs.specs.Bricks.{bricks_along, brick_count, brick_start};
 ghost use Rattle.iso_base.specs.Points.{IsPoint};
 ghost use Rattle.iso_base.specs.Sizing.{IsGrid};
-ghost use Rattle.brick_store.specs.Copies.{home};
+ghost use Rattle.brick_store.specs.Copies.{first_brick_along};
 ghost use Rattle.brick_store.specs.Rows.{reach_end};
 ghost use Rattle.brick_store.specs.Holding.{IsCellOf, brick_at, brick_of, first_holding, local_of, points_along, reaches};
 
@@ -96,27 +96,27 @@ pub fn points_along(sizes: &Sizes, brick: BrickId) -> [u8; 3]
 }
 
 /// The first brick along an axis that reaches a coordinate.
-pub fn home(c: u32) -> u32
-    ensures { result ≡ home c }
+pub fn first_brick_along(c: u32) -> u32
+    ensures { result ≡ first_brick_along c }
 {
     c.saturating_sub(1) / 8
 }
 
 /// The bricks along an axis that reach a coordinate: from the first one to before the last.
-pub fn reaching(points: u32, c: u32) -> (u32, u32)
+pub fn bricks_at(points: u32, c: u32) -> (u32, u32)
     requires few { points ≤ 1026 }
     requires inside { c < points }
     requires two { 2 ≤ points }
-    ensures first { result.0 ≡ home c }
+    ensures first { result.0 ≡ first_brick_along c }
     ensures last { result.1 ≡ min (c / 8 + 1) ((points + 6) / 8) }
     ensures some { result.0 < result.1 }
     ensures two_at_most { result.1 ≤ result.0 + 2 }
 {
-    (home(c), (c / 8 + 1).min(bricks_along(points)))
+    (first_brick_along(c), (c / 8 + 1).min(bricks_along(points)))
 }
 
 /// Where the bricks along an axis end that reach a coordinate before an end.
-pub fn row_end(points: u32, end: u32) -> u32
+pub fn brick_end(points: u32, end: u32) -> u32
     requires points { points ≤ 1026 }
     requires end { end ≤ points }
     ensures { result ≡ reach_end points end }
@@ -125,7 +125,7 @@ pub fn row_end(points: u32, end: u32) -> u32
 }
 
 /// Puts the bricks from one number to before another behind the others.
-fn put_run(from: u32, end: u32, held: &mut ArrayVec<BrickId, 8>)
+fn push_run(from: u32, end: u32, held: &mut ArrayVec<BrickId, 8>)
     requires order { from ≤ end }
     requires room { array_vec_len held.old + (end - from) ≤ 8 }
     ensures bricks { map (λ b. b.0) held.new.items ≡ map (λ b. b.0) held.old.items ++ range_with_len from (end - from) }
@@ -137,22 +137,22 @@ fn put_run(from: u32, end: u32, held: &mut ArrayVec<BrickId, 8>)
 }
 
 /// Puts the bricks of a slice that hold a point behind those of the slices before it.
-#[tactic(auto, using(crate::proofs::Reaching::layer_begun))]
-fn put_layer(sizes: &Sizes, p: Point, z: u32, held: &mut ArrayVec<BrickId, 8>)
+#[tactic(auto, using(crate::proofs::Reaching::slice_begun))]
+fn push_slice(sizes: &Sizes, p: Point, z: u32, held: &mut ArrayVec<BrickId, 8>)
     requires point { IsPoint sizes.now p }
-    requires layer { z < bricks_along sizes.now 2 }
+    requires slice { z < bricks_along sizes.now 2 }
     requires reached { reaches (8 * z) p.z ≡ true }
     requires room { array_vec_len held.old ≤ 4 }
     requires before { map (λ b. b.0) held.old.items ≡ first_holding sizes.now p (brick_at sizes.now 0 0 z) }
     ensures bricks { map (λ b. b.0) held.new.items ≡ first_holding sizes.now p (brick_at sizes.now 0 0 (z + 1)) }
     ensures length { array_vec_len held.new ≤ array_vec_len held.old + 4 }
 {
-    let (first_x, end_x) = reaching(sizes.nx(), p.x);
-    let (first_y, end_y) = reaching(sizes.ny(), p.y);
+    let (first_x, end_x) = bricks_at(sizes.nx(), p.x);
+    let (first_y, end_y) = bricks_at(sizes.ny(), p.y);
     let (along_x, along_y) = (bricks_along(sizes.nx()), bricks_along(sizes.ny()));
     for y in first_y..end_y {
         let start = along_x * (y + along_y * z);
-        put_run(start + first_x, start + end_x, held);
+        push_run(start + first_x, start + end_x, held);
     }
 }
 
@@ -162,9 +162,9 @@ pub fn bricks_holding(sizes: &Sizes, p: Point) -> ArrayVec<BrickId, 8>
     ensures { map (λ b. b.0) result.items ≡ first_holding sizes.now p (brick_count sizes.now) }
 {
     let mut held = ArrayVec::new();
-    let (first, end) = reaching(sizes.nz(), p.z);
+    let (first, end) = bricks_at(sizes.nz(), p.z);
     for z in first..end {
-        put_layer(sizes, p, z, &mut held);
+        push_slice(sizes, p, z, &mut held);
     }
     held
 }

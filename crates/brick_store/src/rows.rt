@@ -2,12 +2,12 @@
 ghost use Rattle.std.specs.Prelude.{◌≡◌, ◌+◌, ◌*◌, ◌<◌, ◌≤◌, All, length};
 ghost use Rattle.iso_defs.specs.Bricks.{brick_count, bricks_along};
 ghost use Rattle.iso_base.specs.Points.{IsPoint, index_of};
-ghost use Rattle.brick_store.specs.Copies.{AreCopies, home, samples_of};
-ghost use Rattle.brick_store.specs.Rows.{AreRowWritten, brick_zone, layer_zone, line_zone};
+ghost use Rattle.brick_store.specs.Copies.{AreCopies, first_brick_along, samples_of};
+ghost use Rattle.brick_store.specs.Rows.{AreRowWritten, brick_zone, slice_zone, line_zone};
 ghost use Rattle.packed_samples.specs.Runs.{row_set};
 
 use crate::copies::copy_place;
-use crate::numbering::{brick_at, home, reaching, row_end};
+use crate::numbering::{brick_at, brick_end, bricks_at, first_brick_along};
 use iso_base::{Point, Sizes};
 use packed_samples::PackedList;
 
@@ -69,15 +69,15 @@ fn write_line<C: PackedList>(
     ensures { AreRowWritten sizes.now p values.now (line_zone sizes.now p (length values.now) y z)
         (C.list copies.old) (C.list copies.new) }
 {
-    let first = home(p.x);
-    let end = row_end(sizes.nx(), p.x + values.len() as u32);
+    let first = first_brick_along(p.x);
+    let end = brick_end(sizes.nx(), p.x + values.len() as u32);
     for x in first..end {
         write_in_brick(sizes, copies, x, y, z, p, values);
     }
 }
 
 /// Writes the copies of a row in the bricks of a slice.
-fn write_layer<C: PackedList>(sizes: &Sizes, copies: &mut C, z: u32, p: Point, values: &[i64])
+fn write_slice<C: PackedList>(sizes: &Sizes, copies: &mut C, z: u32, p: Point, values: &[i64])
     requires count { length (C.list copies.old) ≡ 729 * brick_count sizes.now }
     requires point { IsPoint sizes.now p }
     requires z { z < bricks_along sizes.now 2 }
@@ -86,10 +86,10 @@ fn write_layer<C: PackedList>(sizes: &Sizes, copies: &mut C, z: u32, p: Point, v
     requires fits { All C.Fits values.now }
     requires z_from { 8 * z ≤ p.z }
     requires z_to { p.z ≤ 8 * z + 8 }
-    ensures { AreRowWritten sizes.now p values.now (layer_zone sizes.now p (length values.now) z)
+    ensures { AreRowWritten sizes.now p values.now (slice_zone sizes.now p (length values.now) z)
         (C.list copies.old) (C.list copies.new) }
 {
-    let (first, end) = reaching(sizes.ny(), p.y);
+    let (first, end) = bricks_at(sizes.ny(), p.y);
     for y in first..end {
         write_line(sizes, copies, y, z, p, values);
     }
@@ -106,8 +106,8 @@ pub fn write_row<C: PackedList>(sizes: &Sizes, copies: &mut C, p: Point, values:
     ensures samples { samples_of sizes.now (C.list copies.new)
         ≡ row_set (index_of sizes.now p) values.now (samples_of sizes.now (C.list copies.old)) }
 {
-    let (first, end) = reaching(sizes.nz(), p.z);
+    let (first, end) = bricks_at(sizes.nz(), p.z);
     for z in first..end {
-        write_layer(sizes, copies, z, p, values);
+        write_slice(sizes, copies, z, p, values);
     }
 }

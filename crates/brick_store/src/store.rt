@@ -19,7 +19,7 @@ ghost use Rattle.packed_samples.specs.Widths.{width_of};
 ghost use Rattle.brick_store.specs.Boxes.{AreAsMany, AreOfKind, IsInnerArea, boxed};
 
 use crate::boxes::Values;
-use crate::kept::Kept;
+use crate::copy_list::Kept;
 use crate::numbering::{self, BrickId};
 use arrayvec::ArrayVec;
 use iso_base::{CellName, Memory, Point, SampleKind, Sizes};

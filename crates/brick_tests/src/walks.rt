@@ -5,18 +5,19 @@ ghost use Rattle.iso_defs.specs.Grid.{point_count};
 ghost use Rattle.iso_base.specs.Samples.{IsSample};
 ghost use Rattle.iso_base.specs.Shifted.{field};
 ghost use Rattle.span_tree.specs.Spans.{IsRightFor};
-ghost use Rattle.stitch_rows.specs.Named.{counts_of_entries};
+ghost use Rattle.brick_rows.specs.Named.{counts_of_entries};
 
 use crate::stores::sizes_of;
 use crate::texts::{Text, text_of};
 use arrayvec::ArrayVec;
 use brick_mesh::{extract_brick, extract_row};
+use brick_rows::{CellRows, Counts};
 use brick_store::{BrickId, BrickStore};
 use byte_streams::{Failed, MemSink};
+use cached_mesh::count_entries;
 use edge_points::RowRanks;
 use flat_mesh::extract_flat;
 use iso_base::{Level, Memory, MeshFormat, Point, SampleKind, Sizes, Steps, VoxelData, Written};
-use kept_mesh::count_entries;
 use list_mesh::ListMesh;
 use mesh_lines::{Origin, Style};
 use mesh_text::TwoWayFormat;
@@ -26,12 +27,11 @@ use std::alloc::Global;
 use std::marker::Brand;
 use std::sync::ledger::{Blank, Ledger};
 use stitch::{write_obj, write_ply};
-use stitch_rows::{CellRows, Counts};
 use volume_gen::generate;
 use voxel_list::VoxelList;
 
 /// More bytes than a text of these tests has.
-const ROOM: u32 = 4_000_000;
+const SINK_BYTES: u32 = 4_000_000;
 
 /// Names the cases of each row of a brick, and counts in a brick, when it is asked for it.
 #[derive(Drop)]
@@ -75,7 +75,7 @@ pub struct Told {
 
 /// A sink with room for each text.
 fn empty_sink(alloc: Global) -> Result<MemSink, Memory> {
-    MemSink::new(alloc, ROOM, Vec::new(alloc))
+    MemSink::new(alloc, SINK_BYTES, Vec::new(alloc))
 }
 
 /// How a text is written.

@@ -5,16 +5,16 @@
 mod memory_sink;
 mod memory_source;
 mod sink;
+mod small_writes;
 mod source;
-mod staged;
 mod standard;
 
 use iso_base::BenchFault;
 pub use memory_sink::MemSink;
 pub use memory_source::MemSource;
 pub use sink::{Sink, write_all_of};
+pub use small_writes::{LINES, gather, stage};
 pub use source::{READ_BYTES, ReadFault, Source, count_read, read_all_of};
-pub use staged::{LINES, gather, stage};
 pub use standard::{StdSink, StdSource};
 use thiserror::Error;
 

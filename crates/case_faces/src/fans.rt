@@ -11,11 +11,11 @@ ghost use Rattle.cell_loops.specs.Loops.{row_centres};
 use case_table::CaseRow;
 
 /// The number of sets of edges.
-const FANS: usize = 115;
+const EDGE_SETS: usize = 115;
 
 /// For each of them 32 weights, by which the places on the edges around a cell are summed up: eight for each of the four rows of
 /// points. Behind them stand the sums of where the edges begin along the three axes, four times 0, and how many edges there are.
-static NUMBERS: [[u16; 40]; FANS] = [
+static NUMBERS: [[u16; 40]; EDGE_SETS] = [
     [
         0, 1, 1, 0, 1, 1, 0, 0, 0, 0, 0, 0, 0, 0, 0, 0, 0, 0, 0, 0, 0, 0, 0, 0, 0, 0, 0, 0, 0, 0,
         0, 0, 2000, 0, 0, 0, 0, 0, 0, 4,

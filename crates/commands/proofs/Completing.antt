@@ -22,9 +22,9 @@ use Rattle.commands.specs.Outcome.{Call, Rejects}
 use Rattle.commands.specs.Serving.{CanServe, IsCarriedOut, Serves, asked_for}
 use Rattle.commands.specs.Sessions.{Asked, RunsSession, StaysShut, answer_of}
 use Rattle.command_terms.specs.Volumes.{volume_limit, volume_of}
-use Rattle.command_words.specs.Help.{help_text, version_text}
-use Rattle.command_words.specs.declared.request.Request.{Request}
-use Rattle.command_words.specs.declared.request.Request.TheVariants as requests
+use Rattle.arguments.specs.Help.{help_text, version_text}
+use Rattle.arguments.specs.declared.request.Request.{Request}
+use Rattle.arguments.specs.declared.request.Request.TheVariants as requests
 use Rattle.mesh_text.specs.declared.format.TwoWayFormat.{TwoWayFormat}
 use Rattle.program.specs.declared.answer.Answer.{Answer}
 use Rattle.program.specs.declared.answer.Answer.TheVariants as answers

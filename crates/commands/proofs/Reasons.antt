@@ -10,8 +10,8 @@ use Rattle.session.specs.declared.ending.Ending.{Ending}
 use Rattle.session.specs.Sessions.{Course, EndsAfter, script_limit}
 use Rattle.iso_base.specs.declared.verdict.Verdict.{Verdict}
 use Rattle.mesh_text.specs.declared.format.TwoWayFormat.{TwoWayFormat}
-use Rattle.command_words.specs.declared.request.Request.{Request}
-use Rattle.command_words.specs.declared.request.Request.TheVariants as requests
+use Rattle.arguments.specs.declared.request.Request.{Request}
+use Rattle.arguments.specs.declared.request.Request.TheVariants as requests
 use Rattle.program.specs.Status.{status_of}
 use Rattle.program.specs.declared.answer.VolumeFault.{VolumeFault}
 use Rattle.refusals.specs.declared.mesh.MeshFault.{MeshFault}

@@ -5,8 +5,8 @@ use Rattle.bench_core.specs.Keeping.{Workbench}
 use Rattle.bench_core.specs.Machine.{IsState}
 use Rattle.session.specs.Worlds.{World}
 use Rattle.session.specs.declared.ending.Ending.{Ending}
-use Rattle.command_words.specs.declared.request.Request.{Request}
-use Rattle.command_words.specs.declared.request.Request.TheVariants as requests
+use Rattle.arguments.specs.declared.request.Request.{Request}
+use Rattle.arguments.specs.declared.request.Request.TheVariants as requests
 use Rattle.program.specs.Status.{status_of}
 use Rattle.program.specs.declared.answer.Answer.{Answer}
 use Rattle.program.specs.declared.answer.Status.{Status}

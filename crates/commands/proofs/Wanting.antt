@@ -13,7 +13,7 @@ use Rattle.voxel_list.specs.Areas.{Area}
 use Rattle.bench_core.specs.Keeping.{without_points}
 use Rattle.bench_core.specs.Machine.{Entry, State, checked_level, level_by, pad_fault, redo_by, set_at, undo_by, unless_fault, value_fault}
 use Rattle.bench_core.specs.Texts.{contour_of}
-use Rattle.inner_volume.specs.Places.{place_of}
+use Rattle.unpadded_volume.specs.Places.{place_of}
 use Rattle.script.specs.declared.command.Command.{Command}
 use Rattle.script.specs.declared.command.Command.TheVariants.{Set, Fill, Level, Undo, Redo, Contour, Report, Measure, Window}
 use Rattle.script.specs.declared.command.LineFault.{LineFault}

@@ -5,8 +5,8 @@ use Rattle.byte_streams.specs.Causes.{Rose}
 use Rattle.iso_io.specs.Shelves.{Lacks, content}
 use Rattle.refusals.specs.declared.mesh.MeshFault.{MeshFault}
 use Rattle.session.specs.Sessions.{script_limit}
-use Rattle.command_words.specs.declared.request.Request.{Request}
-use Rattle.command_words.specs.declared.request.Request.TheVariants.{Points, Extract, Session, Check}
+use Rattle.arguments.specs.declared.request.Request.{Request}
+use Rattle.arguments.specs.declared.request.Request.TheVariants.{Points, Extract, Session, Check}
 use Rattle.program.specs.declared.answer.VolumeFault.{VolumeFault}
 use Rattle.commands.specs.Checks.{HasVerdict, is_broken, mesh_in, mesh_limit}
 use Rattle.commands.specs.Outcome.{Call}

@@ -2,9 +2,9 @@
 use Rattle.std.specs.Prelude.{◌≡◌, ◌↔◌, ℕ, List, None, Option, Some, ℤ}
 use Rattle.byte_streams.specs.Causes.{Rose}
 use Rattle.byte_streams.specs.Seen.{Tape}
-use Rattle.command_words.specs.Words.{request_of}
-use Rattle.command_words.specs.declared.request.Request.{Request}
-use Rattle.command_words.specs.declared.request.Request.TheVariants.{Extract, Session, Soak}
+use Rattle.arguments.specs.Words.{request_of}
+use Rattle.arguments.specs.declared.request.Request.{Request}
+use Rattle.arguments.specs.declared.request.Request.TheVariants.{Extract, Session, Soak}
 use Rattle.program.specs.Notes.{note_of}
 use Rattle.program.specs.Status.{status_of}
 use Rattle.program.specs.Tries.{Tries}

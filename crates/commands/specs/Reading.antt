@@ -3,9 +3,9 @@ use Rattle.std.specs.Prelude.{◌≡◌, List, ℕ, MatchOption}
 use Rattle.byte_streams.specs.Seen.{Feed, ReadsWithin}
 use Rattle.session.specs.Sessions.{script_limit}
 use Rattle.command_terms.specs.Volumes.{volume_limit}
-use Rattle.command_words.specs.Words.{request_of}
-use Rattle.command_words.specs.declared.request.Request.{Request}
-use Rattle.command_words.specs.declared.request.Request.TheVariants as requests
+use Rattle.arguments.specs.Words.{request_of}
+use Rattle.arguments.specs.declared.request.Request.{Request}
+use Rattle.arguments.specs.declared.request.Request.TheVariants as requests
 use Rattle.commands.specs.Checks.{mesh_limit}
 
 -- no further than its limit and one piece, where it reads at all

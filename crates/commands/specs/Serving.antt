@@ -17,10 +17,10 @@ use Rattle.commands.specs.Sessions.{Asked, RunsSession}
 use Rattle.commands.specs.Soaking.{DoesSoak}
 use Rattle.commands.specs.Sure.{HasSureReplies, HasSureSoak}
 use Rattle.command_terms.specs.Volumes.{volume_limit, volume_of}
-use Rattle.command_words.specs.Help.{help_text, version_text}
-use Rattle.command_words.specs.Words.{request_of}
-use Rattle.command_words.specs.declared.request.Request.{Request}
-use Rattle.command_words.specs.declared.request.Request.TheVariants as requests
+use Rattle.arguments.specs.Help.{help_text, version_text}
+use Rattle.arguments.specs.Words.{request_of}
+use Rattle.arguments.specs.declared.request.Request.{Request}
+use Rattle.arguments.specs.declared.request.Request.TheVariants as requests
 use Rattle.program.specs.declared.answer.Answer.{Answer}
 use Rattle.program.specs.declared.answer.Status.{Status}
 use Rattle.program.specs.declared.answer.Status.TheVariants as statuses

@@ -15,7 +15,7 @@ use program::{Answer, verdict_line};
 use std::alloc::Global;
 
 /// The most bytes of a mesh text.
-const LIMIT: u64 = 1 << 30;
+const MESH_LIMIT: u64 = 1 << 30;
 
 /// The mesh of a text.
 fn read_mesh(alloc: Global, format: TwoWayFormat, bytes: &[u8]) -> Result<TriangleList, MeshFault>
@@ -105,7 +105,7 @@ fn verdict_of_input<S: Source>(
     ensures reading { ReadsWithin mesh_limit (S.seen input.old) (S.seen input.new) }
     ensures fault { IfErr result (λ answer. HasNoMesh format (S.seen input.old) (S.seen input.new) answer) }
 {
-    let bytes = read_all_of(alloc, input, LIMIT)?;
+    let bytes = read_all_of(alloc, input, MESH_LIMIT)?;
     Ok(verdict_of_text(alloc, format, bytes)?)
 }
 

@@ -2,7 +2,7 @@
 //!
 //! Why: DECISIONS.md, "A promise is a record".
 ghost use Rattle.std.specs.Prelude.{◌≡◌, map, string_bytes, None};
-ghost use Rattle.command_words.specs.Words.{HasCapacity, HasSamplePad, IsCapacity};
+ghost use Rattle.arguments.specs.Words.{HasCapacity, HasSamplePad, IsCapacity};
 ghost use Rattle.commands.specs.Outcome.{call_between};
 ghost use Rattle.commands.specs.Promise.{RunsAs};
 ghost use Rattle.commands.specs.Reading.{ReadsFor, ReadsInput};
@@ -13,9 +13,9 @@ use crate::extracting::extract;
 use crate::generating::generate;
 use crate::sessions::run_on_file;
 use crate::soaking::soak;
+use arguments::{Request, help_text, read_words, version_text};
 use bench_core::{Bench, Capacity};
 use command_terms::tell;
-use command_words::{Request, help_text, read_words, version_text};
 use iso_base::Steps;
 use iso_io::{Shelf, Sink, Source};
 use point_command::points;

@@ -26,13 +26,13 @@ use std::alloc::Global;
 
 /// Which mesh of a volume is asked for.
 #[derive(Clone, Copy)]
-struct Asked {
+struct MeshRequest {
     level: Level,
     pad: Option<i64>,
     format: TwoWayFormat,
 }
 
-impl Asked {
+impl MeshRequest {
     /// How the mesh is written: with a pad, the pad's layer is taken off each coordinate.
     fn style(self) -> Style
         ensures { result ≡ style_of self.format (is_some self.pad) }
@@ -53,7 +53,7 @@ impl Asked {
 fn put_text<S: Samples, K: Sink>(
     sink: &mut K,
     mesh: &mut ListMesh<'_, S>,
-    asked: Asked,
+    asked: MeshRequest,
 ) -> Result<Written, Failed>
     ensures { (v : Volume) (level : ℤ) → is_some asked.pad ≡ is_some v.pad → mesh.old
         ≡ record { grid = v.grid; samples = v.samples; level = level }
@@ -67,7 +67,7 @@ fn put_text<S: Samples, K: Sink>(
 #[inline(never)]
 fn write_mesh<S: Samples, K: Sink>(
     alloc: Global,
-    asked: Asked,
+    asked: MeshRequest,
     sizes: Sizes,
     samples: &S,
     output: &mut K,
@@ -89,7 +89,7 @@ fn write_mesh<S: Samples, K: Sink>(
 /// Writes the mesh of a volume in a pad, from the samples without it: no list of the samples in the pad is made.
 fn extract_padded<S: Samples, K: Sink>(
     alloc: Global,
-    asked: Asked,
+    asked: MeshRequest,
     pad: i64,
     sizes: Sizes,
     samples: &S,
@@ -112,7 +112,7 @@ fn extract_padded<S: Samples, K: Sink>(
 /// Writes the mesh of a volume, in its pad where it is to have one, from the samples without it.
 fn extract_samples<S: Samples, K: Sink>(
     alloc: Global,
-    asked: Asked,
+    asked: MeshRequest,
     sizes: Sizes,
     samples: &S,
     output: &mut K,
@@ -132,7 +132,7 @@ fn extract_samples<S: Samples, K: Sink>(
 /// Writes the mesh of a volume of a file, from its samples.
 fn extract_from<S: Samples, K: Sink>(
     alloc: Global,
-    asked: Asked,
+    asked: MeshRequest,
     volume: &RawVolume<'_>,
     samples: &S,
     output: &mut K,
@@ -149,7 +149,7 @@ fn extract_from<S: Samples, K: Sink>(
 /// Writes the mesh of a volume whose samples lie in bytes.
 fn extract_raw<K: Sink>(
     alloc: Global,
-    asked: Asked,
+    asked: MeshRequest,
     volume: &RawVolume<'_>,
     output: &mut K,
 ) -> Answer
@@ -162,7 +162,12 @@ fn extract_raw<K: Sink>(
 }
 
 /// Writes the mesh of the volume in the bytes of a file, in its pad where it is to have one.
-fn extract_bytes<K: Sink>(alloc: Global, asked: Asked, bytes: Vec<u8>, output: &mut K) -> Answer
+fn extract_bytes<K: Sink>(
+    alloc: Global,
+    asked: MeshRequest,
+    bytes: Vec<u8>,
+    output: &mut K,
+) -> Answer
     requires { IfSome asked.pad IsSample }
     ensures text { WritesGiven (mesh_given asked.level asked.pad asked.format bytes.items) (K.seen output.old)
         (K.seen output.new) result }
@@ -197,7 +202,7 @@ pub fn extract<S: Source, K: Sink>(
 {
     match bytes_of_input(alloc, input) {
         Ok(bytes) => {
-            let asked = Asked { level, pad, format };
+            let asked = MeshRequest { level, pad, format };
             extract_bytes(alloc, asked, bytes, output)
         }
         Err(answer) => answer,

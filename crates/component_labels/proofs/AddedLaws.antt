@@ -5,8 +5,8 @@ use Rattle.std.proofs.lemmas.Bool.{both_ways, cases_Bool, cases_lt, false_from_n
 use Rattle.std.proofs.Math.Nat.{mod-add-div, mul-add, mul-add-mod_self_left, mul-le-mul_left}
 use Rattle.iso_defs.specs.Grid.{Grid}
 use Rattle.iso_defs.specs.Lists.{is_in}
-use Rattle.verdict_laws.proofs.Lists.{In}
-use Rattle.verdict_laws.proofs.Fans.{in_is_in}
+use Rattle.triangle_laws.proofs.Lists.{In}
+use Rattle.triangle_laws.proofs.Fans.{in_is_in}
 use Rattle.part_laws.specs.Loops.{Loop}
 use Rattle.part_laws.specs.Meets.{HasLabel, IsLabelling, IsNew, IsNext, is_met, least_joined, relabelled}
 use Rattle.part_laws.proofs.ClassLaws.{is_in_from}

@@ -1,7 +1,7 @@
 -- At the end of the walk the starts are the least joined labels.
 use Rattle.std.proofs.Common.{◌≡◌, ℕ, zero, suc, ◌<◌, ◌≤◌, List, [], ◌∷◌, cond, length, map, get_or, ltb, refl, sym, ap, ◌∙◌, subst, inl, inr, arith}
 use Rattle.std.proofs.lemmas.Bool.{cases_lt, lt-ltb, le-ltb}
-use Rattle.verdict_laws.proofs.Lists.{In, In-map}
+use Rattle.triangle_laws.proofs.Lists.{In, In-map}
 use Rattle.part_laws.specs.Loops.{Loop}
 use Rattle.part_laws.specs.Classes.{class_of}
 use Rattle.part_laws.specs.Meets.{least_joined, pair_loop}

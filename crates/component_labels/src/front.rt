@@ -12,7 +12,7 @@ use std::marker::Model;
 use std::simd::prelude::*;
 
 /// The label of an edge that no loop has met yet.
-pub const NONE: u32 = u32::MAX;
+pub const NO_LABEL: u32 = u32::MAX;
 
 /// A label for each lattice edge that begins in two slices across z: edges with the same remainder share a place. The edges of the cells of a
 /// row, and those that stay of the rows before it, lie within two slices.
@@ -41,7 +41,7 @@ fn some_of(labels: &[u32], from: usize) -> u64
     ensures bound { result < 256 }
 {
     let eight = u32x8::from_slice(&labels[from..]);
-    eight.simd_ne(u32x8::splat(NONE)).to_bitmask()
+    eight.simd_ne(u32x8::splat(NO_LABEL)).to_bitmask()
 }
 
 impl Front {
@@ -51,7 +51,7 @@ impl Front {
         ensures none { IfOk result (λ f. (k : ℕ) → k < room sizes → slice_index f.labels k ≡ none) }
     {
         let count = 6 * (sizes.nx() as usize * sizes.ny() as usize);
-        let labels = vec![in alloc; NONE; count]?;
+        let labels = vec![in alloc; NO_LABEL; count]?;
         Ok(Front { sizes, labels })
     }
 
@@ -128,7 +128,7 @@ impl Front {
 }
 
 /// The smallest label of the edges of a loop, which have their labels at some places, and one more than the greatest one. Edges that have none do not
-/// count; where no edge has one, the two are `NONE` and zero. No edge takes a branch, which could not be foreseen: `NONE` is the greatest number, and
+/// count; where no edge has one, the two are `NO_LABEL` and zero. No edge takes a branch, which could not be foreseen: `NO_LABEL` is the greatest number, and
 /// one more wraps to zero.
 #[inline(always)]
 pub(crate) fn label_range(front: &Front, places: &[u32; 12], shift: u32, edges: &[u8]) -> (u32, u32)
@@ -142,7 +142,7 @@ pub(crate) fn label_range(front: &Front, places: &[u32; 12], shift: u32, edges: 
         stand_of front.now places.now shift edges.now i < result.1 }
 {
     let labels: &[u32] = &front.labels[shift as usize..];
-    let mut low = NONE;
+    let mut low = NO_LABEL;
     let mut end = 0u32;
     for edge in edges {
         let label = labels[places[*edge as usize] as usize];

@@ -8,13 +8,13 @@ ghost use Rattle.component_labels.specs.Chains.{ArePaired};
 ghost use Rattle.component_labels.specs.Fronts.{none, room, row_name, slot_of};
 ghost use Rattle.component_labels.specs.Labelling.{Adds, AreMet, IsAdded, IsLabelFor, IsOneOf, Known, Stands, stand_of};
 
-use crate::front::{Front, NONE, label_range, set_all};
+use crate::front::{Front, NO_LABEL, label_range, set_all};
 use iso_base::{Memory, Sizes};
 use std::alloc::Global;
 use std::marker::Model;
 
 /// The most pairs or labels that are made, since the place of each is a number of 32 bits. That many take 30 gigabytes.
-const MOST: usize = 4_294_967_292;
+const MOST_LABELS: usize = 4_294_967_292;
 
 /// Labels of loops, and the pairs of them that met, each in both orders. For each label the lesser one is kept that it was noted with last, so
 /// that a pair is not noted again and again where two labels run side by side.
@@ -51,7 +51,7 @@ fn note(met: &mut Vec<u32>, pairs: &mut Vec<(u32, u32)>, low: u32, high: u32) ->
     if met[high as usize] == low {
         return Ok(());
     }
-    if pairs.len() > MOST {
+    if pairs.len() > MOST_LABELS {
         return Err(Memory);
     }
     pairs.extend_from_slice(&[(low, high), (high, low)])?;
@@ -117,7 +117,7 @@ impl Labels {
         ensures pairs { OnOk result (self.new.pairs ≡ self.old.pairs) }
         ensures value { IfOk result (λ label. label ≡ self.old.count) }
     {
-        if self.met.len() > MOST {
+        if self.met.len() > MOST_LABELS {
             return Err(Memory);
         }
         let label = self.met.len() as u32;
@@ -148,7 +148,7 @@ impl Labels {
         self.front.label(place)
     }
 
-    /// Notes that the labels of the edges of a loop meet the smallest of them. One more than `NONE` wraps to zero, so that one comparison tells an
+    /// Notes that the labels of the edges of a loop meet the smallest of them. One more than `NO_LABEL` wraps to zero, so that one comparison tells an
     /// edge that has another label from those that have this one or none.
     fn join(&mut self, places: &[u32; 12], shift: u32, edges: &[u8], low: u32) -> Result<(), Memory>
         requires edges { All (λ e. e < 12) edges.now }
@@ -181,7 +181,7 @@ impl Labels {
             (stand_of self.old.marks places.now shift edges.now) (length edges.now) label) }
     {
         let (low, end) = label_range(&self.front, places, shift, edges);
-        if low == NONE {
+        if low == NO_LABEL {
             let new = self.start()?;
             return Ok(new);
         }
@@ -245,7 +245,7 @@ impl Labels {
         ensures pairs { self.new.pairs ≡ self.old.pairs }
     {
         let label = self.front.label(place);
-        self.front.set(place, NONE);
+        self.front.set(place, NO_LABEL);
         label
     }
 }

@@ -8,7 +8,7 @@ mod labels;
 mod laws;
 mod walk;
 
-pub use front::NONE;
+pub use front::NO_LABEL;
 pub use labels::Labels;
 pub use laws::{loop_is_labelled, row_is_left};
 pub use walk::least_joined;

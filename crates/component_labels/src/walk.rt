@@ -10,7 +10,7 @@ use iso_base::Memory;
 use std::alloc::Global;
 
 /// The mark of a label that was not seen.
-const UNSEEN: u32 = u32::MAX;
+const UNSEEN_LABEL: u32 = u32::MAX;
 
 /// Sees a label from a start: puts it last in the queue, unless it was seen before.
 fn see(least: &mut [u32], queue: &mut Vec<u32>, label: u32, start: u32) -> Result<(), Memory>
@@ -22,7 +22,7 @@ fn see(least: &mut [u32], queue: &mut Vec<u32>, label: u32, start: u32) -> Resul
         joined ps label ≡ joined ps start
         → IsSpread ps start least.new queue.new.items) }
 {
-    if least[label as usize] == UNSEEN {
+    if least[label as usize] == UNSEEN_LABEL {
         queue.push(label)?;
         least[label as usize] = start;
     }
@@ -122,7 +122,7 @@ pub fn least_joined(alloc: Global, count: u32, pairs: &[(u32, u32)]) -> Result<V
     ensures { IfOk result (λ least. IsLeast count pairs.now least.items) }
 {
     let chains = Chains::of(alloc, count, pairs)?;
-    let mut least = vec![in alloc; UNSEEN; count as usize]?;
+    let mut least = vec![in alloc; UNSEEN_LABEL; count as usize]?;
     let mut queue = Vec::with_capacity(alloc, count as usize)?;
     walk_all(&chains, pairs, least.as_mut_slice(), &mut queue)?;
     Ok(least)

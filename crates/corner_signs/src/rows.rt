@@ -31,7 +31,7 @@ fn eight_at(samples: &[i64], at: usize) -> [i64; 8]
 
 /// Writes the bits of eight samples, from a place on.
 #[inline(always)]
-fn put_eight(samples: [i64; 8], least: i64, at: usize, out: &mut [u8])
+fn fill_eight(samples: [i64; 8], least: i64, at: usize, out: &mut [u8])
     requires samples { Each1 (FitsSigned w64) samples }
     requires out { at + 8 ≤ length out.old }
     ensures { out.new ≡ put_chunk at out.old (map (bit_from least) samples) }
@@ -43,13 +43,13 @@ fn put_eight(samples: [i64; 8], least: i64, at: usize, out: &mut [u8])
 
 /// Writes the bits of the samples up to a multiple of eight.
 #[inline(always)]
-fn put_eights(samples: &[i64], least: i64, eights: usize, out: &mut [u8])
+fn fill_eights(samples: &[i64], least: i64, eights: usize, out: &mut [u8])
     requires samples { 8 * eights ≤ length samples.now }
     requires out { 8 * eights ≤ length out.old }
     ensures { take (8 * eights) out.new ≡ map (bit_from least) (take (8 * eights) samples.now) }
 {
     for i in 0..eights {
-        put_eight(eight_at(samples, 8 * i), least, 8 * i, out);
+        fill_eight(eight_at(samples, 8 * i), least, 8 * i, out);
     }
 }
 
@@ -60,7 +60,7 @@ pub fn sign_row(samples: &[i64], level: Level, out: &mut [u8])
 {
     let least = level.least_above();
     let eights = samples.len() / 8;
-    put_eights(samples, least, eights, out);
+    fill_eights(samples, least, eights, out);
     for i in 8 * eights..samples.len() {
         out[i] = bit(samples[i], least);
     }

@@ -6,7 +6,7 @@ use Rattle.std.proofs.lemmas.List.{ext_get_or, get_or-map, get_or-set_other, get
 use Rattle.std.proofs.lemmas.Simd.{map-map}
 use Rattle.iso_defs.specs.Grid.{Grid}
 use Rattle.iso_defs.specs.Signs.{is_crossing}
-use Rattle.verdict_laws.proofs.Lists.{In, In-filter}
+use Rattle.triangle_laws.proofs.Lists.{In, In-filter}
 use Rattle.row_bits.specs.Edges.{edges_among, edges_at}
 use Rattle.row_bits.proofs.EdgeLists.{among_more, among_none, among_one}
 use Rattle.crossing_edges.specs.Flags.{edge_place, flags_at, flags_from, names_in, places_in}

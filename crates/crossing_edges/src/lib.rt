@@ -11,6 +11,6 @@ mod slices;
 
 pub use counts::{begin_none, count_all_edges, count_edges};
 pub use edges::{EdgeVertices, edge_vertices, position_on};
-pub use flags::{PointBits, flag_row, point_bits, put_flags};
-pub use rows::{EdgeRows, RowEdges};
+pub use flags::{PointBits, fill_flags, flag_row, point_bits};
+pub use rows::{EdgeBuffers, EdgeRows};
 pub use slices::SliceSigns;

@@ -23,15 +23,15 @@ use std::marker::Model;
 /// Room for the crossing edges that begin in a row of points, and for where they are crossed. Their number is not kept here. An
 /// edge is known by its offset: three times how far its point is along x, and its axis.
 #[derive(Drop)]
-pub struct RowEdges {
+pub struct EdgeBuffers {
     pub edges: [u16; ROW_EDGES],
     pub places: [u16; ROW_EDGES],
 }
 
-impl RowEdges {
+impl EdgeBuffers {
     /// Room for the edges of a row.
-    pub fn new() -> RowEdges {
-        RowEdges {
+    pub fn new() -> EdgeBuffers {
+        EdgeBuffers {
             edges: [0; ROW_EDGES],
             places: [0; ROW_EDGES],
         }
@@ -126,7 +126,7 @@ impl<'a, S: Samples> EdgeRows<'a, S> {
     }
 
     /// Fills in where the crossing edges of a row are crossed, at the front of a buffer.
-    fn put_places(&self, start: u32, edges: &[u16], places: &mut [u16; ROW_EDGES])
+    fn fill_crossings(&self, start: u32, edges: &[u16], places: &mut [u16; ROW_EDGES])
         requires edges { AreOffsets self.now start self.now.grid.nx edges.now }
         requires points { start + self.now.grid.nx ≤ point_count self.now.grid }
         requires few { length edges.now ≤ 3078 }
@@ -139,14 +139,14 @@ impl<'a, S: Samples> EdgeRows<'a, S> {
     }
 
     /// Writes the signs of the points of a slice: 1 for each that is above the level, 0 for each other.
-    pub(crate) fn put_slice(&self, z: u32, slice: &mut [u8])
+    pub(crate) fn fill_slice(&self, z: u32, slice: &mut [u8])
         requires z { z < self.now.grid.nz }
         requires count { length slice.old ≡ self.now.grid.nx * self.now.grid.ny }
         ensures { AreSliceSigns self.now z slice.new }
     {
         let sizes = self.sizes();
         self.samples
-            .put_signs(sizes.nx() * sizes.ny() * z, self.level, slice);
+            .fill_signs(sizes.nx() * sizes.ny() * z, self.level, slice);
     }
 
     /// How many crossing edges there are. `signs` and `flags`, as many as points along x, are buffers.
@@ -160,7 +160,7 @@ impl<'a, S: Samples> EdgeRows<'a, S> {
         signs.begin(self);
         let mut count = 0;
         for row in 0..sizes.ny() * sizes.nz() {
-            signs.put_flags(self, row, flags);
+            signs.fill_flags(self, row, flags);
             count += count_all_edges(flags);
         }
         count
@@ -168,7 +168,7 @@ impl<'a, S: Samples> EdgeRows<'a, S> {
 
     /// Lists the crossing edges of a row by their offsets, and where they are crossed, at the front of the room for them, and says
     /// how many there are. `flags` are those of the points of the row.
-    pub fn list_row(&self, row: u32, flags: &[u8], room: &mut RowEdges) -> usize
+    pub fn list_row(&self, row: u32, flags: &[u8], room: &mut EdgeBuffers) -> usize
         requires row { row < row_count self.now.grid }
         requires flags { let g = self.now.grid in
             flags.now ≡ flags_from g (heights self.now) (g.nx * row) g.nx }
@@ -179,7 +179,7 @@ impl<'a, S: Samples> EdgeRows<'a, S> {
     {
         let start = self.nx() * row;
         let count = list_edges(flags, &mut room.edges);
-        self.put_places(start, &room.edges[..count], &mut room.places);
+        self.fill_crossings(start, &room.edges[..count], &mut room.places);
         count
     }
 }

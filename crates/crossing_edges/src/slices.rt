@@ -50,8 +50,8 @@ impl SliceSigns {
         ensures { AreAtRow rows.now 0 self.new }
     {
         let _ = rows.sizes();
-        rows.put_slice(0, &mut self.near);
-        rows.put_slice(1, &mut self.far);
+        rows.fill_slice(0, &mut self.near);
+        rows.fill_slice(1, &mut self.far);
     }
 
     /// The signs of the next slice, or of the same one if it is the last.
@@ -70,7 +70,7 @@ impl SliceSigns {
     }
 
     /// Writes the flags of the points of a row of the slice.
-    fn put_row<S: Samples>(&self, rows: &EdgeRows<'_, S>, y: u32, z: u32, flags: &mut [u8])
+    fn fill_row<S: Samples>(&self, rows: &EdgeRows<'_, S>, y: u32, z: u32, flags: &mut [u8])
         requires y { y < rows.now.grid.ny }
         requires z { z < rows.now.grid.nz }
         requires signs { AreSlices rows.now z self.now }
@@ -100,12 +100,12 @@ impl SliceSigns {
         let sizes = rows.sizes();
         mem::swap(&mut self.near, &mut self.far);
         if z + 2 < sizes.nz() {
-            rows.put_slice(z + 2, &mut self.far);
+            rows.fill_slice(z + 2, &mut self.far);
         }
     }
 
     /// Writes the flags of the points of a row, and goes on to the next one.
-    pub fn put_flags<S: Samples>(&mut self, rows: &EdgeRows<'_, S>, row: u32, flags: &mut [u8])
+    pub fn fill_flags<S: Samples>(&mut self, rows: &EdgeRows<'_, S>, row: u32, flags: &mut [u8])
         requires row { row < row_count rows.now.grid }
         requires signs { AreAtRow rows.now row self.old }
         requires count { length flags.old ≡ rows.now.grid.nx }
@@ -115,7 +115,7 @@ impl SliceSigns {
     {
         let ny = rows.sizes().ny();
         let (y, z) = (row % ny, row / ny);
-        self.put_row(rows, y, z, flags);
+        self.fill_row(rows, y, z, flags);
         if y + 1 == ny {
             self.turn(rows, z);
         }

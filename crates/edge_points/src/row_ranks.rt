@@ -66,7 +66,7 @@ impl RowRanks {
     }
 
     /// Puts the room for lists back.
-    pub fn put_room(&mut self, room: Option<Vec<u16>>)
+    pub fn set_room(&mut self, room: Option<Vec<u16>>)
         ensures { self.new ≡ self.old }
     {
         self.room = room;

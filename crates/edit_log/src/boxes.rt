@@ -34,7 +34,7 @@ pub fn area_point(sizes: &Sizes, area: &FillBox, k: u32) -> Point
 }
 
 /// Replaces the sample of a point that holds no pad.
-pub fn put_sample(store: &mut BrickStore, point: Point, value: &i64)
+pub fn set_sample(store: &mut BrickStore, point: Point, value: &i64)
     requires point { IsPoint store.old.grid point }
     requires inner { IsInner store.old (index_of store.old.grid point) }
     requires kind { IsOfKind store.old.kind value.now }
@@ -58,7 +58,7 @@ pub fn area_count(sizes: &Sizes, area: &FillBox) -> u32
 }
 
 /// The most points of a row that are taken or replaced together.
-pub const PIECE: u32 = 128;
+pub const PIECE_SAMPLES: u32 = 128;
 
 /// How many points of a box from the number k on, before an end, are replaced together: those of one row, a piece at most.
 pub fn piece_of_row(area: &FillBox, k: u32, end: u32) -> u32
@@ -69,7 +69,7 @@ pub fn piece_of_row(area: &FillBox, k: u32, end: u32) -> u32
     ensures row { k % (area_grid area.now).nx + result ≤ (area_grid area.now).nx }
 {
     let width = area.high().x - area.low().x + 1;
-    (end - k).min(width - k % width).min(PIECE)
+    (end - k).min(width - k % width).min(PIECE_SAMPLES)
 }
 
 /// Replaces the samples of all points of a box, which holds no pad. The cost is that of the box. Takes no memory.

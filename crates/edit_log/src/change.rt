@@ -6,7 +6,7 @@ ghost use Rattle.iso_base.specs.Samples.{IsOfKind};
 ghost use Rattle.iso_base.specs.Volume.{IsInner};
 ghost use Rattle.edit_log.specs.Changes.{Suits, after, area_of, before, moment, value_of};
 
-use crate::boxes::{fill_area, put_sample};
+use crate::boxes::{fill_area, set_sample};
 use crate::runs::Runs;
 use brick_store::BrickStore;
 use iso_base::{Level, Sizes, point_of};
@@ -57,7 +57,7 @@ impl Change {
         ensures { moment store.new level.new ≡ after self.now (moment store.old level.old) }
     {
         match self {
-            Change::One { index, new, .. } => put_at(store, *index, new),
+            Change::One { index, new, .. } => set_at(store, *index, new),
             Change::Area { area, new, .. } => fill_area(store, area, new),
             Change::LevelWas { new, .. } => *level = *new,
         }
@@ -69,7 +69,7 @@ impl Change {
         ensures { moment store.new level.new ≡ before self.now (moment store.old level.old) }
     {
         match self {
-            Change::One { index, old, .. } => put_at(store, *index, old),
+            Change::One { index, old, .. } => set_at(store, *index, old),
             Change::Area { area, old, .. } => old.write_back(store, area),
             Change::LevelWas { old, .. } => *level = *old,
         }
@@ -77,12 +77,12 @@ impl Change {
 }
 
 /// Replaces the sample at an index, which holds no pad.
-fn put_at(store: &mut BrickStore, index: u32, value: &i64)
+fn set_at(store: &mut BrickStore, index: u32, value: &i64)
     requires within { index < point_count store.old.grid }
     requires inner { IsInner store.old index }
     requires kind { IsOfKind store.old.kind value.now }
     ensures { store.new ≡ record store.old { samples = slice_set store.old.samples index value.now } }
 {
     let point = point_of(&store.sizes(), index);
-    put_sample(store, point, value);
+    set_sample(store, point, value);
 }

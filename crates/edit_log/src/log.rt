@@ -11,7 +11,7 @@ use std::alloc::Global;
 use std::marker::Model;
 
 /// The most changes that are kept, done and undone together.
-const DEPTH: usize = 128;
+const MOST_CHANGES: usize = 128;
 
 /// The last changes: those that were made, and those that were taken back and not yet made again, 128 together at most.
 /// Contracts see two lists, the made ones with the newest last, the others with the next first.
@@ -40,7 +40,7 @@ impl EditLog {
     pub fn new(alloc: Global) -> Result<EditLog, Memory>
         ensures { IfOk result (λ l. l ≡ record { done = []; undone = [] }) }
     {
-        let changes = HeapCircularBuffer::with_capacity(alloc, DEPTH)?;
+        let changes = HeapCircularBuffer::with_capacity(alloc, MOST_CHANGES)?;
         Ok(EditLog { changes, done: 0 })
     }
 

@@ -12,7 +12,7 @@ ghost use Rattle.brick_store.specs.Boxes.{AreOne};
 ghost use Rattle.edit_log.specs.Boxes.{IsInnerArea, area_samples, restored, row_samples};
 ghost use Rattle.edit_log.specs.Runs.{gathered, values_left, values_of};
 
-use crate::boxes::{PIECE, area_count, area_point, fill_area, piece_of_row};
+use crate::boxes::{PIECE_SAMPLES, area_count, area_point, fill_area, piece_of_row};
 use brick_store::{BrickStore, Values};
 use iso_base::{Memory, Point};
 use std::alloc::{AllocError, Global};
@@ -28,7 +28,7 @@ struct Run {
 
 /// Values one after another, in the way that takes less.
 #[derive(Drop)]
-enum Kept {
+enum StoredValues {
     Equal(Vec<Run>),
     Each(Vec<i64>),
 }
@@ -37,7 +37,7 @@ enum Kept {
 /// of the values.
 #[derive(Drop)]
 pub struct Runs {
-    kept: Kept,
+    kept: StoredValues,
 }
 
 impl Model for Runs {
@@ -133,7 +133,7 @@ fn equal_samples(
 {
     let sizes = store.sizes();
     let count = area_count(&sizes, area);
-    let mut row = [0; PIECE as usize];
+    let mut row = [0; PIECE_SAMPLES as usize];
     let mut runs = Vec::new(alloc);
     let mut run = Run {
         value: store.get(area.low()),
@@ -236,7 +236,7 @@ fn write_runs(store: &mut BrickStore, area: &FillBox, runs: &[Run])
 {
     let sizes = store.sizes();
     let count = area_count(&sizes, area);
-    let mut values = [0; PIECE as usize];
+    let mut values = [0; PIECE_SAMPLES as usize];
     let run = Run { value: 0, count: 0 };
     let mut rest = Rest { run, next: 0 };
     let mut k = 0;
@@ -276,10 +276,10 @@ impl Runs {
         ensures { IfOk result (λ r. r ≡ area_samples store.now.grid area.now store.now.samples) }
     {
         if let Some(runs) = equal_samples(alloc, store, area)? {
-            let kept = Kept::Equal(runs);
+            let kept = StoredValues::Equal(runs);
             return Ok(Runs { kept });
         }
-        let kept = Kept::Each(each_sample(alloc, store, area)?);
+        let kept = StoredValues::Each(each_sample(alloc, store, area)?);
         Ok(Runs { kept })
     }
 
@@ -300,7 +300,7 @@ impl Runs {
             value: *value,
             count,
         })?;
-        let kept = Kept::Equal(runs);
+        let kept = StoredValues::Equal(runs);
         Ok(Runs { kept })
     }
 
@@ -317,8 +317,8 @@ impl Runs {
         } }
     {
         match &self.kept {
-            Kept::Equal(runs) => write_equal(store, area, runs),
-            Kept::Each(values) => store.set_box(area, Values::Each(values)),
+            StoredValues::Equal(runs) => write_equal(store, area, runs),
+            StoredValues::Each(values) => store.set_box(area, Values::Each(values)),
         }
     }
 }

@@ -6,8 +6,8 @@ use Rattle.std.proofs.lemmas.List.{length-map}
 use Rattle.iso_defs.specs.Grid.{Grid}
 use Rattle.iso_defs.specs.Place.{Position}
 use Rattle.iso_defs.specs.Scratch.{number_of, vertex_names, vertices}
-use Rattle.verdict_laws.proofs.Lists.{In}
-use Rattle.verdict_laws.proofs.Counts.{count-cons, count_none}
+use Rattle.triangle_laws.proofs.Lists.{In}
+use Rattle.triangle_laws.proofs.Counts.{count-cons, count_none}
 use Rattle.mesh_laws.proofs.Oriented.{Ascending, vertices_ascend}
 
 there : (xs : List ℕ) (i : ℕ) → i < length xs → In (get_or xs i 0) xs

@@ -9,7 +9,7 @@ ghost use Rattle.iso_base.specs.Shifted.{level_limit, shifted, is_above_level, i
 use std::marker::Model;
 
 /// Levels have an absolute value below this: 2^33 times 1,000, in thousandths.
-const LIMIT: u128 = 8_589_934_592_000;
+const LEVEL_LIMIT: u128 = 8_589_934_592_000;
 
 /// A level, in thousandths of the unit of samples: a whole number of absolute value below 2^33 times 1,000.
 /// Contracts see it as that number.
@@ -35,7 +35,7 @@ impl Level {
         ensures made { IsSome result ↔ (unsigned_abs thousandths < level_limit) }
         ensures value { IfSome result (λ l. l ≡ thousandths) }
     {
-        if thousandths.unsigned_abs() < LIMIT {
+        if thousandths.unsigned_abs() < LEVEL_LIMIT {
             Some(Level(thousandths as i64))
         } else {
             None

@@ -34,13 +34,13 @@ pub trait FileText {
 }
 
 /// The most bytes of the name of a file of the system.
-const LONGEST: usize = 255;
+const NAME_BYTES: usize = 255;
 
 /// Whether no file of the system has the name.
 // Apart, so that whoever asks has entered its frame before, whatever the answer is.
 #[inline(never)]
 fn is_too_long(name: &str) -> bool {
-    name.len() > LONGEST
+    name.len() > NAME_BYTES
 }
 
 /// The same name, by way of a copy.

@@ -8,10 +8,10 @@ use Rattle.iso_defs.specs.Cell.{Triangle}
 use Rattle.iso_defs.specs.Manifold.{HasThreeCorners, arcs, all_runs, times_run}
 use Rattle.iso_defs.specs.Verdict.{border_count}
 use Rattle.iso_base.specs.Triangles.{IsBelow}
-use Rattle.verdict_laws.proofs.Lists.{In}
-use Rattle.verdict_laws.proofs.Counts.{count_some, count_none, count_agree}
-use Rattle.verdict_laws.proofs.FanWalk.{ends_in, ends_from}
-use Rattle.verdict_laws.proofs.FanDecided.{arcs_end}
+use Rattle.triangle_laws.proofs.Lists.{In}
+use Rattle.triangle_laws.proofs.Counts.{count_some, count_none, count_agree}
+use Rattle.triangle_laws.proofs.FanWalk.{ends_in, ends_from}
+use Rattle.triangle_laws.proofs.FanDecided.{arcs_end}
 use Rattle.arc_rings.proofs.ArcLaws.{total_below, total_is, times_ended, runs_three}
 use Rattle.mesh_check.specs.Judged.{loose_at, loose_below}
 

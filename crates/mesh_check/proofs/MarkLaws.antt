@@ -5,8 +5,8 @@ use Rattle.std.proofs.lemmas.Bool.{cases_Bool, cases_eq, eq-eqb, eqb-true, ne_eq
 use Rattle.iso_defs.specs.Lists.{begins, ends}
 use Rattle.iso_defs.specs.Cell.{next_of}
 use Rattle.iso_defs.specs.FanWalk.{walked}
-use Rattle.verdict_laws.proofs.Counts.{count-cons, count_some, count_none}
-use Rattle.verdict_laws.proofs.FanWalk.{next_in, begins_from}
+use Rattle.triangle_laws.proofs.Counts.{count-cons, count_some, count_none}
+use Rattle.triangle_laws.proofs.FanWalk.{next_in, begins_from}
 use Rattle.mesh_check.specs.declared.marks.Mark.{Mark}
 use Rattle.arc_rings.specs.Arcs.{ArcBelow}
 use Rattle.mesh_check.specs.Marks.{IsMarked, IsUnmarked, IsPut, IsLeastTwice, begun, mark_at, noted_of}

@@ -6,8 +6,8 @@ use Rattle.iso_defs.specs.Cell.{Triangle}
 use Rattle.iso_defs.specs.Manifold.{HasThreeCorners, IsFan, IsManifold, arcs, times_run}
 use Rattle.iso_defs.specs.Verdict as laws
 use Rattle.iso_defs.specs.Verdict.{IsBefore, border_count}
-use Rattle.verdict_laws.proofs.FanDecided.{arcs_begin, fan_from}
-use Rattle.verdict_laws.proofs.Verdicts.{fan_of_none}
+use Rattle.triangle_laws.proofs.FanDecided.{arcs_begin, fan_from}
+use Rattle.triangle_laws.proofs.Verdicts.{fan_of_none}
 use Rattle.mesh_check.specs.declared.fan.Fan.TheVariants.{Whole, Split}
 use Rattle.iso_base.specs.declared.verdict.Verdict.TheVariants.{Closed, Border}
 use Rattle.iso_base.specs.Triangles.{IsBelow}

@@ -30,7 +30,7 @@ pub fn mark_arcs(marks: &mut [Mark], arcs: &[(u32, u32)], stamp: u32) -> Option<
     let mut twice = None;
     for &(begin, end) in arcs.iter().rev() {
         twice = least_twice(twice, begin, marks[begin as usize].owner == stamp);
-        put_mark(marks, begin, end, stamp);
+        set_mark(marks, begin, end, stamp);
     }
     twice
 }
@@ -46,7 +46,7 @@ fn least_twice(twice: Option<u32>, b: u32, again: bool) -> Option<u32>
     }
 }
 
-fn put_mark(marks: &mut [Mark], begin: u32, end: u32, stamp: u32)
+fn set_mark(marks: &mut [Mark], begin: u32, end: u32, stamp: u32)
     requires begin { begin < length marks.old }
     requires end { end < length marks.old }
     ensures { IsPut marks.old marks.new begin end stamp }

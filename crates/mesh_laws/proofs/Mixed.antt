@@ -6,7 +6,7 @@ use Rattle.iso_defs.specs.Grid.{Grid, coordinate, index, point_count, cells, is_
 use Rattle.iso_defs.specs.Cell.{corner_point, cell_edge, edge_corner}
 use Rattle.case_laws.proofs.EdgePairs.{bit_x, bit_y, bit_z}
 use Rattle.case_laws.proofs.Rotation.{mixes}
-use Rattle.verdict_laws.proofs.Lists.{In, in_filter}
+use Rattle.triangle_laws.proofs.Lists.{In, in_filter}
 use Rattle.mesh_laws.proofs.Cells.{cell_in, range_in}
 use Rattle.mesh_laws.proofs.TwoCells.{Same, same_is, Corner, corner_is, corner_below}
 use Rattle.mesh_laws.proofs.Names.{corner_in}

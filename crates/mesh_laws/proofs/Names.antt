@@ -8,7 +8,7 @@ use Rattle.iso_defs.specs.Cell.{corner_point, edge_corner, cell_edge}
 use Rattle.iso_defs.specs.Scratch.{vertex_name, centre_name}
 use Rattle.case_laws.proofs.Cases.{all_below}
 use Rattle.case_laws.proofs.EdgePairs.{bit_x, bit_y, bit_z, same_corner, implies}
-use Rattle.verdict_laws.proofs.Lists.{In}
+use Rattle.triangle_laws.proofs.Lists.{In}
 use Rattle.case_laws.proofs.Tests.{all_below_at}
 use Rattle.mesh_laws.proofs.Cells.{cell_in}
 use Rattle.iso_defs.proofs.Coordinates.{height_moved}

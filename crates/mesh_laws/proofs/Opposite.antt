@@ -11,9 +11,9 @@ use Rattle.iso_defs.specs.Manifold.{runs, times_run, runs_of, all_runs}
 use Rattle.case_laws.proofs.Cases.{all_below, same, runs_test, runs_all}
 use Rattle.case_laws.proofs.EdgePairs.{in_face, shares_face, alike, implies}
 use Rattle.case_laws.proofs.Rotation.{plane_at, planes_all, sides_all, two_edges_test, two_edges_all, step_at, bit_along, up_half, half, follow}
-use Rattle.verdict_laws.proofs.Lists.{In, in_map, In-flat_map, in_flat_map, in_filter, list_all_at, in_any, any_in}
+use Rattle.triangle_laws.proofs.Lists.{In, in_map, In-flat_map, in_flat_map, in_filter, list_all_at, in_any, any_in}
 use Rattle.case_laws.proofs.Tests.{all_below_at, cell_passes}
-use Rattle.verdict_laws.proofs.Counts.{pair_in, count_some, count_finds}
+use Rattle.triangle_laws.proofs.Counts.{pair_in, count_some, count_finds}
 use Rattle.mesh_laws.proofs.Cells.{cell_in, range_in, range_at_least}
 use Rattle.iso_defs.specs.Surface.{lies_in_plane, is_border}
 use Rattle.mesh_laws.proofs.TwoCells.{Corner, corner_is, corner_below, Pair, pair_is, Same, same_is, alike_is, same-true}

@@ -15,12 +15,12 @@ use Rattle.iso_defs.specs.Surface.{lies_in_plane, is_border}
 use Rattle.iso_defs.specs.Outside.{is_outer, IsSolid, IsBelowOutside}
 use Rattle.iso_defs.specs.Verdict.{on_border, IsVerdict}
 use Rattle.iso_defs.specs.Verdict.Verdict.{Closed}
-use Rattle.verdict_laws.proofs.Lists.{In, In-append, In-map, in_map, In-flat_map, In-filter, any_in, in_any}
+use Rattle.triangle_laws.proofs.Lists.{In, In-append, In-map, in_map, In-flat_map, In-filter, any_in, in_any}
 use Rattle.mesh_laws.proofs.Cells.{range_in, range_at_least}
 use Rattle.iso_defs.proofs.Coordinates.{x_moved, y_moved, z_moved, height_moved}
 use Rattle.mesh_laws.proofs.Oriented.{runs_match, vertex_at, centre_bounds}
 use Rattle.mesh_laws.proofs.Surfaces.{manifold}
-use Rattle.verdict_laws.proofs.Counts.{count_some, count_finds, run_in}
+use Rattle.triangle_laws.proofs.Counts.{count_some, count_finds, run_in}
 use Rattle.mesh_laws.proofs.Numbers.{Vertices, triangle_vertices}
 use Rattle.mesh_laws.proofs.Opposite.{run_moves}
 

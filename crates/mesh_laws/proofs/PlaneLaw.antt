@@ -11,8 +11,8 @@ use Rattle.iso_defs.specs.Surface.{lies_in_plane}
 use Rattle.iso_defs.specs.Outside.{IsThick}
 use Rattle.iso_defs.specs.Contours.{squares, square_pairs, plane_pairs}
 use Rattle.iso_defs.specs.PlaneOfMesh.{both_in_plane, IsPlaneEdge, IsPlaneOfMesh}
-use Rattle.verdict_laws.proofs.Lists.{In, In-map, In-flat_map, in_flat_map, In-filter, in_filter}
-use Rattle.verdict_laws.proofs.Counts.{pair_in, in_pair, count_finds, count_some}
+use Rattle.triangle_laws.proofs.Lists.{In, In-map, In-flat_map, in_flat_map, In-filter, in_filter}
+use Rattle.triangle_laws.proofs.Counts.{pair_in, in_pair, count_finds, count_some}
 use Rattle.mesh_laws.proofs.Cells.{cell_in, range_in, range_at_least}
 use Rattle.mesh_laws.proofs.TwoCells.{Corner, corner_is, Pair, pair_is}
 use Rattle.mesh_laws.proofs.Names.{edge_in, name_of_edge, name_of_centre, corner_in}

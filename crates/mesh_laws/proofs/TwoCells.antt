@@ -9,7 +9,7 @@ use Rattle.iso_defs.specs.Cell.{corner_point, edge_corner, cell_edge, cell_signs
 use Rattle.case_laws.proofs.Cases.{all_below, same}
 use Rattle.case_laws.proofs.EdgePairs.{shares_face, direction, pair_test, pair_test_all, bit_x, bit_y, bit_z, alike, same_corner, implies, two_cells_test, two_cells_all}
 use Rattle.case_laws.proofs.Tests.{all_below_at, cell_passes}
-use Rattle.verdict_laws.proofs.Lists.{In, list_all_at}
+use Rattle.triangle_laws.proofs.Lists.{In, list_all_at}
 use Rattle.iso_defs.proofs.Coordinates.{x_moved, y_moved, z_moved}
 
 pub corner_below : (e : ℕ) → e < 12 → edge_corner e < 8

@@ -10,8 +10,8 @@ use Rattle.case_laws.proofs.EdgePairs.{bit_x, bit_y, bit_z, alike, same_corner, 
 use Rattle.case_laws.proofs.Rotation.{bit_along}
 use Rattle.iso_defs.specs.UnitFace.{is_face, face_has}
 use Rattle.case_laws.proofs.UnitFaces.{faces_all, flat_all}
-use Rattle.verdict_laws.proofs.Lists.{In, In-map, list_all_at, any_in}
-use Rattle.verdict_laws.proofs.Fans.{in_is_in}
+use Rattle.triangle_laws.proofs.Lists.{In, In-map, list_all_at, any_in}
+use Rattle.triangle_laws.proofs.Fans.{in_is_in}
 use Rattle.case_laws.proofs.Tests.{all_below_at}
 use Rattle.iso_defs.proofs.Coordinates.{x_moved, y_moved, z_moved}
 use Rattle.mesh_laws.proofs.TwoCells.{same_edge, Same, same_cell, alike_is, corner_below}

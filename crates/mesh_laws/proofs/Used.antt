@@ -10,7 +10,7 @@ use Rattle.iso_defs.specs.Cell.{Triangle, corner_point, edge_corner, cell_edge, 
 use Rattle.iso_defs.specs.Place.{Position, edge_position, centre_position}
 use Rattle.iso_defs.specs.Scratch.{triangles, number_of, vertex_names, vertices, crossing_edges, cell_centres, cell_loops, has_centre, centre_name, on_corners, named_triangles, cell_triangles, vertex_name}
 use Rattle.iso_defs.specs.Manifold.{arcs, arc_of, uses}
-use Rattle.verdict_laws.proofs.Lists.{In, In-append, In-map, in_map, In-flat_map, In-filter, any_in, list_all_at}
+use Rattle.triangle_laws.proofs.Lists.{In, In-append, In-map, in_map, In-flat_map, In-filter, any_in, list_all_at}
 use Rattle.mesh_laws.proofs.Cells.{range_at_least}
 use Rattle.iso_defs.proofs.Points.{x_index, y_index, z_index, index_in, index_of_point}
 use Rattle.mesh_laws.proofs.Apart.{crosses_is}
@@ -22,7 +22,7 @@ use Rattle.case_laws.proofs.Wedges.{centre_test, centre_all, distinct_test, same
 use Rattle.case_laws.proofs.EdgePairs.{implies}
 use Rattle.case_laws.proofs.Tests.{cell_passes}
 use Rattle.mesh_laws.proofs.Names.{name_of_centre}
-use Rattle.verdict_laws.proofs.Counts.{count-cons, count_none}
+use Rattle.triangle_laws.proofs.Counts.{count-cons, count_none}
 use Rattle.mesh_laws.proofs.Directed.{local}
 use Rattle.mesh_laws.proofs.Oriented.{Ascending, vertices_ascend, runs_match}
 use Rattle.mesh_laws.proofs.Surfaces.{manifold}

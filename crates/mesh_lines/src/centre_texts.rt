@@ -4,7 +4,7 @@ ghost use Rattle.iso_base.specs.Triangles.{triangle_of};
 ghost use Rattle.mesh_lines.specs.Lines.{vertex_line};
 ghost use Rattle.mesh_lines.specs.RowLines.{centre_at};
 
-use crate::block::Block;
+use crate::line_buffer::LineBuffer;
 use crate::row_texts::{FRONTS, least_of, set_fronts, turn_wholes, wholes_of};
 use crate::style::Style;
 use mesh_text::{Lines, Piece};
@@ -54,7 +54,7 @@ impl Model for CentreTexts {
 
 impl CentreTexts {
     /// The parts for the first row of a slice of so many points a row.
-    pub fn new(style: Style, count: u32, block: &Block) -> CentreTexts
+    pub fn new(style: Style, count: u32, block: &LineBuffer) -> CentreTexts
         requires { count ≤ 1026 }
         ensures { result ≡ record { style = style; count = count; y = 0; z = 0 } }
     {
@@ -74,7 +74,7 @@ impl CentreTexts {
     }
 
     /// Turns to a row.
-    pub fn turn_to(&mut self, y: u32, z: u32, block: &Block)
+    pub fn turn_to(&mut self, y: u32, z: u32, block: &LineBuffer)
         requires y { y ≤ 1026 }
         requires z { z ≤ 1026 }
         ensures { self.new ≡ record { style = self.old.style; count = self.old.count; y = y; z = z } }

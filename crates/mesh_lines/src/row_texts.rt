@@ -10,7 +10,7 @@ ghost use Rattle.mesh_text.specs.Pieces.{piece_text};
 ghost use Rattle.mesh_lines.specs.Lines.{vertex_letter, vertex_line};
 ghost use Rattle.mesh_lines.specs.RowLines.{AreFronts, AreLeast, AreParts, AreWholes, IsPiece, edge_at, front_text, is_layer, whole_size, whole_text, y_text, z_text, zeros};
 
-use crate::block::{Block, put_bytes};
+use crate::line_buffer::{LineBuffer, put_bytes};
 use crate::style::{Origin, Style};
 use iso_base::{LONGEST_ROW, MeshFormat, ROW_EDGES};
 use mesh_text::{Fours, Lines, Piece};
@@ -335,7 +335,7 @@ impl Model for RowTexts {
 
 impl RowTexts {
     /// The parts for the first row of a slice of so many points a row.
-    pub fn new(style: Style, count: u32, block: &Block) -> RowTexts
+    pub fn new(style: Style, count: u32, block: &LineBuffer) -> RowTexts
         requires { count ≤ 1026 }
         ensures { result ≡ record { style = style; count = count; y = 0; z = 0 } }
     {
@@ -363,7 +363,7 @@ impl RowTexts {
     }
 
     /// Turns to a row.
-    pub fn turn_to(&mut self, y: u32, z: u32, block: &Block)
+    pub fn turn_to(&mut self, y: u32, z: u32, block: &LineBuffer)
         requires y { y ≤ 1026 }
         requires z { z ≤ 1026 }
         ensures { self.new ≡ record { style = self.old.style; count = self.old.count; y = y; z = z } }

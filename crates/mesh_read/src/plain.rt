@@ -10,7 +10,7 @@ ghost use Rattle.mesh_read.specs.Plain.{BeginsLine, BeginsNumber, BeginsFace, Is
 use std::simd::prelude::*;
 
 /// The bytes that are searched at once for the end of a line.
-const GROUP: usize = 32;
+const GROUP_BYTES: usize = 32;
 
 /// The place of the first line feed, where one is among the first bytes. They are looked at all at once.
 #[inline(always)]
@@ -34,7 +34,7 @@ pub fn behind_plain_line(bytes: &[u8]) -> Option<&[u8]>
     ensures line { IfSome result (λ x. BeginsLine bytes.now x.now) }
     ensures shorter { IfSome result (λ x. length x.now + 1 ≤ length bytes.now) }
 {
-    if bytes.len() < GROUP || bytes[0] <= b' ' {
+    if bytes.len() < GROUP_BYTES || bytes[0] <= b' ' {
         return None;
     }
     let end = feed_in_group(bytes)?;

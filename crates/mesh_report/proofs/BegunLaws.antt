@@ -9,10 +9,10 @@ use Rattle.std.proofs.lemmas.List.FromFn.{get_or-map-range_with_len, length-map-
 use Rattle.iso_defs.specs.Cell.{Triangle}
 use Rattle.iso_defs.specs.Lists.{below}
 use Rattle.iso_defs.specs.Manifold.{arcs, uses}
-use Rattle.verdict_laws.proofs.Lists.{In, In-filter}
-use Rattle.verdict_laws.proofs.Counts.{Distinct}
-use Rattle.verdict_laws.proofs.FanWalk.{no_longer}
-use Rattle.mesh_report.specs.declared.tally.Tally.{Tally}
+use Rattle.triangle_laws.proofs.Lists.{In, In-filter}
+use Rattle.triangle_laws.proofs.Counts.{Distinct}
+use Rattle.triangle_laws.proofs.FanWalk.{no_longer}
+use Rattle.mesh_report.specs.declared.tally.VertexTally.{VertexTally}
 use Rattle.mesh_report.specs.Places.{ArePlaces}
 use Rattle.mesh_report.specs.Report.{component, components, used}
 use Rattle.mesh_report.specs.Tallies.{IsAscending, nothing_of, tally_at}
@@ -75,7 +75,7 @@ placed_new n ts v places low h new =
           ap (λ z. get_or (set places v (length ks)) z 0) e ∙ (get_or-set_same places v (length ks) 0 low ∙ sym at))
     ])
 
-pub begun_new : (n : ℕ) (ts : List Triangle) (v : ℕ) → (list_any (uses v) ts && eqb (component n ts v) v) ≡ true → (tallies : List Tally) → tallies ≡ map nothing_of (components_below n ts v)
+pub begun_new : (n : ℕ) (ts : List Triangle) (v : ℕ) → (list_any (uses v) ts && eqb (component n ts v) v) ≡ true → (tallies : List VertexTally) → tallies ≡ map nothing_of (components_below n ts v)
     → tallies ++ nothing_of v ∷ [] ≡ map nothing_of (components_below n ts (v + 1))
 begun_new n ts v new tallies e =
     ap (λ l. l ++ nothing_of v ∷ []) e
@@ -109,7 +109,7 @@ rises_at (x ∷ xs) r zero (suc j) l m = r.0 (get_or xs j 0) (in_place xs j 0 (o
 rises_at (x ∷ xs) r (suc i) (suc j) l m = rises_at xs r.1 i j (omega arith) (omega arith)
 
 -- tallies of the components stand in the order of their smallest vertices
-pub ascending : (n : ℕ) (ts : List Triangle) (f : ℕ → Tally) → ((k : ℕ) → (f k).least ≡ k) → (tallies : List Tally) → tallies ≡ map f (components n ts) → IsAscending tallies
+pub ascending : (n : ℕ) (ts : List Triangle) (f : ℕ → VertexTally) → ((k : ℕ) → (f k).least ≡ k) → (tallies : List VertexTally) → tallies ≡ map f (components n ts) → IsAscending tallies
 unfolding components
 ascending n ts f own tallies e i j l m =
     let ks : List ℕ = components n ts in
@@ -117,7 +117,7 @@ ascending n ts f own tallies e i j l m =
     let r : get_or ks i 0 < get_or ks j 0
     = rises_at ks (rises_filter (λ v. eqb (component n ts v) v) (used n ts) (rises_filter (λ v. list_any (uses v) ts) (below n) (rises_range 0 n))) i j l (omega arith) in
     let at : (a : ℕ) → a < length ks → (tally_at tallies a).least ≡ get_or ks a 0
-    = λ a b. ap (λ (ts : List Tally). (tally_at ts a).least) e ∙ (ap (λ (t : Tally). t.least) (get_or-map f ks a 0 (nothing_of 0) b) ∙ own (get_or ks a 0)) in
+    = λ a b. ap (λ (ts : List VertexTally). (tally_at ts a).least) e ∙ (ap (λ (t : VertexTally). t.least) (get_or-map f ks a 0 (nothing_of 0) b) ∙ own (get_or ks a 0)) in
     let x : (tally_at tallies i).least ≡ get_or ks i 0 = at i (omega arith) in
     let y : (tally_at tallies j).least ≡ get_or ks j 0 = at j (omega arith) in
     omega arith

@@ -13,10 +13,10 @@ use Rattle.iso_defs.specs.Manifold.{HasThreeCorners, arcs}
 use Rattle.iso_base.specs.Triangles.{IsBelow}
 use Rattle.arc_rings.specs.Arcs.{ArcBelow}
 use Rattle.arc_rings.proofs.ArcLaws.{arcs_below, arcs_few}
-use Rattle.verdict_laws.proofs.Lists.{In}
+use Rattle.triangle_laws.proofs.Lists.{In}
 use Rattle.mesh_report.specs.declared.meet.Edges.{Edges}
 use Rattle.mesh_report.specs.declared.part.Part.{Part}
-use Rattle.mesh_report.specs.declared.tally.Tally.{Tally}
+use Rattle.mesh_report.specs.declared.tally.VertexTally.{VertexTally}
 use Rattle.mesh_report.specs.Meetings.{AreCounted}
 use Rattle.mesh_report.specs.Named.{named}
 use Rattle.mesh_report.specs.Report.{has_one_side, component, components, used, edges, total_of, part_of}
@@ -52,15 +52,15 @@ cond_less f g h T m = sum_by-le-sum_by (λ v. cond (T v) (f v) 0) (λ v. cond (T
 
 -- a tally of the same counts
 tally_is : (least : ℕ) {v v' c c' e e' s s' : ℕ} → v ≡ v' → c ≡ c' → e ≡ e' → s ≡ s'
-    → (let t : Tally = record { least = least; vertices = v; corners = c; edges = e; shared = s } in t) ≡ record { least = least; vertices = v'; corners = c'; edges = e'; shared = s' }
+    → (let t : VertexTally = record { least = least; vertices = v; corners = c; edges = e; shared = s } in t) ≡ record { least = least; vertices = v'; corners = c'; edges = e'; shared = s' }
 tally_is least {v} {v'} {c} {c'} {e} {e'} {s} {s'} a b d f =
     ap (λ z. tally z c e s) a ∙ (ap (λ z. tally v' z e s) b ∙ (ap (λ z. tally v' c' z s) d ∙ ap (tally v' c' e') f))
   where
-    tally : ℕ → ℕ → ℕ → ℕ → Tally
+    tally : ℕ → ℕ → ℕ → ℕ → VertexTally
     tally v c e s = record { least = least; vertices = v; corners = c; edges = e; shared = s }
 
 -- the numbers of a tally whose corners are those of triangles, and whose edges those in one triangle and the others
-part_is_made : (t : Tally) (v e f o s : ℕ) → t.vertices ≡ v → t.edges ≡ e → t.corners ≡ 3 * f → t.shared ≡ s → e ≡ o + s
+part_is_made : (t : VertexTally) (v e f o s : ℕ) → t.vertices ≡ v → t.edges ≡ e → t.corners ≡ 3 * f → t.shared ≡ s → e ≡ o + s
     → part_with t ≡ record { least = t.least; vertices = v; edges = e; faces = f; border = o; euler = (pos v -ℤ pos e) +ℤ pos f }
 part_is_made t v e f o s hv he hf hs ho =
     let c : t.corners / 3 ≡ f = ap (λ k. k / 3) hf ∙ mul-div_cancel_left f (let l : 0 < 3 = omega arith in l) in
@@ -106,7 +106,7 @@ module _ (n : ℕ) (ts : List Triangle) (d : AllByRecursion HasThreeCorners ts) 
 
   -- the tally of its component is given a vertex more, and the others stay
   pub each_more : (m r : ℕ) → r < length (components n ts) → get_or (components n ts) r 0 ≡ C m → (e : Edges) → AreCounted n m (named (arcs ts m)) e
-      → (tallies : List Tally) (t : Tally) → tallies ≡ map (tally_of n ts m) (components n ts) → t ≡ tally_of n ts m (C m)
+      → (tallies : List VertexTally) (t : VertexTally) → tallies ≡ map (tally_of n ts m) (components n ts) → t ≡ tally_of n ts m (C m)
       → set tallies r (tally_with t (corners_of ts m) e) ≡ map (tally_of n ts (m + 1)) (components n ts)
   each_more m r inside here e c tallies t held same =
       ap (λ ss. set ss r (tally_with t (corners_of ts m) e)) held
@@ -116,7 +116,7 @@ module _ (n : ℕ) (ts : List Triangle) (d : AllByRecursion HasThreeCorners ts) 
       ∙ set_mapped (tally_of n ts m) (tally_of n ts (m + 1)) (components n ts) (components_distinct n ts) r inside
       (λ k ne. counted_same k m (λ v. eqb (C v) k) (ne_eqb (C m) k (λ q. ne (sym q ∙ sym here)))))
 
-  pub tally_found : (m r : ℕ) → r < length (components n ts) → get_or (components n ts) r 0 ≡ C m → (tallies : List Tally) → tallies ≡ map (tally_of n ts m) (components n ts)
+  pub tally_found : (m r : ℕ) → r < length (components n ts) → get_or (components n ts) r 0 ≡ C m → (tallies : List VertexTally) → tallies ≡ map (tally_of n ts m) (components n ts)
       → get_or tallies r (nothing_of 0) ≡ tally_of n ts m (C m)
   tally_found m r inside here tallies held =
       ap (λ ss. get_or ss r (nothing_of 0)) held ∙ (get_or-map (tally_of n ts m) (components n ts) r 0 (nothing_of 0) inside ∙ ap (tally_of n ts m) here)
@@ -175,7 +175,7 @@ module _ (n : ℕ) (ts : List Triangle) (d : AllByRecursion HasThreeCorners ts) 
       all_edges = edges_are n ts d (λ v. true) ∙ ap length (filter_all (edges n ts))
 
   -- the counts are small
-  pub record AreFew (m : ℕ) (t : Tally) : Type 0 where
+  pub record AreFew (m : ℕ) (t : VertexTally) : Type 0 where
     pub vertices : t.vertices ≤ m
     pub corners : t.corners ≤ 3 * length ts
     pub edges : t.edges ≤ 2 * t.corners
@@ -227,7 +227,7 @@ module _ (n : ℕ) (ts : List Triangle) (d : AllByRecursion HasThreeCorners ts) 
   each_small short [] = tt
   each_small short (k ∷ ks) = (is_small k (λ v. eqb (C v) k) short, each_small short ks)
 
-  pub has_room : (m : ℕ) → m < n → n < 2 ^ 32 → length ts < 2 ^ 31 → (t : Tally) → AreFew m t → (ps : List (ℕ × ℕ)) → ps ≡ arcs ts m → (e : Edges) → AreCounted n m (named (arcs ts m)) e
+  pub has_room : (m : ℕ) → m < n → n < 2 ^ 32 → length ts < 2 ^ 31 → (t : VertexTally) → AreFew m t → (ps : List (ℕ × ℕ)) → ps ≡ arcs ts m → (e : Edges) → AreCounted n m (named (arcs ts m)) e
       → HasRoom t (length ps) e
   has_room m l count short t f ps same e c =
       let size : length ps ≡ length (arcs ts m) = ap length same in

@@ -6,7 +6,7 @@ use Rattle.iso_defs.specs.Lists.{below}
 use Rattle.iso_defs.specs.Manifold.{arcs}
 use Rattle.mesh_report.specs.declared.meet.Edges.{Edges}
 use Rattle.mesh_report.specs.declared.part.Part.{Part}
-use Rattle.mesh_report.specs.declared.tally.Tally.{Tally}
+use Rattle.mesh_report.specs.declared.tally.VertexTally.{VertexTally}
 use Rattle.mesh_report.specs.Named.{named, greater_named}
 use Rattle.mesh_report.specs.Report.{component}
 
@@ -28,7 +28,7 @@ abbrev pub sum_where : (ℕ → Bool) → (ℕ → ℕ) → ℕ → ℕ
 sum_where T f m = sum_by (λ v. if T v then f v else 0) (below m)
 
 -- what is counted at the vertices below m that pass a test
-abbrev pub tally_where : ℕ → List Triangle → ℕ → (ℕ → Bool) → ℕ → Tally
+abbrev pub tally_where : ℕ → List Triangle → ℕ → (ℕ → Bool) → ℕ → VertexTally
 tally_where n ts least T m = record {
   least = least;
   vertices = sum_where T (used_of ts) m;
@@ -38,19 +38,19 @@ tally_where n ts least T m = record {
 }
 
 -- at those of a component
-abbrev pub tally_of : ℕ → List Triangle → ℕ → ℕ → Tally
+abbrev pub tally_of : ℕ → List Triangle → ℕ → ℕ → VertexTally
 tally_of n ts m k = tally_where n ts k (λ v. component n ts v == k) m
 
 -- at all of them
-abbrev pub tally_of_all : ℕ → List Triangle → ℕ → Tally
+abbrev pub tally_of_all : ℕ → List Triangle → ℕ → VertexTally
 tally_of_all n ts m = tally_where n ts 0 (λ v. true) m
 
 -- nothing is counted yet
-abbrev pub nothing_of : ℕ → Tally
+abbrev pub nothing_of : ℕ → VertexTally
 nothing_of least = record { least = least; vertices = 0; corners = 0; edges = 0; shared = 0 }
 
 -- a tally with one vertex more
-abbrev pub tally_with : Tally → ℕ → Edges → Tally
+abbrev pub tally_with : VertexTally → ℕ → Edges → VertexTally
 tally_with t corners e = record {
   least = t.least;
   vertices = t.vertices + (if corners == 0 then 0 else 1);
@@ -60,14 +60,14 @@ tally_with t corners e = record {
 }
 
 -- the counts of one vertex more do not overflow
-pub record HasRoom (t : Tally) (more : ℕ) (e : Edges) : Type 0 where
+pub record HasRoom (t : VertexTally) (more : ℕ) (e : Edges) : Type 0 where
   pub vertices : t.vertices + 1 < 2 ^ 32
   pub corners : t.corners + more < 2 ^ 64
   pub edges : t.edges + e.all < 2 ^ 64
   pub shared : t.shared + e.shared < 2 ^ 64
 
 -- the numbers of a part, by what was counted at its vertices
-abbrev pub part_with : Tally → Part
+abbrev pub part_with : VertexTally → Part
 part_with t = record {
   least = t.least;
   vertices = t.vertices;
@@ -78,15 +78,15 @@ part_with t = record {
 }
 
 -- the counts are small
-pub record IsSmall (t : Tally) : Type 0 where
+pub record IsSmall (t : VertexTally) : Type 0 where
   pub corners : t.corners < 3 * 2 ^ 31
   pub edges : t.edges < 2 ^ 62
   pub shared : t.shared ≤ t.edges
 
 -- the tally at a place
-abbrev pub tally_at : List Tally → ℕ → Tally
+abbrev pub tally_at : List VertexTally → ℕ → VertexTally
 tally_at tallies i = slice_index_or tallies i (nothing_of 0)
 
 -- each has a greater smallest vertex than those before it
-abbrev pub IsAscending : List Tally → Type 0
+abbrev pub IsAscending : List VertexTally → Type 0
 IsAscending tallies = (i j : ℕ) → i < j → j < length tallies → (tally_at tallies i).least < (tally_at tallies j).least

@@ -1,4 +1,4 @@
-//! Counts over all vertices, and over those of each component.
+//! VertexTallies over all vertices, and over those of each component.
 
 ghost use Rattle.std.specs.Prelude.{◌≡◌, ◌<◌, ◌^◌, ◌==◌, ◌&&◌, length, map, All, IfOk, OnOk};
 ghost use Rattle.iso_defs.specs.Lists.{below};
@@ -11,25 +11,25 @@ ghost use Rattle.mesh_report.specs.Report.{component, component_of_each, compone
 ghost use Rattle.mesh_report.specs.Tallies.{IsAscending, IsSmall, nothing_of, part_with, tally_of, tally_of_all};
 
 use crate::meet::{Met, edges_from};
-use crate::tally::Tally;
+use crate::tally::VertexTally;
 use arc_rings::Rings;
 use iso_base::{Memory, TriangleList};
 use std::alloc::Global;
 
 /// What was counted over all vertices, and over those of each component, in the order of their smallest vertices.
 #[derive(Drop)]
-pub struct Counts {
-    pub total: Tally,
-    pub each: Vec<Tally>,
+pub struct VertexTallies {
+    pub total: VertexTally,
+    pub each: Vec<VertexTally>,
 }
 
-/// Counts vertex by vertex, in order, so that lists are gone through from front to back. Vertices have the names of their components.
+/// VertexTallies vertex by vertex, in order, so that lists are gone through from front to back. Vertices have the names of their components.
 pub fn counts_of(
     alloc: Global,
     mesh: &TriangleList,
     rings: &Rings,
     names: &[u32],
-) -> Result<Counts, Memory>
+) -> Result<VertexTallies, Memory>
     requires count { length mesh.now.triangles < 2 ^ 31 }
     requires different { All (λ t. HasThreeCorners (triangle_of t)) mesh.now.triangles }
     requires rings { rings.now ≡ map (arcs (triangles_of mesh.now.triangles)) (below mesh.now.vertex_count) }
@@ -52,7 +52,7 @@ pub fn counts_of(
         places.as_slice(),
         marks.as_mut_slice(),
     );
-    Ok(Counts { total, each })
+    Ok(VertexTallies { total, each })
 }
 
 /// The tally of each component, before any vertex is counted, and at its smallest vertex the place of it.
@@ -62,7 +62,7 @@ fn begin_all(
     rings: &Rings,
     names: &[u32],
     places: &mut [u32],
-) -> Result<Vec<Tally>, Memory>
+) -> Result<Vec<VertexTally>, Memory>
     requires rings { rings.now ≡ map (arcs (triangles_of mesh.now.triangles)) (below mesh.now.vertex_count) }
     requires names { names.now ≡ component_of_each mesh.now }
     requires size { length places.old ≡ mesh.now.vertex_count }
@@ -75,7 +75,7 @@ fn begin_all(
     for v in 0..mesh.vertex_count() {
         if is_smallest(mesh, rings, names, v) {
             places[v as usize] = tallies.len() as u32;
-            tallies.push(Tally::new(v))?;
+            tallies.push(VertexTally::new(v))?;
         }
     }
     Ok(tallies)
@@ -92,15 +92,15 @@ fn is_smallest(mesh: &TriangleList, rings: &Rings, names: &[u32], v: u32) -> boo
     !rings.arcs_round(v).is_empty() && names[v as usize] == v
 }
 
-/// Counts each vertex at its component's tally, and answers what is counted over all of them.
+/// VertexTallies each vertex at its component's tally, and answers what is counted over all of them.
 fn count_all(
-    tallies: &mut [Tally],
+    tallies: &mut [VertexTally],
     mesh: &TriangleList,
     rings: &Rings,
     names: &[u32],
     places: &[u32],
     marks: &mut [Met],
-) -> Tally
+) -> VertexTally
     requires count { length mesh.now.triangles < 2 ^ 31 }
     requires different { All (λ t. HasThreeCorners (triangle_of t)) mesh.now.triangles }
     requires rings { rings.now ≡ map (arcs (triangles_of mesh.now.triangles)) (below mesh.now.vertex_count) }
@@ -117,7 +117,7 @@ fn count_all(
         mesh.now.vertex_count)
         (components mesh.now.vertex_count (triangles_of mesh.now.triangles)) }
 {
-    let mut total = Tally::new(0);
+    let mut total = VertexTally::new(0);
     for v in 0..mesh.vertex_count() {
         let arcs = rings.arcs_round(v);
         let edges = edges_from(marks, arcs, v);

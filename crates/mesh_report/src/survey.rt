@@ -10,7 +10,7 @@ ghost use Rattle.iso_base.specs.Triangles.{triangle_of, triangles_of};
 ghost use Rattle.mesh_report.specs.Report.{IsItselfUnused, component_of_each, summary_of};
 ghost use Rattle.mesh_report.specs.Tallies.{IsAscending, IsSmall, part_with};
 
-use crate::count::{Counts, counts_of};
+use crate::count::{VertexTallies, counts_of};
 use crate::part::{Report, Survey, add_part};
 use crate::walk::components_of;
 use arc_rings::Rings;
@@ -58,7 +58,7 @@ pub fn survey_of(alloc: Global, mesh: &TriangleList) -> Result<Survey, Memory>
 }
 
 /// The report on what was counted.
-fn report_on(alloc: Global, counts: &Counts) -> Result<Report, Memory>
+fn report_on(alloc: Global, counts: &VertexTallies) -> Result<Report, Memory>
     requires total { IsSmall counts.now.total }
     requires each { All IsSmall counts.now.each.items }
     requires ascending { IsAscending counts.now.each.items }

@@ -8,7 +8,7 @@ use crate::part::Part;
 
 /// What was counted at vertices of one component of a mesh, or of the whole of it.
 #[derive(Clone, Copy)]
-pub struct Tally {
+pub struct VertexTally {
     /// The smallest vertex; 0 for the whole.
     pub least: u32,
     /// The vertices that a triangle uses.
@@ -21,12 +21,12 @@ pub struct Tally {
     pub shared: u64,
 }
 
-impl Tally {
+impl VertexTally {
     /// Nothing was counted yet.
-    pub fn new(least: u32) -> Tally
+    pub fn new(least: u32) -> VertexTally
         ensures { result ≡ nothing_of least }
     {
-        Tally {
+        VertexTally {
             least,
             vertices: 0,
             corners: 0,
@@ -36,12 +36,12 @@ impl Tally {
     }
 
     /// With one more vertex, of so many arcs and these edges.
-    pub fn with(&self, corners: usize, edges: Edges) -> Tally
+    pub fn with(&self, corners: usize, edges: Edges) -> VertexTally
         requires { HasRoom self.now corners edges }
         ensures { result ≡ tally_with self.now corners edges }
     {
         let used = if corners == 0 { 0 } else { 1 };
-        Tally {
+        VertexTally {
             least: self.least,
             vertices: self.vertices + used,
             corners: self.corners + corners as u64,

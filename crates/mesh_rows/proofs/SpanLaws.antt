@@ -5,7 +5,7 @@ use Rattle.std.proofs.lemmas.List.Elements.{filter-append}
 use Rattle.std.proofs.lemmas.List.Concat.{flat_map-append}
 use Rattle.iso_defs.proofs.Ranges.{range_append}
 use Rattle.mesh_laws.proofs.Cells.{range_at_least}
-use Rattle.verdict_laws.proofs.Lists.{In, In-filter}
+use Rattle.triangle_laws.proofs.Lists.{In, In-filter}
 use Rattle.mesh_rows.specs.Counts.{span}
 
 module _ {X : Type 0} (f : ℕ → List X) (p : ℕ → Bool) where

@@ -16,13 +16,13 @@ use number_digits::put_byte;
 use std::marker::Model;
 
 /// The bytes of some lines, 69,632 at most, and behind them room for what a piece moves at once beyond its text.
-const SPACE: usize = 69_664;
+const SPACE_BYTES: usize = 69_664;
 
 /// Lines one behind another, each written where it stays until it is taken, and a table of digits, four to a number.
 /// Contracts see the bytes of the lines, which are at most 69,632.
 #[derive(Drop)]
 pub struct Lines {
-    bytes: [u8; SPACE],
+    bytes: [u8; SPACE_BYTES],
     end: usize,
     digits: Fours,
 }
@@ -43,7 +43,7 @@ impl Lines {
         ensures { result ≡ [] }
     {
         Lines {
-            bytes: [0; SPACE],
+            bytes: [0; SPACE_BYTES],
             end: 0,
             digits: Fours::new(),
         }

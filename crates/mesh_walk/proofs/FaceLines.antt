@@ -13,8 +13,8 @@ use Rattle.cell_loops.specs.Loops.{row_centres, row_loops}
 use Rattle.iso_defs.specs.Signs.{is_crossing}
 use Rattle.iso_defs.specs.Scratch.{cell_centres, cell_loops, crossing_edges, has_centre}
 use Rattle.iso_base.specs.Triangles.{triangle_of}
-use Rattle.verdict_laws.proofs.Lists.{In}
-use Rattle.verdict_laws.proofs.Counts.{count-cons}
+use Rattle.triangle_laws.proofs.Lists.{In}
+use Rattle.triangle_laws.proofs.Counts.{count-cons}
 use Rattle.crossing_edges.specs.Flags.{rank}
 use Rattle.flat_mesh.specs.Lattice.{Leveled, heights}
 use Rattle.flat_mesh.specs.Faces.{cell_faces, centres_of, corners_of, loops_at}

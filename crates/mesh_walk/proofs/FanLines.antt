@@ -15,7 +15,7 @@ use Rattle.flat_mesh.specs.Lattice.{Leveled, heights}
 use Rattle.flat_mesh.specs.Rows.{row_start}
 use Rattle.flat_mesh.proofs.Loops.{loop_crosses, loop_is}
 use Rattle.mesh_laws.proofs.Cells.{range_at_least}
-use Rattle.verdict_laws.proofs.Lists.{In, In-filter}
+use Rattle.triangle_laws.proofs.Lists.{In, In-filter}
 use Rattle.mesh_lines.specs.Lines.{vertex_line}
 use Rattle.mesh_lines.specs.declared.style.Style.{Style}
 use Rattle.mesh_rows.specs.Counts.{span}

@@ -7,7 +7,7 @@ use Rattle.iso_defs.specs.Lists.{below}
 use Rattle.iso_defs.specs.Grid.{name_bound}
 use Rattle.iso_defs.specs.Cell.{cell_edge, cell_signs, corner_point, crosses, edge_corner}
 use Rattle.iso_defs.specs.Signs.{is_crossing}
-use Rattle.verdict_laws.proofs.Lists.{In-filter}
+use Rattle.triangle_laws.proofs.Lists.{In-filter}
 use Rattle.mesh_laws.proofs.Apart.{by_twelve}
 use Rattle.cell_loops.specs.Loops.{IsLoop}
 use Rattle.case_faces.specs.Fans.{edge_at}

@@ -8,7 +8,7 @@ use Rattle.std.proofs.Math.Seq.{get_or-append_seam}
 use Rattle.iso_defs.specs.Grid.{Grid}
 use Rattle.iso_defs.specs.Signs.{is_crossing}
 use Rattle.iso_defs.proofs.Ranges.{range_append}
-use Rattle.verdict_laws.proofs.Counts.{count-append}
+use Rattle.triangle_laws.proofs.Counts.{count-append}
 use Rattle.crossing_edges.specs.Flags.{names_in, rank}
 use Rattle.crossing_edges.proofs.Counting.{names_empty, names_more}
 use Rattle.flat_mesh.specs.Lattice.{Leveled, heights}
@@ -105,9 +105,9 @@ module _ (v : Leveled) (y z : ℕ) where
       record { rank_is = ap (rank v.grid (heights v)) (sym name) ∙ is.rank_is; low = omega (arith, name, is.most) }
 
   -- where each edge of the list has what is due to it
-  pub laid_by : (at due : ℕ → List ℕ) (edges : List ℕ) → AreEdges v y z edges
-      → ((k : ℕ) → k < length edges → at (row_slot y z + get_or edges k 0) ≡ due (start + get_or edges k 0)) → AreLaid at due v y z
-  laid_by at due edges are laid = record {
+  pub laid_by : (at expected : ℕ → List ℕ) (edges : List ℕ) → AreEdges v y z edges
+      → ((k : ℕ) → k < length edges → at (row_slot y z + get_or edges k 0) ≡ expected (start + get_or edges k 0)) → AreLaid at expected v y z
+  laid_by at expected edges are laid = record {
     each = λ e low crossing.
         let names : List ℕ = names_in v.grid (heights v) start (3 * v.grid.nx) in
         let before : List ℕ = names_in v.grid (heights v) start e in
@@ -121,12 +121,12 @@ module _ (v : Leveled) (y z : ℕ) where
         = sym (get_or-map (λ e. start + e) edges k 0 0 within)
         ∙ (ap (λ l. get_or l k 0) (are.names ∙ cut) ∙ get_or-append_seam before (start + e) behind 0) in
         let same : get_or edges k 0 ≡ e = omega (arith, name) in
-        ap (λ e. at (row_slot y z + e)) (sym same) ∙ (laid k within ∙ ap (λ e. due (start + e)) same);
+        ap (λ e. at (row_slot y z + e)) (sym same) ∙ (laid k within ∙ ap (λ e. expected (start + e)) same);
   }
 
   -- a row without crossing edges
-  pub none_due : (at due : ℕ → List ℕ) → rank v.grid (heights v) start ≡ rank v.grid (heights v) (3 * row_start v.grid (y + 1) z) → AreLaid at due v y z
-  none_due at due same = record {
+  pub none_due : (at expected : ℕ → List ℕ) → rank v.grid (heights v) start ≡ rank v.grid (heights v) (3 * row_start v.grid (y + 1) z) → AreLaid at expected v y z
+  none_due at expected same = record {
     each = λ e low crossing.
         let wide : 3 * row_start v.grid (y + 1) z ≡ start + 3 * v.grid.nx = omega arith in
         clash (is_crossing v.grid (heights v) (start + e)) crossing

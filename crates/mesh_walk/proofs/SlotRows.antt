@@ -31,46 +31,46 @@ slot_low y z =
     by_twelve (λ e. edge_slot y z e ≤ 9239)
     (omega arith) (omega arith) (omega arith) (omega arith) (omega arith) (omega arith) (omega arith) (omega arith) (omega arith) (omega arith) (omega arith) (omega arith)
 
-module _ (at due : ℕ → List ℕ) (v : Leveled) where
+module _ (at expected : ℕ → List ℕ) (v : Leveled) where
   -- nothing is known at first
-  pub none_laid : (next : ℕ) → IsGrid v.grid → next ≡ 4294967295 → IsReady at due v next
+  pub none_laid : (next : ℕ) → IsGrid v.grid → next ≡ 4294967295 → IsReady at expected v next
   none_laid next is none = record {
     next = λ y z hy hz e. absurd (let low = row_low v.grid y z (omega arith) (omega arith) in omega (arith, few_rows v.grid is, none, low, e));
   }
 
   -- a row stays when another one is laid, one that shares no slots with it
   pub laid_still : (new : ℕ → List ℕ) (y z y' z' : ℕ) → v.grid.nx ≤ 1026 → (row_slot y z + 3078 ≤ row_slot y' z') ⊎ (row_slot y' z' + 3078 ≤ row_slot y z)
-      → ((i : ℕ) → i < row_slot y' z' → new i ≡ at i) → ((i : ℕ) → row_slot y' z' + 3078 ≤ i → new i ≡ at i) → AreLaid at due v y z → AreLaid new due v y z
+      → ((i : ℕ) → i < row_slot y' z' → new i ≡ at i) → ((i : ℕ) → row_slot y' z' + 3078 ≤ i → new i ≡ at i) → AreLaid at expected v y z → AreLaid new expected v y z
   laid_still new y z y' z' width (inl apart) before behind laid = record { each = λ e low crossing. before (row_slot y z + e) (omega (arith, width, apart, low)) ∙ laid.each e low crossing }
   laid_still new y z y' z' width (inr apart) before behind laid = record { each = λ e low crossing. behind (row_slot y z + e) (omega (arith, apart)) ∙ laid.each e low crossing }
 
   -- the rows that are laid for the row of cells behind
-  pub laid_next : (y z next : ℕ) → y + 1 < v.grid.ny → next ≡ y + v.grid.ny * z + 1 → AreAround at due v y z → IsReady at due v next
+  pub laid_next : (y z next : ℕ) → y + 1 < v.grid.ny → next ≡ y + v.grid.ny * z + 1 → AreAround at expected v y z → IsReady at expected v next
   laid_next y z next wide is are = record {
     next = λ b d hb hd e.
         let behind : y + 1 + v.grid.ny * z ≡ b + v.grid.ny * d = omega (arith, is, e) in
         let eb : y + 1 ≡ b = sym (row_y v.grid (y + 1) z (b + v.grid.ny * d) wide behind) ∙ row_y v.grid b d (b + v.grid.ny * d) (omega arith) refl in
         let ed : z ≡ d = sym (row_z v.grid (y + 1) z (b + v.grid.ny * d) wide behind) ∙ row_z v.grid b d (b + v.grid.ny * d) (omega arith) refl in
-        subst (λ n. AreLaidInBoth at due v n d) eb (subst (λ n. AreLaidInBoth at due v (y + 1) n) ed (record { near = are.up; far = are.both }));
+        subst (λ n. AreLaidInBoth at expected v n d) eb (subst (λ n. AreLaidInBoth at expected v (y + 1) n) ed (record { near = are.up; far = are.both }));
   }
 
   -- an edge of a row by its slot
-  laid_at : (y z e slot name : ℕ) → AreLaid at due v y z → e < 3 * v.grid.nx → slot ≡ row_slot y z + e → name ≡ 3 * row_start v.grid y z + e
-      → is_crossing v.grid (heights v) name ≡ true → at slot ≡ due name
+  laid_at : (y z e slot name : ℕ) → AreLaid at expected v y z → e < 3 * v.grid.nx → slot ≡ row_slot y z + e → name ≡ 3 * row_start v.grid y z + e
+      → is_crossing v.grid (heights v) name ≡ true → at slot ≡ expected name
   laid_at y z e slot name laid low there is crossing =
-      ap at there ∙ (laid.each e low (subst (λ n. is_crossing v.grid (heights v) n ≡ true) is crossing) ∙ ap due (sym is))
+      ap at there ∙ (laid.each e low (subst (λ n. is_crossing v.grid (heights v) n ≡ true) is crossing) ∙ ap expected (sym is))
 
   -- what stands in the slot of a crossing edge of a cell
-  pub edge_laid : (cell : Cell) → IsCellAt v.grid cell → AreAround at due v cell.low.y cell.low.z → (e : ℕ) → e < 12
+  pub edge_laid : (cell : Cell) → IsCellAt v.grid cell → AreAround at expected v cell.low.y cell.low.z → (e : ℕ) → e < 12
       → is_crossing v.grid (heights v) (cell_edge v.grid cell.index e) ≡ true
-      → at (edge_slot cell.low.y cell.low.z e + 3 * cell.low.x) ≡ due (cell_edge v.grid cell.index e)
+      → at (edge_slot cell.low.y cell.low.z e + 3 * cell.low.x) ≡ expected (cell_edge v.grid cell.index e)
   edge_laid cell is are e he =
       let i = is.index in
       let w = is.x in
       let x = cell.low.x in
       let y = cell.low.y in
       let z = cell.low.z in
-      by_twelve (λ e. is_crossing v.grid (heights v) (cell_edge v.grid cell.index e) ≡ true → at (edge_slot y z e + 3 * x) ≡ due (cell_edge v.grid cell.index e))
+      by_twelve (λ e. is_crossing v.grid (heights v) (cell_edge v.grid cell.index e) ≡ true → at (edge_slot y z e + 3 * x) ≡ expected (cell_edge v.grid cell.index e))
       (laid_at y z (3 * x) _ _ are.near (omega arith) (omega arith) (omega arith))
       (laid_at (y + 1) z (3 * x) _ _ are.up (omega arith) (omega arith) (omega arith))
       (laid_at y (z + 1) (3 * x) _ _ are.far (omega arith) (omega arith) (omega arith))
@@ -85,14 +85,14 @@ module _ (at due : ℕ → List ℕ) (v : Leveled) where
       (laid_at (y + 1) z (3 * x + 5) _ _ are.up (omega arith) (omega arith) (omega arith)) e he
 
 -- the four rows round a row of cells, two of which were laid before the others
-pub around_is : (first second third due : ℕ → List ℕ) (v : Leveled) (y z : ℕ) → v.grid.nx ≤ 1026 → AreLaidInBoth first due v y z
-    → AreLaid second due v (y + 1) z → ((i : ℕ) → i < row_slot (y + 1) z → second i ≡ first i) → ((i : ℕ) → row_slot (y + 1) z + 3078 ≤ i → second i ≡ first i)
-    → AreLaid third due v (y + 1) (z + 1) → ((i : ℕ) → i < row_slot (y + 1) (z + 1) → third i ≡ second i) → ((i : ℕ) → row_slot (y + 1) (z + 1) + 3078 ≤ i → third i ≡ second i)
-    → AreAround third due v y z
-around_is first second third due v y z width are up before behind both before' behind' =
+pub around_is : (first second third expected : ℕ → List ℕ) (v : Leveled) (y z : ℕ) → v.grid.nx ≤ 1026 → AreLaidInBoth first expected v y z
+    → AreLaid second expected v (y + 1) z → ((i : ℕ) → i < row_slot (y + 1) z → second i ≡ first i) → ((i : ℕ) → row_slot (y + 1) z + 3078 ≤ i → second i ≡ first i)
+    → AreLaid third expected v (y + 1) (z + 1) → ((i : ℕ) → i < row_slot (y + 1) (z + 1) → third i ≡ second i) → ((i : ℕ) → row_slot (y + 1) (z + 1) + 3078 ≤ i → third i ≡ second i)
+    → AreAround third expected v y z
+around_is first second third expected v y z width are up before behind both before' behind' =
     let still : (at new : ℕ → List ℕ) (a b c d : ℕ) → ¬ ((a + c) % 2 + (b + d) % 2 ≡ 0) → ((i : ℕ) → i < row_slot c d → new i ≡ at i)
-    → ((i : ℕ) → row_slot c d + 3078 ≤ i → new i ≡ at i) → AreLaid at due v a b → AreLaid new due v a b
-    = λ at new a b c d apart early late laid. laid_still at due v new a b c d width (sides a b c d apart) early late laid in
+    → ((i : ℕ) → row_slot c d + 3078 ≤ i → new i ≡ at i) → AreLaid at expected v a b → AreLaid new expected v a b
+    = λ at new a b c d apart early late laid. laid_still at expected v new a b c d width (sides a b c d apart) early late laid in
     record {
       near = still second third y z (y + 1) (z + 1) (omega arith) before' behind' (still first second y z (y + 1) z (omega arith) before behind are.near);
       up = still second third (y + 1) z (y + 1) (z + 1) (omega arith) before' behind' up;

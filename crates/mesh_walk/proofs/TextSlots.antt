@@ -12,7 +12,7 @@ use Rattle.iso_defs.specs.Signs.{is_crossing}
 use Rattle.iso_base.specs.Sizing.{IsGrid}
 use Rattle.iso_base.specs.declared.format.MeshFormat.{MeshFormat}
 use Rattle.iso_base.specs.declared.format.MeshFormat.TheVariants.{Ply, Obj, Off, Vtk}
-use Rattle.verdict_laws.proofs.Lists.{In-filter}
+use Rattle.triangle_laws.proofs.Lists.{In-filter}
 use Rattle.mesh_laws.proofs.Names.{edge_in}
 use Rattle.mesh_laws.proofs.Numbers.{crossing_of_cell}
 use Rattle.crossing_edges.specs.Flags.{rank}
@@ -188,11 +188,11 @@ row_slot_low : (y z : ℕ) → row_slot y z ≤ 9234
 row_slot_low y z = omega arith
 
 -- the texts of edges stay where those of centres are set
-module _ (v : Leveled) (is : IsGrid v.grid) (at new : ℕ → List ℕ) (due : ℕ → List ℕ) (same : (i : ℕ) → i < 12312 → new i ≡ at i) where
-  laid_still : (y z : ℕ) → AreLaid at due v y z → AreLaid new due v y z
+module _ (v : Leveled) (is : IsGrid v.grid) (at new : ℕ → List ℕ) (expected : ℕ → List ℕ) (same : (i : ℕ) → i < 12312 → new i ≡ at i) where
+  laid_still : (y z : ℕ) → AreLaid at expected v y z → AreLaid new expected v y z
   laid_still y z laid = record { each = λ e low crossing. same (row_slot y z + e) (omega (arith, low, is.x.most, row_slot_low y z)) ∙ laid.each e low crossing }
 
-  pub around_still : (y z : ℕ) → AreAround at due v y z → AreAround new due v y z
+  pub around_still : (y z : ℕ) → AreAround at expected v y z → AreAround new expected v y z
   around_still y z are = record {
     near = laid_still y z are.near;
     up = laid_still (y + 1) z are.up;
@@ -200,7 +200,7 @@ module _ (v : Leveled) (is : IsGrid v.grid) (at new : ℕ → List ℕ) (due : �
     both = laid_still (y + 1) (z + 1) are.both;
   }
 
-  pub ready_still : (row : ℕ) → IsReady at due v row → IsReady new due v row
+  pub ready_still : (row : ℕ) → IsReady at expected v row → IsReady new expected v row
   ready_still row ready = record {
     next = λ y z hy hz e.
         let both = ready.next y z hy hz e in

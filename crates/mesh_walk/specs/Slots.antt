@@ -20,25 +20,25 @@ abbrev pub corner_slot : ℕ → ℕ → ℕ → ℕ
 corner_slot y z c = if nat_lt c 12 then edge_slot y z c else 12300 + c
 
 -- the slots of a row of points have what is due to its crossing edges, by their names
-pub record AreLaid (at due : ℕ → List ℕ) (v : Leveled) (y z : ℕ) : Type 0 where
+pub record AreLaid (at expected : ℕ → List ℕ) (v : Leveled) (y z : ℕ) : Type 0 where
   pub each : (e : ℕ) → e < 3 * v.grid.nx → is_crossing v.grid (heights v) (3 * row_start v.grid y z + e) ≡ true →
-      at (row_slot y z + e) ≡ due (3 * row_start v.grid y z + e)
+      at (row_slot y z + e) ≡ expected (3 * row_start v.grid y z + e)
 
 -- so have those of two rows of points of two slices, one behind the other
-pub record AreLaidInBoth (at due : ℕ → List ℕ) (v : Leveled) (y z : ℕ) : Type 0 where
-  pub near : AreLaid at due v y z
-  pub far : AreLaid at due v y (z + 1)
+pub record AreLaidInBoth (at expected : ℕ → List ℕ) (v : Leveled) (y z : ℕ) : Type 0 where
+  pub near : AreLaid at expected v y z
+  pub far : AreLaid at expected v y (z + 1)
 
 -- and those of the four rows round a row of cells
-pub record AreAround (at due : ℕ → List ℕ) (v : Leveled) (y z : ℕ) : Type 0 where
-  pub near : AreLaid at due v y z
-  pub up : AreLaid at due v (y + 1) z
-  pub far : AreLaid at due v y (z + 1)
-  pub both : AreLaid at due v (y + 1) (z + 1)
+pub record AreAround (at expected : ℕ → List ℕ) (v : Leveled) (y z : ℕ) : Type 0 where
+  pub near : AreLaid at expected v y z
+  pub up : AreLaid at expected v (y + 1) z
+  pub far : AreLaid at expected v y (z + 1)
+  pub both : AreLaid at expected v (y + 1) (z + 1)
 
 -- two of these rows are laid where the next row of cells is the one behind
-pub record IsReady (at due : ℕ → List ℕ) (v : Leveled) (row : ℕ) : Type 0 where
-  pub next : (y z : ℕ) → y + 1 < v.grid.ny → z + 1 < v.grid.nz → row ≡ y + v.grid.ny * z → AreLaidInBoth at due v y z
+pub record IsReady (at expected : ℕ → List ℕ) (v : Leveled) (row : ℕ) : Type 0 where
+  pub next : (y z : ℕ) → y + 1 < v.grid.ny → z + 1 < v.grid.nz → row ≡ y + v.grid.ny * z → AreLaidInBoth at expected v y z
 
 -- no number stands twice in a list
 pub record AreApart (xs : List ℕ) : Type 0 where

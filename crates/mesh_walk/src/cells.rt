@@ -43,7 +43,7 @@ impl RowCells {
     }
 
     /// Turns to a row of cells. It lists those that may have loops then.
-    fn turn_to<R: MeshRows>(&mut self, rows: &mut R, y: u32, z: u32)
+    fn move_to<R: MeshRows>(&mut self, rows: &mut R, y: u32, z: u32)
         requires y { y + 1 < (R.leveled rows.old).grid.ny }
         requires z { z + 1 < (R.leveled rows.old).grid.nz }
         ensures cells { AreCells (R.leveled rows.old) self.new }
@@ -85,7 +85,7 @@ impl RowCells {
         if y + 1 == sizes.ny() || z + 1 == sizes.nz() || walk.is_quiet(rows, y, z) {
             return false;
         }
-        self.turn_to(rows, y, z);
+        self.move_to(rows, y, z);
         true
     }
 }

@@ -15,18 +15,18 @@ ghost use Rattle.mesh_walk.specs.Spans.{all_centres_text, centres_text, row_cent
 use crate::cells::RowCells;
 use crate::places::{CellPlaces, EdgePlaces};
 use crate::ranks::RowPlace;
-use crate::slots::{Around, first_slots};
+use crate::slots::{CellEdgeSlots, first_slots};
 use crate::walk::Walk;
 use byte_streams::{Failed, Sink};
 use case_faces::{fan_numbers, fans_of};
 use case_table::CaseRow;
 use cell_loops::centre_count;
 use flat_mesh::Heights;
-use mesh_lines::{Block, CentreTexts};
+use mesh_lines::{CentreTexts, LineBuffer};
 use mesh_rows::MeshRows;
 
 /// The most loops with a centre that can be listed: two for each cell of the longest row.
-const FANS: usize = 2052;
+const ROW_FANS: usize = 2052;
 
 /// A loop with a centre of a row of cells: how far its cell is along x, and its number in the table of loops.
 #[derive(Clone, Copy)]
@@ -38,7 +38,7 @@ pub struct RowFan {
 /// Writes the loops with a centre of a cell, and says where those of the next one go: two are written, and stay as many as there are. So
 /// there is no branch whose way a processor would have to guess.
 #[inline(always)]
-fn put_fans(case: CaseRow, x: u16, fans: &mut [RowFan; FANS], at: usize) -> usize
+fn fill_fans(case: CaseRow, x: u16, fans: &mut [RowFan; ROW_FANS], at: usize) -> usize
     requires room { at + 2 ≤ 2052 }
     ensures put { map seen (take result fans.new)
         ≡ map seen (take at fans.old) ++ map (λ l. (x, fan_of l.1)) (row_centres case) }
@@ -52,7 +52,7 @@ fn put_fans(case: CaseRow, x: u16, fans: &mut [RowFan; FANS], at: usize) -> usiz
 }
 
 /// Lists the loops with a centre of a row of cells, and says how many there are.
-fn list_fans<H: Heights>(field: &H, cells: &RowCells, fans: &mut [RowFan; FANS]) -> usize
+fn list_fans<H: Heights>(field: &H, cells: &RowCells, fans: &mut [RowFan; ROW_FANS]) -> usize
     requires cells { AreCells (H.leveled field.now) cells.now }
     ensures few { result ≤ 2052 }
     ensures fans { AreFans (H.leveled field.now) cells.now.y cells.now.z (take result fans.new) }
@@ -60,7 +60,7 @@ fn list_fans<H: Heights>(field: &H, cells: &RowCells, fans: &mut [RowFan; FANS])
     let _ = field.sizes();
     let mut count = 0;
     for k in 0..cells.count {
-        count = put_fans(CaseRow::of(cells.cases[k]), cells.places[k], fans, count);
+        count = fill_fans(CaseRow::of(cells.cases[k]), cells.places[k], fans, count);
     }
     count
 }
@@ -78,7 +78,7 @@ fn write_fans<H: Heights, K: Sink>(
     field: &H,
     row: CentreRow<'_>,
     fans: &[RowFan],
-    block: &mut Block,
+    block: &mut LineBuffer,
     sink: &mut K,
 ) -> Result<(), Failed>
     requires y { row.texts.now.y + 1 < (H.leveled field.now).grid.ny }
@@ -113,8 +113,8 @@ fn write_fans<H: Heights, K: Sink>(
 struct Centres {
     cells: RowCells,
     texts: CentreTexts,
-    places: Around<EdgePlaces>,
-    fans: [RowFan; FANS],
+    places: CellEdgeSlots<EdgePlaces>,
+    fans: [RowFan; ROW_FANS],
 }
 
 /// Puts the lines of the centres of the row of cells that a row of points begins behind the others.
@@ -123,7 +123,7 @@ fn write_row<R: MeshRows, K: Sink>(
     walk: Walk<'_>,
     row: RowPlace,
     centres: &mut Centres,
-    block: &mut Block,
+    block: &mut LineBuffer,
     sink: &mut K,
 ) -> Result<(), Failed>
     requires style { centres.old.texts.style ≡ walk.style }
@@ -152,8 +152,8 @@ fn write_row<R: MeshRows, K: Sink>(
     if !centres.cells.find(rows, walk, y, z) {
         return Ok(());
     }
-    centres.places.turn_to(rows, walk, block, y, z);
-    centres.texts.turn_to(y, z, block);
+    centres.places.move_to(rows, walk, block, y, z);
+    centres.texts.move_to(y, z, block);
     let count = list_fans(rows, &centres.cells, &mut centres.fans);
     let row = CentreRow {
         texts: &centres.texts,
@@ -167,7 +167,7 @@ fn write_row<R: MeshRows, K: Sink>(
 pub fn write_centres<R: MeshRows, K: Sink>(
     rows: &mut R,
     walk: Walk<'_>,
-    block: &mut Block,
+    block: &mut LineBuffer,
     sink: &mut K,
 ) -> Result<(), Failed>
     requires ranks { AreRowRanks (R.leveled rows.old) walk.ranks.now walk.total }
@@ -185,8 +185,8 @@ pub fn write_centres<R: MeshRows, K: Sink>(
     let mut centres = Centres {
         cells: RowCells::new(),
         texts: CentreTexts::new(walk.style, sizes.nx(), block),
-        places: Around::of(EdgePlaces::new()),
-        fans: [RowFan { x: 0, fan: 0 }; FANS],
+        places: CellEdgeSlots::of(EdgePlaces::new()),
+        fans: [RowFan { x: 0, fan: 0 }; ROW_FANS],
     };
     let mut place = RowPlace::first();
     for _row in 0..sizes.ny() * sizes.nz() {

@@ -10,7 +10,7 @@ ghost use Rattle.mesh_walk.specs.Listed.{AreLow, HasCorners, HaveCorners, centre
 ghost use Rattle.mesh_walk.specs.Slots.{corner_slot};
 
 use crate::cells::RowCells;
-use crate::slots::{CENTRES, edge_slots};
+use crate::slots::{FIRST_CENTRE_SLOT, edge_slots};
 use case_faces::{corner_count, corners_before, face_corners};
 use case_table::CaseRow;
 use cell_loops::centre_count;
@@ -18,10 +18,10 @@ use iso_base::ROW_EDGES;
 use std::simd::prelude::*;
 
 /// The slots of a table: those of all corners of triangles, and behind them some that are read and have no meaning.
-const TABLE: usize = 13_312;
+const TABLE_SLOTS: usize = 13_312;
 
 /// Room for the slots of the corners of the triangles of the longest row of cells, and for what is written behind them.
-pub const LIST: usize = 36_940;
+pub const LIST_SLOTS: usize = 36_940;
 
 /// The slots of the corners of the first cell of a row: its edges, and behind them its centres.
 fn corner_slots(y: u32, z: u32) -> [u16; 14]
@@ -30,12 +30,12 @@ fn corner_slots(y: u32, z: u32) -> [u16; 14]
     ensures { (c : ℕ) → c < 14 → slice_index result c ≡ corner_slot y z c }
 {
     let [a, b, c, d, e, f, g, h, i, j, k, l] = edge_slots(y, z);
-    let first = CENTRES;
+    let first = FIRST_CENTRE_SLOT;
     [a, b, c, d, e, f, g, h, i, j, k, l, first, first + 1]
 }
 
 /// Fills a table with the slots of the corners of all triangles.
-fn fill_table(slots: &[u16; 14], table: &mut [u16; TABLE])
+fn fill_table(slots: &[u16; 14], table: &mut [u16; TABLE_SLOTS])
     ensures { take 13272 table.new ≡ map (slice_index slots.now) all_corners }
 {
     let corners = face_corners();
@@ -48,7 +48,7 @@ fn fill_table(slots: &[u16; 14], table: &mut [u16; TABLE])
 /// differ only in whether they are even or odd along y and along z.
 #[derive(Drop)]
 pub struct CornerSlots {
-    tables: [[u16; TABLE]; 4],
+    tables: [[u16; TABLE_SLOTS]; 4],
 }
 
 impl CornerSlots {
@@ -56,7 +56,7 @@ impl CornerSlots {
     #[inline(always)]
     pub fn none() -> CornerSlots {
         CornerSlots {
-            tables: [[0; TABLE]; 4],
+            tables: [[0; TABLE_SLOTS]; 4],
         }
     }
 
@@ -73,7 +73,7 @@ impl CornerSlots {
     }
 
     /// The slots of the corners of a row of cells.
-    pub fn of_row(&self, y: u32, z: u32) -> &[u16; TABLE]
+    pub fn of_row(&self, y: u32, z: u32) -> &[u16; TABLE_SLOTS]
         requires { HaveCorners self.now.tables }
         ensures { HasCorners y z result.now }
     {
@@ -83,7 +83,13 @@ impl CornerSlots {
 
 /// Writes eight slots, so far along.
 #[inline(always)]
-fn put_eight(table: &[u16; TABLE], from: usize, far: u16, list: &mut [u16; LIST], at: usize)
+fn fill_eight(
+    table: &[u16; TABLE_SLOTS],
+    from: usize,
+    far: u16,
+    list: &mut [u16; LIST_SLOTS],
+    at: usize,
+)
     requires from { from + 8 ≤ 13312 }
     requires at { at + 8 ≤ 36940 }
     ensures { take (at + 8) list.new ≡ take at list.old ++ map (λ s. (s + far) % 65536) (take 8 (drop from table.now)) }
@@ -94,21 +100,31 @@ fn put_eight(table: &[u16; TABLE], from: usize, far: u16, list: &mut [u16; LIST]
 
 /// Writes the slots of the corners of a cell's triangles, which are at most thirty-six, and of some more.
 #[inline(always)]
-fn put_corners(table: &[u16; TABLE], from: usize, far: u16, list: &mut [u16; LIST], at: usize)
+fn fill_corners(
+    table: &[u16; TABLE_SLOTS],
+    from: usize,
+    far: u16,
+    list: &mut [u16; LIST_SLOTS],
+    at: usize,
+)
     requires from { from + 40 ≤ 13312 }
     requires at { at + 40 ≤ 36940 }
     ensures { take (at + 40) list.new
         ≡ take at list.old ++ map (λ s. (s + far) % 65536) (take 40 (drop from table.now)) }
 {
-    put_eight(table, from, far, list, at);
-    put_eight(table, from + 8, far, list, at + 8);
-    put_eight(table, from + 16, far, list, at + 16);
-    put_eight(table, from + 24, far, list, at + 24);
-    put_eight(table, from + 32, far, list, at + 32);
+    fill_eight(table, from, far, list, at);
+    fill_eight(table, from + 8, far, list, at + 8);
+    fill_eight(table, from + 16, far, list, at + 16);
+    fill_eight(table, from + 24, far, list, at + 24);
+    fill_eight(table, from + 32, far, list, at + 32);
 }
 
 /// Lists the slots of the corners of the triangles of a row's cells, and says how many there are.
-pub fn list_corners(cells: &RowCells, table: &[u16; TABLE], list: &mut [u16; LIST]) -> usize
+pub fn list_corners(
+    cells: &RowCells,
+    table: &[u16; TABLE_SLOTS],
+    list: &mut [u16; LIST_SLOTS],
+) -> usize
     requires cells { AreLow cells.now }
     requires table { HasCorners cells.now.y cells.now.z table.now }
     ensures put { take result list.new ≡ corner_slots_to cells.now cells.now.count }
@@ -119,7 +135,7 @@ pub fn list_corners(cells: &RowCells, table: &[u16; TABLE], list: &mut [u16; LIS
     for k in 0..cells.count {
         let case = CaseRow::of(cells.cases[k]);
         let from = usize::from(corners_before(case));
-        put_corners(table, from, 3 * cells.places[k], list, at);
+        fill_corners(table, from, 3 * cells.places[k], list, at);
         at += usize::from(corner_count(case));
     }
     at

@@ -13,7 +13,7 @@ use crate::walk::Walk;
 use byte_streams::{Failed, Sink};
 use flat_mesh::Heights;
 use iso_base::ROW_EDGES;
-use mesh_lines::{Block, RowTexts};
+use mesh_lines::{LineBuffer, RowTexts};
 use mesh_rows::MeshRows;
 
 /// Fills in where the crossing edges of a row are crossed, at the front of a buffer.
@@ -60,7 +60,7 @@ impl RowEdges {
     }
 
     /// Turns to a row of points. It has its crossing edges then, where they are crossed, and the texts of their lines.
-    fn turn_to<R: MeshRows>(&mut self, rows: &mut R, y: u32, z: u32, block: &Block)
+    fn move_to<R: MeshRows>(&mut self, rows: &mut R, y: u32, z: u32, block: &LineBuffer)
         requires y { y < (R.leveled rows.old).grid.ny }
         requires z { z < (R.leveled rows.old).grid.nz }
         requires width { self.old.texts.count ≡ (R.leveled rows.old).grid.nx }
@@ -79,7 +79,7 @@ impl RowEdges {
         self.count = rows.list_edges(y, z, &mut self.edges);
         let edges = &self.edges[..self.count];
         set_places(rows, y, z, edges, &mut self.places);
-        self.texts.turn_to(y, z, block);
+        self.texts.move_to(y, z, block);
     }
 
     /// Puts the line of the vertex on the edge of that number behind the others, and first makes room for it.
@@ -88,7 +88,7 @@ impl RowEdges {
         &self,
         field: &H,
         k: usize,
-        block: &mut Block,
+        block: &mut LineBuffer,
         sink: &mut K,
     ) -> Result<(), Failed>
         requires edges { AreRowEdges (H.leveled field.now) self.now }
@@ -109,7 +109,7 @@ impl RowEdges {
     fn write<H: Heights, K: Sink>(
         &self,
         field: &H,
-        block: &mut Block,
+        block: &mut LineBuffer,
         sink: &mut K,
     ) -> Result<(), Failed>
         requires edges { AreRowEdges (H.leveled field.now) self.now }
@@ -134,7 +134,7 @@ fn write_row<R: MeshRows, K: Sink>(
     walk: Walk<'_>,
     row: RowPlace,
     edges: &mut RowEdges,
-    block: &mut Block,
+    block: &mut LineBuffer,
     sink: &mut K,
 ) -> Result<(), Failed>
     requires ranks { AreRowRanks (R.leveled rows.old) walk.ranks.now walk.total }
@@ -157,7 +157,7 @@ fn write_row<R: MeshRows, K: Sink>(
     if !walk.has_edges(rows, y, z) {
         return Ok(());
     }
-    edges.turn_to(rows, y, z, block);
+    edges.move_to(rows, y, z, block);
     edges.write(rows, block, sink)
 }
 
@@ -165,7 +165,7 @@ fn write_row<R: MeshRows, K: Sink>(
 pub fn write_edges<R: MeshRows, K: Sink>(
     rows: &mut R,
     walk: Walk<'_>,
-    block: &mut Block,
+    block: &mut LineBuffer,
     sink: &mut K,
 ) -> Result<(), Failed>
     requires ranks { AreRowRanks (R.leveled rows.old) walk.ranks.now walk.total }

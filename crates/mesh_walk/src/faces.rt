@@ -13,20 +13,20 @@ ghost use Rattle.mesh_walk.specs.Spans.{all_faces_text, face_lines, faces_text, 
 ghost use Rattle.mesh_walk.specs.Texts.{HasText, number_due};
 
 use crate::cells::RowCells;
-use crate::corners::{CornerSlots, LIST, list_corners};
+use crate::corners::{CornerSlots, LIST_SLOTS, list_corners};
 use crate::ranks::RowPlace;
-use crate::slots::{Around, TEXTS};
+use crate::slots::{CellEdgeSlots, TEXT_SLOTS};
 use crate::texts::NumberTexts;
 use crate::walk::Walk;
 use byte_streams::{Failed, Sink};
 use flat_mesh::Heights;
-use mesh_lines::{Block, Style};
+use mesh_lines::{LineBuffer, Style};
 use mesh_rows::MeshRows;
 use mesh_text::Number;
 
 /// The text in the slot that a list has at a place.
 #[inline(always)]
-fn text_of<'a>(slots: &[u16], i: usize, texts: &'a [Number; TEXTS]) -> &'a Number
+fn text_of<'a>(slots: &[u16], i: usize, texts: &'a [Number; TEXT_SLOTS]) -> &'a Number
     requires slots { All (HasText texts.now) slots.now }
     requires i { i < length slots.now }
     ensures text { number_text result.now ≡ text_at texts.now (slice_index slots.now i) }
@@ -39,8 +39,8 @@ fn text_of<'a>(slots: &[u16], i: usize, texts: &'a [Number; TEXTS]) -> &'a Numbe
 fn put_faces<K: Sink>(
     style: Style,
     slots: &[u16],
-    texts: &[Number; TEXTS],
-    block: &mut Block,
+    texts: &[Number; TEXT_SLOTS],
+    block: &mut LineBuffer,
     sink: &mut K,
 ) -> Result<(), Failed>
     requires { All (HasText texts.now) slots.now }
@@ -65,8 +65,8 @@ fn put_faces<K: Sink>(
 struct Faces {
     cells: RowCells,
     slots: CornerSlots,
-    list: [u16; LIST],
-    texts: Around<NumberTexts>,
+    list: [u16; LIST_SLOTS],
+    texts: CellEdgeSlots<NumberTexts>,
     next: u32,
 }
 
@@ -76,7 +76,7 @@ impl Faces {
         &mut self,
         field: &H,
         style: Style,
-        block: &mut Block,
+        block: &mut LineBuffer,
         sink: &mut K,
     ) -> Result<(), Failed>
         requires cells { AreCells (H.leveled field.now) self.old.cells }
@@ -122,7 +122,7 @@ fn write_row<R: MeshRows, K: Sink>(
     walk: Walk<'_>,
     row: RowPlace,
     faces: &mut Faces,
-    block: &mut Block,
+    block: &mut LineBuffer,
     sink: &mut K,
 ) -> Result<(), Failed>
     requires ranks { AreRowRanks (R.leveled rows.old) walk.ranks.now walk.total }
@@ -153,7 +153,7 @@ fn write_row<R: MeshRows, K: Sink>(
     if !faces.cells.find(rows, walk, y, z) {
         return Ok(());
     }
-    faces.texts.turn_to(rows, walk, block, y, z);
+    faces.texts.move_to(rows, walk, block, y, z);
     faces.write(rows, walk.style, block, sink)
 }
 
@@ -161,7 +161,7 @@ fn write_row<R: MeshRows, K: Sink>(
 pub fn write_faces<R: MeshRows, K: Sink>(
     rows: &mut R,
     walk: Walk<'_>,
-    block: &mut Block,
+    block: &mut LineBuffer,
     sink: &mut K,
 ) -> Result<(), Failed>
     requires ranks { AreRowRanks (R.leveled rows.old) walk.ranks.now walk.total }
@@ -179,8 +179,8 @@ pub fn write_faces<R: MeshRows, K: Sink>(
     let mut faces = Faces {
         cells: RowCells::new(),
         slots: CornerSlots::none(),
-        list: [0; LIST],
-        texts: Around::of(NumberTexts::new()),
+        list: [0; LIST_SLOTS],
+        texts: CellEdgeSlots::of(NumberTexts::new()),
         next: walk.total,
     };
     faces.slots.fill();

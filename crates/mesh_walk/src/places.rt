@@ -11,18 +11,18 @@ use crate::walk::Walk;
 use edge_points::rounded_mean;
 use flat_mesh::Heights;
 use iso_base::ROW_EDGES;
-use mesh_lines::Block;
+use mesh_lines::LineBuffer;
 use mesh_rows::MeshRows;
 use std::simd::prelude::*;
 
 /// The length of the list of places: two more than there are slots, so that eight can be read from each cell on.
-const PLACES: usize = 12_314;
+const PLACE_SLOTS: usize = 12_314;
 
 /// The places on the edges around a cell. Those of the four rows of points stand in slots, so far behind those of the first cell of its
 /// row, with which the rows begin.
 #[derive(Clone, Copy)]
 pub struct CellPlaces<'a> {
-    pub places: &'a [u16; PLACES],
+    pub places: &'a [u16; PLACE_SLOTS],
     pub rows: [usize; 4],
     pub at: usize,
 }
@@ -92,13 +92,13 @@ impl<'a> CellPlaces<'a> {
 }
 
 /// Lays the places of the crossing edges of a row of points into their slots.
-fn lay_places<H: Heights>(
+fn fill_slots<H: Heights>(
     field: &H,
     y: u32,
     z: u32,
     edges: &[u16],
     row: &[u16],
-    places: &mut [u16; PLACES],
+    places: &mut [u16; PLACE_SLOTS],
 )
     requires y { y < (H.leveled field.now).grid.ny }
     requires z { z < (H.leveled field.now).grid.nz }
@@ -120,7 +120,7 @@ fn lay_places<H: Heights>(
 /// ends. The other fields are buffers for a row: its crossing edges by their offsets, and their places.
 #[derive(Drop)]
 pub struct EdgePlaces {
-    pub places: [u16; PLACES],
+    pub places: [u16; PLACE_SLOTS],
     pub edges: [u16; ROW_EDGES],
     pub row: [u16; ROW_EDGES],
 }
@@ -129,7 +129,7 @@ impl EdgePlaces {
     /// Slots in which nothing is laid.
     pub fn new() -> EdgePlaces {
         EdgePlaces {
-            places: [0; PLACES],
+            places: [0; PLACE_SLOTS],
             edges: [0; ROW_EDGES],
             row: [0; ROW_EDGES],
         }
@@ -157,15 +157,22 @@ impl EdgePlaces {
 impl Slots for EdgePlaces {
     ghost at = { λ p. in_slot p.places };
 
-    ghost due = { λ _. due_to };
+    ghost expected = { λ _. due_to };
 
-    fn lay<R: MeshRows>(&mut self, rows: &mut R, walk: Walk<'_>, block: &Block, y: u32, z: u32) {
+    fn fill_row<R: MeshRows>(
+        &mut self,
+        rows: &mut R,
+        walk: Walk<'_>,
+        block: &LineBuffer,
+        y: u32,
+        z: u32,
+    ) {
         let _ = block;
         if !walk.has_edges(rows, y, z) {
             return;
         }
         let count = self.list(rows, y, z);
-        lay_places(
+        fill_slots(
             rows,
             y,
             z,

@@ -11,7 +11,7 @@ ghost use Rattle.mesh_walk.specs.Numbers.{AreRowRanks};
 ghost use Rattle.mesh_walk.specs.Slots.{AreAround, AreLaid, AreLaidInBoth, IsReady, edge_slot, row_slot};
 
 use crate::walk::Walk;
-use mesh_lines::{Block, Style};
+use mesh_lines::{LineBuffer, Style};
 use mesh_rows::MeshRows;
 
 /// The number of slots: those of four of the longest rows of points.
@@ -19,10 +19,10 @@ pub const SLOTS: usize = 12_312;
 
 /// The number of slots for the texts of corners: those of edges, and behind them three for each cell of the longest row, for the texts
 /// of its centres.
-pub const TEXTS: usize = 15_390;
+pub const TEXT_SLOTS: usize = 15_390;
 
 /// The first slot of the centres of a row's cells.
-pub const CENTRES: u16 = 12_312;
+pub const FIRST_CENTRE_SLOT: u16 = 12_312;
 
 /// The first slot of a row of points.
 #[inline(always)]
@@ -57,12 +57,12 @@ pub fn edge_slots(y: u32, z: u32) -> [u16; 12]
     let near = row_slot(y, z) as u16;
     let up = row_slot(y + 1, z) as u16;
     let far = row_slot(y, z + 1) as u16;
-    let both = row_slot(y + 1, z + 1) as u16;
+    let diagonal = row_slot(y + 1, z + 1) as u16;
     [
         near,
         up,
         far,
-        both,
+        diagonal,
         near + 1,
         near + 4,
         far + 1,
@@ -78,15 +78,22 @@ pub fn edge_slots(y: u32, z: u32) -> [u16; 12]
 pub trait Slots {
     ghost at: { Self → ℕ → List ℕ };
 
-    ghost due: { Style → Leveled → ℕ → List ℕ };
+    ghost expected: { Style → Leveled → ℕ → List ℕ };
 
     /// Lays what is due to the crossing edges that begin in a row of points into their slots.
-    fn lay<R: MeshRows>(&mut self, rows: &mut R, walk: Walk<'_>, block: &Block, y: u32, z: u32)
+    fn fill_row<R: MeshRows>(
+        &mut self,
+        rows: &mut R,
+        walk: Walk<'_>,
+        block: &LineBuffer,
+        y: u32,
+        z: u32,
+    )
         requires ranks { AreRowRanks (R.leveled rows.old) walk.ranks.now walk.total }
         requires y { y < (R.leveled rows.old).grid.ny }
         requires z { z < (R.leveled rows.old).grid.nz }
         ensures laid { let v = R.leveled rows.old in
-            AreLaid (at self.new) (due walk.entry.style v) v y z }
+            AreLaid (at self.new) (expected walk.entry.style v) v y z }
         ensures before { (i : ℕ) → i < row_slot y z → at self.new i ≡ at self.old i }
         ensures behind { (i : ℕ) → row_slot y z + 3078 ≤ i → at self.new i ≡ at self.old i }
         ensures volume { R.leveled rows.new ≡ R.leveled rows.old }
@@ -97,70 +104,77 @@ pub trait Slots {
 /// The slots of the rows of points around a row of cells. Two of these rows stay when the next row of cells is the one behind,
 /// which begins with the row of points numbered `next`.
 #[derive(Drop)]
-pub struct Around<S: Slots> {
+pub struct CellEdgeSlots<S: Slots> {
     pub slots: S,
     pub next: u32,
 }
 
-impl<S: Slots> Around<S> {
+impl<S: Slots> CellEdgeSlots<S> {
     /// Slots of which nothing is known.
-    pub fn of(slots: S) -> Around<S>
+    pub fn of(slots: S) -> CellEdgeSlots<S>
         ensures slots { result.slots ≡ slots }
         ensures ready { (style : Style) → (v : Leveled) → IsGrid v.grid
-            → IsReady (S.at result.slots) (S.due style v) v result.next }
+            → IsReady (S.at result.slots) (S.expected style v) v result.next }
     {
-        Around {
+        CellEdgeSlots {
             slots,
             next: u32::MAX,
         }
     }
 
     /// Lays the rows of points that a row of cells begins with in its two slices, unless they are laid.
-    fn lay_near<R: MeshRows>(&mut self, rows: &mut R, walk: Walk<'_>, block: &Block, y: u32, z: u32)
+    fn fill_near_rows<R: MeshRows>(
+        &mut self,
+        rows: &mut R,
+        walk: Walk<'_>,
+        block: &LineBuffer,
+        y: u32,
+        z: u32,
+    )
         requires ready { let v = R.leveled rows.old in
-            IsReady (S.at self.old.slots) (S.due walk.style v) v self.old.next }
+            IsReady (S.at self.old.slots) (S.expected walk.style v) v self.old.next }
         requires ranks { AreRowRanks (R.leveled rows.old) walk.ranks.now walk.total }
         requires y { y + 1 < (R.leveled rows.old).grid.ny }
         requires z { z + 1 < (R.leveled rows.old).grid.nz }
         ensures near { let v = R.leveled rows.old in
-            AreLaidInBoth (S.at self.new.slots) (S.due walk.entry.style v) v y z }
+            AreLaidInBoth (S.at self.new.slots) (S.expected walk.entry.style v) v y z }
         ensures volume { R.leveled rows.new ≡ R.leveled rows.old }
         ensures kept { R.kept rows.new ≡ R.kept rows.old }
         ensures spent { R.spent rows.new ≡ R.spent rows.old }
     {
         let sizes = rows.sizes();
         if self.next != y + sizes.ny() * z {
-            self.slots.lay(rows, walk, block, y, z);
-            self.slots.lay(rows, walk, block, y, z + 1);
+            self.slots.fill_row(rows, walk, block, y, z);
+            self.slots.fill_row(rows, walk, block, y, z + 1);
         }
     }
 
     /// Lays the rows of points around a row of cells.
-    pub fn turn_to<R: MeshRows>(
+    pub fn move_to<R: MeshRows>(
         &mut self,
         rows: &mut R,
         walk: Walk<'_>,
-        block: &Block,
+        block: &LineBuffer,
         y: u32,
         z: u32,
     )
         requires ready { let v = R.leveled rows.old in
-            IsReady (S.at self.old.slots) (S.due walk.style v) v self.old.next }
+            IsReady (S.at self.old.slots) (S.expected walk.style v) v self.old.next }
         requires ranks { AreRowRanks (R.leveled rows.old) walk.ranks.now walk.total }
         requires y { y + 1 < (R.leveled rows.old).grid.ny }
         requires z { z + 1 < (R.leveled rows.old).grid.nz }
         ensures around { let v = R.leveled rows.old in
-            AreAround (S.at self.new.slots) (S.due walk.entry.style v) v y z }
+            AreAround (S.at self.new.slots) (S.expected walk.entry.style v) v y z }
         ensures ready { let v = R.leveled rows.old in
-            IsReady (S.at self.new.slots) (S.due walk.entry.style v) v self.new.next }
+            IsReady (S.at self.new.slots) (S.expected walk.entry.style v) v self.new.next }
         ensures volume { R.leveled rows.new ≡ R.leveled rows.old }
         ensures kept { R.kept rows.new ≡ R.kept rows.old }
         ensures spent { R.spent rows.new ≡ R.spent rows.old }
     {
         let sizes = rows.sizes();
-        self.lay_near(rows, walk, block, y, z);
-        self.slots.lay(rows, walk, block, y + 1, z);
-        self.slots.lay(rows, walk, block, y + 1, z + 1);
+        self.fill_near_rows(rows, walk, block, y, z);
+        self.slots.fill_row(rows, walk, block, y + 1, z);
+        self.slots.fill_row(rows, walk, block, y + 1, z + 1);
         self.next = y + sizes.ny() * z + 1;
     }
 }

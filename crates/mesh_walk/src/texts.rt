@@ -9,22 +9,22 @@ ghost use Rattle.mesh_walk.specs.Texts.{HasCentres, number_due};
 
 use crate::cells::RowCells;
 use crate::corners::list_centres;
-use crate::slots::{CENTRES, Slots, TEXTS, row_slot};
+use crate::slots::{FIRST_CENTRE_SLOT, Slots, TEXT_SLOTS, row_slot};
 use crate::walk::Walk;
 use flat_mesh::Heights;
 use iso_base::ROW_EDGES;
-use mesh_lines::{Block, Style};
+use mesh_lines::{LineBuffer, Style};
 use mesh_rows::MeshRows;
 use mesh_text::Number;
 
 /// Sets the texts of the numbers of edges or of centres, from that of the first one on, in their slots, which begin at a place.
 fn set_texts(
-    block: &Block,
+    block: &LineBuffer,
     style: Style,
     edges: &[u16],
     number: u32,
     first: usize,
-    texts: &mut [Number; TEXTS],
+    texts: &mut [Number; TEXT_SLOTS],
 )
     requires low { All (λ e. e < 3078) edges.now }
     requires apart { AreApart edges.now }
@@ -45,7 +45,7 @@ fn set_texts(
 /// The texts of the numbers of the crossing edges of the rows of points around a row of cells, with a buffer.
 #[derive(Drop)]
 pub struct NumberTexts {
-    pub texts: [Number; TEXTS],
+    pub texts: [Number; TEXT_SLOTS],
     offsets: [u16; ROW_EDGES],
 }
 
@@ -53,7 +53,7 @@ impl NumberTexts {
     /// Texts of nothing.
     pub fn new() -> NumberTexts {
         NumberTexts {
-            texts: [Number::none(); TEXTS],
+            texts: [Number::none(); TEXT_SLOTS],
             offsets: [0; ROW_EDGES],
         }
     }
@@ -65,7 +65,7 @@ impl NumberTexts {
         cells: &RowCells,
         style: Style,
         number: u32,
-        block: &Block,
+        block: &LineBuffer,
     ) -> u32
         requires cells { AreCells (H.leveled field.now) cells.now }
         requires number { let v = H.leveled field.now in HasNumber v (cells_start v cells.now) number }
@@ -83,7 +83,7 @@ impl NumberTexts {
             style,
             &self.offsets[..count],
             number,
-            usize::from(CENTRES),
+            usize::from(FIRST_CENTRE_SLOT),
             &mut self.texts,
         );
         count as u32
@@ -93,9 +93,16 @@ impl NumberTexts {
 impl Slots for NumberTexts {
     ghost at = { λ s. text_at s.texts };
 
-    ghost due = { number_due };
+    ghost expected = { number_due };
 
-    fn lay<R: MeshRows>(&mut self, rows: &mut R, walk: Walk<'_>, block: &Block, y: u32, z: u32) {
+    fn fill_row<R: MeshRows>(
+        &mut self,
+        rows: &mut R,
+        walk: Walk<'_>,
+        block: &LineBuffer,
+        y: u32,
+        z: u32,
+    ) {
         let _ = rows.sizes();
         if !walk.has_edges(rows, y, z) {
             return;

@@ -17,7 +17,7 @@ use crate::walk::Walk;
 use byte_streams::{Failed, Sink};
 use edge_points::RowRanks;
 use iso_base::Written;
-use mesh_lines::{Block, Style};
+use mesh_lines::{LineBuffer, Style};
 use mesh_rows::MeshRows;
 
 /// Puts the lines of all vertices, what stands behind them, and the lines of all triangles behind the others.
@@ -25,7 +25,7 @@ fn write_lines<R: MeshRows, K: Sink>(
     rows: &mut R,
     walk: Walk<'_>,
     faces: u32,
-    block: &mut Block,
+    block: &mut LineBuffer,
     sink: &mut K,
 ) -> Result<(), Failed>
     requires ranks { AreRowRanks (R.leveled rows.old) walk.ranks.now walk.total }
@@ -71,7 +71,7 @@ pub fn write_mesh<R: MeshRows, K: Sink>(
     let total = rank_rows(rows, ranks);
     let counts = rows.count_cells();
     let vertices = total + counts.centres;
-    let mut block = Block::new();
+    let mut block = LineBuffer::new();
     block.push_head(style.format, vertices, counts.faces);
     let walk = Walk {
         style,

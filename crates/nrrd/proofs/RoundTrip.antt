@@ -218,7 +218,7 @@ unfolding order_named is_word
 little_again = refl
 
 pub layout_again : (ordered : Bool) (encoding : Encoding) (kind : SampleKind) (e : Grid) → has_order encoding kind ≡ ordered → IsGrid e
-    → layout_of (fields_in (says_for ordered encoding kind e)) ≡ Ok (record { sizes = e; kind = kind; encoding = encoding; big = false })
+    → layout_of (fields_in (says_for ordered encoding kind e)) ≡ Ok (record { sizes = e; kind = kind; encoding = encoding; big_endian = false })
 unfolding layout_of says_for tail_says
 layout_again true encoding kind e h g = rw (kind_again kind, encoding_again encoding, grid_again e g, h, little_again) refl
 layout_again false encoding kind e h g = rw (kind_again kind, encoding_again encoding, grid_again e g, h) refl

@@ -251,14 +251,14 @@ fn fill<T: Packed>(kind: SampleKind, piece: &[T], room: &mut [u8])
 }
 
 /// The bytes that are written at once: a write of the system costs as much as thousands of bytes.
-const BLOCK: usize = 32_768;
+const BLOCK_BYTES: usize = 32_768;
 
 /// How many samples fill a block.
 fn samples_in_block(kind: SampleKind) -> usize
     ensures some { 0 < result }
     ensures room { width_of kind * result ≤ 32768 }
 {
-    BLOCK / kind.width() as usize
+    BLOCK_BYTES / kind.width() as usize
 }
 
 /// Writes samples that fit into the room, by way of the room.
@@ -308,7 +308,7 @@ pub fn put_packed_samples<K: Sink, T: Packed>(
     requires { All (IsOfKind kind) (map T.value values.now) }
     ensures { Puts (K.seen sink.old) (K.seen sink.new) result (samples_text kind (map T.value values.now)) }
 {
-    let mut room = [0u8; BLOCK];
+    let mut room = [0u8; BLOCK_BYTES];
     put_pieces(sink, kind, values, &mut room)
 }
 

@@ -128,8 +128,8 @@ order_given None = Err NoEndian
 order_given (Some w) = order_named w
 
 -- whether the high bytes come first, which is asked of samples that have an order alone
-abbrev pub big_first : Bool → Option (List ℕ) → Result Bool NrrdFault
-big_first ordered value = if ordered then order_given value else Ok false
+abbrev pub big_endian_of : Bool → Option (List ℕ) → Result Bool NrrdFault
+big_endian_of ordered value = if ordered then order_given value else Ok false
 
 -- the layout of the samples, or the first refusal
 unfoldable pub layout_of : Fields → Result Layout NrrdFault
@@ -144,5 +144,5 @@ layout_of h = do
   lines ← no_skip h.line_skip LineSkip
   bytes ← no_skip h.byte_skip ByteSkip
   grid ← grid_of sizes
-  big ← big_first (has_order encoding kind) h.endian
-  Ok (record { sizes = grid; kind = kind; encoding = encoding; big = big })
+  big_endian ← big_endian_of (has_order encoding kind) h.endian
+  Ok (record { sizes = grid; kind = kind; encoding = encoding; big_endian = big_endian })

@@ -46,15 +46,15 @@ split_of bytes = by_lines (length bytes) (lines_of bytes)
 
 -- raw samples, so many, and how many bytes stand after them
 abbrev pub raw_samples : SampleKind → Bool → ℕ → List ℕ → Result (List ℤ × ℕ) SampleFault
-raw_samples kind big count body =
+raw_samples kind big_endian count body =
     if nat_lt (length body) (width_of kind * count) then Err (Short (width_of kind * count) (length body)) else
-    Ok (samples_in kind big body count, length body - width_of kind * count)
+    Ok (samples_in kind big_endian body count, length body - width_of kind * count)
 
 -- samples in any encoding
 abbrev pub samples_by : Encoding → SampleKind → Bool → ℕ → List ℕ → Result (List ℤ × ℕ) SampleFault
-samples_by Raw kind big count body = raw_samples kind big count body
-samples_by Text kind big count body = text_samples kind count body
-samples_by Hex kind big count body = hex_samples kind big count body
+samples_by Raw kind big_endian count body = raw_samples kind big_endian count body
+samples_by Text kind big_endian count body = text_samples kind count body
+samples_by Hex kind big_endian count body = hex_samples kind big_endian count body
 
 -- the volume of these samples
 abbrev pub volume_of : Grid → SampleKind → Result (List ℤ × ℕ) SampleFault → Result (Voxels × ℕ) NrrdFault
@@ -63,7 +63,7 @@ volume_of e kind (Err fault) = Err (fault_of fault)
 
 -- the volume in these bytes, and how many bytes stand after it
 abbrev pub measured : Layout → List ℕ → Result (Voxels × ℕ) NrrdFault
-measured l body = volume_of l.sizes l.kind (samples_by l.encoding l.kind l.big (point_count l.sizes) body)
+measured l body = volume_of l.sizes l.kind (samples_by l.encoding l.kind l.big_endian (point_count l.sizes) body)
 
 -- the volume in a file, and how many bytes stand after it, or the first refusal
 unfoldable pub nrrd_of : List ℕ → Result (Voxels × ℕ) NrrdFault

@@ -191,8 +191,8 @@ pub fn sizes_of(text: &[u8]) -> Result<Sizes, NrrdFault>
 
 /// Whether the high bytes come first. It is asked only of samples that have a byte order.
 #[tactic(auto, unfolding(crate::specs::Checks::order_named))]
-pub fn big_first(ordered: bool, value: Option<&[u8]>) -> Result<bool, NrrdFault>
-    ensures { result ≡ checks.big_first ordered (option_map (λ x. x.now) value.entry) }
+pub fn big_endian_of(ordered: bool, value: Option<&[u8]>) -> Result<bool, NrrdFault>
+    ensures { result ≡ checks.big_endian_of ordered (option_map (λ x. x.now) value.entry) }
 {
     if !ordered {
         return Ok(false);

@@ -4,7 +4,7 @@ ghost use Rattle.nrrd_read.specs.Scanning.{seen_fields};
 ghost use Rattle.nrrd_read.specs.Checks.{layout_of};
 
 use crate::checks::{
-    ask_dimension, ask_skip, ask_value, big_first, encoding_of, kind_of, sizes_of,
+    ask_dimension, ask_skip, ask_value, big_endian_of, encoding_of, kind_of, sizes_of,
 };
 use crate::encoding::Encoding;
 use crate::header::Header;
@@ -18,7 +18,7 @@ pub struct Layout {
     pub kind: SampleKind,
     pub encoding: Encoding,
     /// Whether the high byte of a sample comes first.
-    pub big: bool,
+    pub big_endian: bool,
 }
 
 /// What the fields say of the samples.
@@ -36,11 +36,11 @@ pub fn read_layout(header: &Header<'_>) -> Result<Layout, NrrdFault>
     ask_skip(header.line_skip, Field::LineSkip)?;
     ask_skip(header.byte_skip, Field::ByteSkip)?;
     let sizes = sizes_of(sizes)?;
-    let big = big_first(encoding.has_order(kind), header.endian)?;
+    let big_endian = big_endian_of(encoding.has_order(kind), header.endian)?;
     Ok(Layout {
         sizes,
         kind,
         encoding,
-        big,
+        big_endian,
     })
 }

@@ -71,14 +71,14 @@ fn short_samples(needed: usize, body: &[u8]) -> NrrdFault
 /// The volume whose raw samples these bytes begin with, and the number of bytes after them.
 fn raw_volume(layout: Layout, body: &[u8]) -> Result<(RawVolume<'_>, u64), NrrdFault>
     ensures { result ≡ volume_of layout.sizes layout.kind
-        (raw_samples layout.kind layout.big (point_count layout.sizes) body.now) }
+        (raw_samples layout.kind layout.big_endian (point_count layout.sizes) body.now) }
 {
     let needed = layout.kind.width() as usize * layout.sizes.count() as usize;
     if body.len() < needed {
         return Err(short_samples(needed, body));
     }
     let surplus = (body.len() - needed) as u64;
-    let volume = RawVolume::new(layout.sizes, layout.kind, layout.big, body);
+    let volume = RawVolume::new(layout.sizes, layout.kind, layout.big_endian, body);
     Ok((volume, surplus))
 }
 
@@ -111,10 +111,10 @@ fn text_volume(alloc: Global, layout: Layout, body: &[u8]) -> Result<(ReadVolume
 /// The volume whose samples stand in these bytes as hex digits, and the number of bytes after them.
 fn hex_volume(alloc: Global, layout: Layout, body: &[u8]) -> Result<(ReadVolume, u64), NrrdFault>
     ensures { Answers result (volume_of layout.sizes layout.kind
-        (hex_samples layout.kind layout.big (point_count layout.sizes) body.now)) }
+        (hex_samples layout.kind layout.big_endian (point_count layout.sizes) body.now)) }
 {
     let count = u64::from(layout.sizes.count());
-    match read_hex_bytes(alloc, body, layout.kind, layout.big, count) {
+    match read_hex_bytes(alloc, body, layout.kind, layout.big_endian, count) {
         Ok((bytes, surplus)) => {
             let volume = ReadVolume::new(layout.sizes, layout.kind, bytes);
             Ok((volume, surplus))

@@ -5,7 +5,7 @@ ghost use Rattle.iso_base.specs.Samples.{IsOfKind};
 ghost use Rattle.nrrd_text.specs.Writing.{hex_line, text_line};
 
 use crate::forms::{Form, numbers_of};
-use crate::gathered::{gather_counted, gather_end, gather_first, gather_samples};
+use crate::pieces::{gather_counted, gather_end, gather_first, gather_samples};
 use crate::sample_lines::SampleLines;
 use byte_streams::{Failed, Sink};
 use iso_base::SampleKind;

@@ -14,13 +14,13 @@ use samples::Packed;
 use std::marker::Model;
 
 /// The most bytes that wait: a write of the system costs as much as thousands of bytes.
-const BLOCK: usize = 32_768;
+const BLOCK_BYTES: usize = 32_768;
 
 /// Lines of samples, one behind another, each written where it stays until all are taken, and tables of what is printed.
 /// Contracts see the bytes of the lines, which are at most 32,768.
 #[derive(Drop)]
 pub struct SampleLines {
-    bytes: [u8; BLOCK],
+    bytes: [u8; BLOCK_BYTES],
     end: usize,
     pairs: Pairs,
     numbers: ByteNumbers,
@@ -42,7 +42,7 @@ impl SampleLines {
         ensures { result ≡ [] }
     {
         SampleLines {
-            bytes: [0; BLOCK],
+            bytes: [0; BLOCK_BYTES],
             end: 0,
             pairs: Pairs::new(),
             numbers: ByteNumbers::new(),
@@ -72,7 +72,7 @@ impl SampleLines {
         requires { samples ≤ 256 }
         ensures { IsTrue result → length self.now + 24 * samples ≤ 32768 }
     {
-        self.end + 24 * samples <= BLOCK
+        self.end + 24 * samples <= BLOCK_BYTES
     }
 
     /// Lets all lines go.

@@ -3,11 +3,11 @@
 #![tactic(auto)]
 
 mod bytes;
-mod counted;
+mod digit_counts;
 mod digits;
 mod number;
 
 pub use bytes::{put_array, put_byte};
-pub use counted::{Counted, count_short};
+pub use digit_counts::{Counted, count_short};
 pub use digits::Digits;
 pub use number::put_number;

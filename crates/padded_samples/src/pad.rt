@@ -14,7 +14,7 @@ ghost use Rattle.samples.specs.Signs.{sign_of};
 ghost use Rattle.padded_samples.specs.Pads.{InPad, IsInPad, IsInnerRow, padded_at, padded_list};
 
 use crate::rows::{
-    copy_inside, fill_signs, inner_cell, inner_row, points_before, put_inside, put_pad,
+    copy_inside, fill_inside, fill_pad, inner_cell, inner_row, points_before, repeat_sign,
 };
 use iso_base::{Level, Point, SizeFault, Sizes, index, point_of};
 use samples::{Packed, Samples, each_corner, sample_sign};
@@ -144,8 +144,8 @@ impl<'a, S: Samples> Padded<'a, S> {
         let count = into.len();
         let first = points_before(point.x, count);
         let last = ((self.sizes.nx() + 1 - point.x) as usize).min(count);
-        put_pad(self.pad, 0, first, into);
-        put_pad(self.pad, last, count, into);
+        fill_pad(self.pad, 0, first, into);
+        fill_pad(self.pad, last, count, into);
         if first < last {
             let x = point.x + first as u32 - 1;
             let point = Point { x, ..row };
@@ -165,7 +165,7 @@ impl<'a, S: Samples> Padded<'a, S> {
     {
         let count = into.len();
         let Some(row) = inner_row(&self.sizes, point.y, point.z) else {
-            return put_pad(self.pad, 0, count, into);
+            return fill_pad(self.pad, 0, count, into);
         };
         if point.x == 0 {
             return self.copy_ends(row, point, into);
@@ -193,7 +193,7 @@ impl<'a, S: Samples> Padded<'a, S> {
 
     /// Writes the signs of a row of the grid with the layer over a part of a list.
     #[inline(always)]
-    fn put_row(&self, y: u32, z: u32, level: Level, from: usize, into: &mut [u8])
+    fn fill_row(&self, y: u32, z: u32, level: Level, from: usize, into: &mut [u8])
         requires y { y < self.now.grid.ny + 2 }
         requires z { z < self.now.grid.nz + 2 }
         requires room { from + (self.now.grid.nx + 2) ≤ length into.old }
@@ -204,9 +204,9 @@ impl<'a, S: Samples> Padded<'a, S> {
         let count = self.sizes.nx() as usize;
         let sign = sample_sign(self.pad(), level);
         let Some(row) = inner_row(&self.sizes, y, z) else {
-            return fill_signs(sign, from, count + 2, into);
+            return repeat_sign(sign, from, count + 2, into);
         };
-        put_inside(
+        fill_inside(
             self.inner,
             index(&self.sizes, row),
             level,
@@ -219,7 +219,7 @@ impl<'a, S: Samples> Padded<'a, S> {
     }
 
     /// Writes the signs of so many rows of the grid with the layer, from one on.
-    fn put_rows(&self, first: u32, rows: u32, level: Level, into: &mut [u8])
+    fn fill_rows(&self, first: u32, rows: u32, level: Level, into: &mut [u8])
         requires rows { first + rows ≤ (self.now.grid.ny + 2) * (self.now.grid.nz + 2) }
         requires room { length into.old ≡ (self.now.grid.nx + 2) * rows }
         ensures { (i : ℕ) → i < length into.old → slice_index into.new i
@@ -229,12 +229,12 @@ impl<'a, S: Samples> Padded<'a, S> {
         let height = self.sizes.ny() + 2;
         for k in 0..rows {
             let row = first + k;
-            self.put_row(row % height, row / height, level, width * k as usize, into);
+            self.fill_row(row % height, row / height, level, width * k as usize, into);
         }
     }
 
     /// Writes the signs of samples from an index on, one by one.
-    fn put_each(&self, start: u32, level: Level, into: &mut [u8])
+    fn fill_each(&self, start: u32, level: Level, into: &mut [u8])
         requires { start + length into.old ≤ point_count (grown self.now.grid) }
         ensures { (i : ℕ) → i < length into.old → slice_index into.new i
             ≡ sign_of level (padded_at self.now (start + i)) }
@@ -282,13 +282,13 @@ impl<'a, S: Samples> Samples for Padded<'a, S> {
     }
 
     // Signs are asked for slice by slice, so in whole rows.
-    fn put_signs(&self, start: u32, level: Level, into: &mut [u8]) {
+    fn fill_signs(&self, start: u32, level: Level, into: &mut [u8]) {
         let width = self.stored.nx();
         let rows = (into.len() / width as usize) as u32;
         if start % width == 0 && into.len() % width as usize == 0 {
-            self.put_rows(start / width, rows, level, into);
+            self.fill_rows(start / width, rows, level, into);
         } else {
-            self.put_each(start, level, into);
+            self.fill_each(start, level, into);
         }
     }
 }

@@ -105,7 +105,7 @@ pub fn copy_inside<S: Samples, T: Packed>(
 
 /// Writes the pad over a part of a list.
 #[inline(always)]
-pub fn put_pad<T: Packed>(pad: i64, from: usize, to: usize, into: &mut [T])
+pub fn fill_pad<T: Packed>(pad: i64, from: usize, to: usize, into: &mut [T])
     requires order { from ≤ to }
     requires room { to ≤ length into.old }
     requires fits { from < to → T.Fits pad }
@@ -120,7 +120,7 @@ pub fn put_pad<T: Packed>(pad: i64, from: usize, to: usize, into: &mut [T])
 
 /// Writes the signs of samples over a part of a list.
 #[inline(always)]
-pub fn put_inside<S: Samples>(
+pub fn fill_inside<S: Samples>(
     samples: &S,
     start: u32,
     level: Level,
@@ -135,12 +135,12 @@ pub fn put_inside<S: Samples>(
     ensures before { (i : ℕ) → i < from → slice_index into.new i ≡ slice_index into.old i }
     ensures after { (i : ℕ) → from + count ≤ i → slice_index into.new i ≡ slice_index into.old i }
 {
-    samples.put_signs(start, level, &mut into[from..from + count]);
+    samples.fill_signs(start, level, &mut into[from..from + count]);
 }
 
 /// Writes a sign over a part of a list.
 #[inline(always)]
-pub fn fill_signs(sign: u8, from: usize, count: usize, into: &mut [u8])
+pub fn repeat_sign(sign: u8, from: usize, count: usize, into: &mut [u8])
     requires { from + count ≤ length into.old }
     ensures inside { (i : ℕ) → i < count → slice_index into.new (from + i) ≡ sign }
     ensures before { (i : ℕ) → i < from → slice_index into.new i ≡ slice_index into.old i }

@@ -13,7 +13,7 @@ use Rattle.iso_base.specs.Volume.{IsVolume, Volume}
 use Rattle.iso_base.proofs.VolumeLaws.{grid_is_solid, pad_is_below}
 use Rattle.iso_defs.specs.Verdict.{IsVerdict, border_count}
 use Rattle.iso_defs.specs.Verdict.Verdict.{Closed}
-use Rattle.verdict_laws.proofs.Lists.{In}
+use Rattle.triangle_laws.proofs.Lists.{In}
 use Rattle.mesh_laws.proofs.Padded.{closed}
 use Rattle.mesh_laws.proofs.Sizes.{corners_low}
 use Rattle.mesh_laws.proofs.Surfaces.{manifold}

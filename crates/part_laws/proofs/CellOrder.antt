@@ -13,9 +13,9 @@ use Rattle.case_laws.proofs.Cases.{all_below, all_cases}
 use Rattle.case_laws.proofs.EdgePairs.{implies}
 use Rattle.case_laws.proofs.Tests.{all_below_at, cell_passes}
 use Rattle.case_laws.proofs.Wedges.{distinct_test, loop_all, loop_at, loop_test}
-use Rattle.verdict_laws.proofs.Lists.{In, In-filter, In-flat_map, In-map, in_any, in_filter, in_flat_map, in_map, list_all_at}
-use Rattle.verdict_laws.proofs.Counts.{Distinct}
-use Rattle.verdict_laws.proofs.Fans.{in_is_in}
+use Rattle.triangle_laws.proofs.Lists.{In, In-filter, In-flat_map, In-map, in_any, in_filter, in_flat_map, in_map, list_all_at}
+use Rattle.triangle_laws.proofs.Counts.{Distinct}
+use Rattle.triangle_laws.proofs.Fans.{in_is_in}
 use Rattle.mesh_laws.proofs.Apart.{crosses_is}
 use Rattle.mesh_laws.proofs.Cells.{Distinct-cells, Distinct-filter, Distinct-range, cell_in, range_at_least, range_in}
 use Rattle.mesh_laws.proofs.Mixed.{Low, low_is}

@@ -2,8 +2,8 @@
 use Rattle.std.proofs.Common.{◌≡◌, ℕ, ◌<◌, ◌≤◌, Bool, true, false, cond, ◌&&◌, ◌||◌, List, [], ◌∷◌, ◌++◌, map, refl, sym, ◌∙◌, ap, subst, inl, inr, arith, eqb, leb}
 use Rattle.std.proofs.lemmas.Bool.{cases_Bool, eq-eqb, and_parts, and_from, leb-true, leb-false}
 use Rattle.iso_defs.specs.Lists.{is_in, least_of}
-use Rattle.verdict_laws.proofs.Lists.{In, In-left, In-map, in_map, in_any, any_in}
-use Rattle.verdict_laws.proofs.Fans.{in_is_in}
+use Rattle.triangle_laws.proofs.Lists.{In, In-left, In-map, in_map, in_any, any_in}
+use Rattle.triangle_laws.proofs.Fans.{in_is_in}
 use Rattle.part_laws.specs.Loops.{Loop}
 use Rattle.part_laws.specs.Classes.{class_of, share_loop, IsChain, IsLeastChained}
 

@@ -7,8 +7,8 @@ use Rattle.iso_defs.specs.Lists.{below, around}
 use Rattle.iso_defs.specs.Cell.{Triangle}
 use Rattle.iso_defs.specs.Scratch.{has_centre}
 use Rattle.iso_defs.specs.Manifold.{uses, runs, runs_of, all_runs, times_run}
-use Rattle.verdict_laws.proofs.Lists.{In, In-filter, In-flat_map, in_filter}
-use Rattle.verdict_laws.proofs.Counts.{count-cons, count-append, count-map, count_agree, count_some}
+use Rattle.triangle_laws.proofs.Lists.{In, In-filter, In-flat_map, in_filter}
+use Rattle.triangle_laws.proofs.Counts.{count-cons, count-append, count-map, count_agree, count_some}
 use Rattle.mesh_report.specs.Report.{used}
 use Rattle.mesh_report.proofs.Reach.{below_in}
 use Rattle.mesh_report.proofs.Sums.{sum_agree}

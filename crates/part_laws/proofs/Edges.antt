@@ -5,8 +5,8 @@ use Rattle.std.proofs.lemmas.List.Sums.{length-filter}
 use Rattle.iso_defs.specs.Cell.{Triangle}
 use Rattle.iso_defs.specs.Manifold.{HasThreeCorners, runs, runs_of, all_runs, times_run}
 use Rattle.iso_base.specs.Triangles.{IsBelow}
-use Rattle.verdict_laws.proofs.Lists.{In, In-flat_map}
-use Rattle.verdict_laws.proofs.Counts.{count-cons, count-append, count_finds, runs_in}
+use Rattle.triangle_laws.proofs.Lists.{In, In-flat_map}
+use Rattle.triangle_laws.proofs.Counts.{count-cons, count-append, count_finds, runs_in}
 use Rattle.mesh_report.specs.Report.{has_both, are_joined, has_one_side, pairs, edges}
 use Rattle.mesh_report.proofs.Sums.{sum_agree, sum_add}
 use Rattle.mesh_report.proofs.GraphLaws.{any-count}

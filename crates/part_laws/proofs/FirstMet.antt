@@ -13,10 +13,10 @@ use Rattle.iso_defs.specs.Grid.{name_bound}
 use Rattle.case_laws.proofs.Wedges.{distinct_test, loop_all, loop_at, loop_test}
 use Rattle.case_laws.proofs.EdgePairs.{implies}
 use Rattle.case_laws.proofs.Tests.{cell_passes}
-use Rattle.verdict_laws.proofs.Lists.{In, In-append, In-filter, In-flat_map, In-left, In-map, In-right, in_any, in_filter, in_flat_map, in_map, list_all_at}
-use Rattle.verdict_laws.proofs.Counts.{Distinct}
-use Rattle.verdict_laws.proofs.Fans.{in_is_in}
-use Rattle.verdict_laws.proofs.FanWalk.{no_longer}
+use Rattle.triangle_laws.proofs.Lists.{In, In-append, In-filter, In-flat_map, In-left, In-map, In-right, in_any, in_filter, in_flat_map, in_map, list_all_at}
+use Rattle.triangle_laws.proofs.Counts.{Distinct}
+use Rattle.triangle_laws.proofs.Fans.{in_is_in}
+use Rattle.triangle_laws.proofs.FanWalk.{no_longer}
 use Rattle.mesh_laws.proofs.Cells.{Distinct-filter, Distinct-range, cell_in, range_in}
 use Rattle.mesh_laws.proofs.Names.{edge_injective}
 use Rattle.mesh_laws.proofs.Used.{cell_of_edge}

@@ -7,8 +7,8 @@ use Rattle.iso_defs.specs.Cell.{Triangle}
 use Rattle.iso_defs.specs.Scratch.{has_centre}
 use Rattle.iso_defs.specs.Manifold.{HasThreeCorners, uses, times_run}
 use Rattle.iso_base.specs.Triangles.{IsBelow}
-use Rattle.verdict_laws.proofs.Lists.{In, In-map, In-flat_map, In-filter, in_map, in_flat_map, in_filter, in_any}
-use Rattle.verdict_laws.proofs.Counts.{Distinct}
+use Rattle.triangle_laws.proofs.Lists.{In, In-map, In-flat_map, In-filter, in_map, in_flat_map, in_filter, in_any}
+use Rattle.triangle_laws.proofs.Counts.{Distinct}
 use Rattle.mesh_laws.proofs.Cells.{range_at_least, range_in, Distinct-range}
 use Rattle.mesh_report.specs.Report.{has_both, are_joined, component}
 use Rattle.mesh_report.proofs.Reach.{component_reached, component_low, component_spreads}

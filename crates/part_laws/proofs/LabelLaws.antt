@@ -4,8 +4,8 @@ use Rattle.std.specs.List.{AllByRecursion}
 use Rattle.std.proofs.lemmas.Bool.{cases_Bool, both_ways, eq-eqb, ne_eqb}
 use Rattle.std.proofs.lemmas.List.{map-append}
 use Rattle.iso_defs.specs.Lists.{is_in}
-use Rattle.verdict_laws.proofs.Lists.{In, In-append, In-right, In-map, in_map, any_in, in_any}
-use Rattle.verdict_laws.proofs.Fans.{in_is_in}
+use Rattle.triangle_laws.proofs.Lists.{In, In-append, In-right, In-map, in_map, any_in, in_any}
+use Rattle.triangle_laws.proofs.Fans.{in_is_in}
 use Rattle.part_laws.specs.Loops.{AreLong, Loop}
 use Rattle.part_laws.specs.Classes.{class_of}
 use Rattle.part_laws.specs.Labels.{IsRooted, unlabelled}

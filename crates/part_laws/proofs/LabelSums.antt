@@ -5,7 +5,7 @@ use Rattle.std.proofs.lemmas.Bool.{cases_eq, eq-eqb, ne_eqb}
 use Rattle.std.proofs.lemmas.List.Sums.{sum_by-cons}
 use Rattle.std.proofs.lemmas.Int.{ints}
 use Rattle.iso_defs.specs.Lists.{below}
-use Rattle.verdict_laws.proofs.Lists.{In}
+use Rattle.triangle_laws.proofs.Lists.{In}
 use Rattle.measure_laws.specs.Totals.{total}
 use Rattle.measure_laws.proofs.Totals.{total-map, total_add}
 use Rattle.mesh_report.proofs.Reach.{range_in}

@@ -10,7 +10,7 @@ use Rattle.iso_defs.specs.Manifold.{arcs}
 use Rattle.case_laws.proofs.Wedges.{centre_test, centre_all, distinct_test, same_pairs}
 use Rattle.case_laws.proofs.EdgePairs.{implies}
 use Rattle.case_laws.proofs.Tests.{cell_passes}
-use Rattle.verdict_laws.proofs.Lists.{In, list_all_at}
+use Rattle.triangle_laws.proofs.Lists.{In, list_all_at}
 use Rattle.mesh_laws.proofs.Directed.{local}
 use Rattle.mesh_laws.proofs.Names.{name_of_edge, name_of_centre}
 use Rattle.part_laws.specs.Loops.{Loop, renamed, loops_in, mesh_loops, triangles_round}

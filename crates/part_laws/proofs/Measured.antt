@@ -4,7 +4,7 @@ use Rattle.std.specs.List.{filter, flat_map}
 use Rattle.std.proofs.lemmas.Bool.{cases_Bool}
 use Rattle.iso_defs.specs.Lists.{below}
 use Rattle.iso_defs.specs.Cell.{Triangle}
-use Rattle.verdict_laws.proofs.Lists.{In, In-filter}
+use Rattle.triangle_laws.proofs.Lists.{In, In-filter}
 use Rattle.measure_laws.specs.Vectors.{Vector, det_of, normal_of}
 use Rattle.measure_laws.specs.Totals.{total, area_of}
 use Rattle.measure_laws.proofs.Totals.{total-flat_map}

@@ -14,7 +14,7 @@ use Rattle.iso_defs.specs.Manifold.{HasThreeCorners, times_run, uses}
 use Rattle.iso_defs.specs.Surface.{RunsMatch, is_border}
 use Rattle.iso_defs.specs.Verdict.{on_border}
 use Rattle.iso_base.specs.Triangles.{IsBelow}
-use Rattle.verdict_laws.proofs.Lists.{In, in_filter, in_map}
+use Rattle.triangle_laws.proofs.Lists.{In, in_filter, in_map}
 use Rattle.mesh_laws.proofs.Numbers.{count_less}
 use Rattle.mesh_laws.proofs.Oriented.{runs_match}
 use Rattle.mesh_laws.proofs.Rows.{cells_by_rows}

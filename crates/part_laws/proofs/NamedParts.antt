@@ -8,9 +8,9 @@ use Rattle.iso_defs.specs.Outside.{IsThick}
 use Rattle.iso_defs.specs.Scratch.{crossing_edges, number_of, triangles, vertices}
 use Rattle.iso_defs.specs.Signs.{is_crossing}
 use Rattle.iso_defs.specs.Surface.{is_border}
-use Rattle.verdict_laws.proofs.Lists.{In, In-filter, In-map, any_in, in_any, in_map}
-use Rattle.verdict_laws.proofs.Counts.{count_agree}
-use Rattle.verdict_laws.proofs.Fans.{in_is_in}
+use Rattle.triangle_laws.proofs.Lists.{In, In-filter, In-map, any_in, in_any, in_map}
+use Rattle.triangle_laws.proofs.Counts.{count_agree}
+use Rattle.triangle_laws.proofs.Fans.{in_is_in}
 use Rattle.mesh_laws.proofs.Cells.{range_at_least}
 use Rattle.mesh_laws.proofs.Oriented.{Ascending}
 use Rattle.measure_laws.specs.Vectors.{Vector}

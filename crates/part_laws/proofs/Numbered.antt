@@ -11,8 +11,8 @@ use Rattle.iso_defs.specs.Place.{Position, edge_position, centre_position}
 use Rattle.iso_defs.specs.Scratch.{cell_centres, cell_loops, cell_triangles, centre_name, crossing_edges, has_centre, named_triangles, number_of, on_corners, vertex_name, vertex_names, vertices}
 use Rattle.iso_defs.specs.Surface.{is_border}
 use Rattle.iso_defs.specs.Verdict.{on_border}
-use Rattle.verdict_laws.proofs.Lists.{In, In-map, In-flat_map, In-filter, In-append, in_map, in_flat_map, in_filter, In-left, In-right}
-use Rattle.verdict_laws.proofs.Counts.{count-cons, count-append, count_none}
+use Rattle.triangle_laws.proofs.Lists.{In, In-map, In-flat_map, In-filter, In-append, in_map, in_flat_map, in_filter, In-left, In-right}
+use Rattle.triangle_laws.proofs.Counts.{count-cons, count-append, count_none}
 use Rattle.mesh_laws.proofs.Names.{edge_in, name_of_edge}
 use Rattle.mesh_laws.proofs.Directed.{local}
 use Rattle.mesh_laws.proofs.Numbers.{Vertices, triangle_vertices}

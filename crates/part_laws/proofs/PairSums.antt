@@ -4,8 +4,8 @@ use Rattle.std.specs.List.{filter, flat_map, sum_by}
 use Rattle.std.proofs.lemmas.Bool.{cases_lt, eqb-true, lt-ltb, ltb-true, and_parts, false_from_ne_true}
 use Rattle.std.proofs.lemmas.List.Sums.{sum_by-cons, sum_by-append}
 use Rattle.iso_defs.specs.Lists.{below, count_pair}
-use Rattle.verdict_laws.proofs.Lists.{In, In-map, In-flat_map, In-filter}
-use Rattle.verdict_laws.proofs.Counts.{count-cons}
+use Rattle.triangle_laws.proofs.Lists.{In, In-map, In-flat_map, In-filter}
+use Rattle.triangle_laws.proofs.Counts.{count-cons}
 use Rattle.mesh_report.specs.Report.{pairs}
 use Rattle.mesh_report.proofs.Reach.{below_in}
 use Rattle.mesh_report.proofs.Sums.{sum_agree, sum_add, sum_nothing, sum_at}

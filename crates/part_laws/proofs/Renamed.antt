@@ -5,9 +5,9 @@ use Rattle.std.proofs.lemmas.Bool.{cases_Bool, cases_order, le-leb, lt-leb}
 use Rattle.std.proofs.lemmas.List.{length-map}
 use Rattle.iso_defs.specs.Lists.{around, is_in, least_of}
 use Rattle.iso_defs.specs.Scratch.{has_centre}
-use Rattle.verdict_laws.proofs.Lists.{In, In-map, In-filter}
-use Rattle.verdict_laws.proofs.Fans.{in_is_in}
-use Rattle.verdict_laws.proofs.Counts.{count-map, count_agree}
+use Rattle.triangle_laws.proofs.Lists.{In, In-map, In-filter}
+use Rattle.triangle_laws.proofs.Fans.{in_is_in}
+use Rattle.triangle_laws.proofs.Counts.{count-map, count_agree}
 use Rattle.mesh_laws.proofs.Arcs.{on_pair}
 use Rattle.mesh_laws.proofs.AllFans.{around_map}
 use Rattle.mesh_laws.proofs.Directed.{test_moves}

@@ -6,7 +6,7 @@ use Rattle.std.proofs.lemmas.List.{length-map, map-append}
 use Rattle.iso_defs.specs.Lists.{around, closing}
 use Rattle.iso_defs.specs.Cell.{loop_triangles}
 use Rattle.iso_defs.specs.Scratch.{has_centre, on_corners}
-use Rattle.verdict_laws.proofs.Lists.{In}
+use Rattle.triangle_laws.proofs.Lists.{In}
 use Rattle.mesh_laws.proofs.Arcs.{on_pair}
 use Rattle.mesh_laws.proofs.AllFans.{around_map}
 use Rattle.part_laws.specs.Loops.{Loop}

@@ -5,7 +5,7 @@ use Rattle.std.proofs.lemmas.Bool.{eqb-true}
 use Rattle.iso_defs.specs.Cell.{Triangle}
 use Rattle.iso_defs.specs.Lists.{count_pair}
 use Rattle.iso_defs.specs.Manifold.{HasThreeCorners, runs, runs_of, all_runs, times_run}
-use Rattle.verdict_laws.proofs.Counts.{count-cons, count-append}
+use Rattle.triangle_laws.proofs.Counts.{count-cons, count-append}
 use Rattle.mesh_report.specs.Report.{has_both}
 
 -- of three different corners, at most one side is the pair

@@ -6,8 +6,8 @@ use Rattle.std.proofs.lemmas.List.FromFn.{length-range_with_len}
 use Rattle.iso_defs.specs.Lists.{below}
 use Rattle.iso_defs.specs.Cell.{Triangle}
 use Rattle.iso_defs.specs.Manifold.{uses}
-use Rattle.verdict_laws.proofs.Lists.{In}
-use Rattle.verdict_laws.proofs.Counts.{count-cons, count_agree}
+use Rattle.triangle_laws.proofs.Lists.{In}
+use Rattle.triangle_laws.proofs.Counts.{count-cons, count_agree}
 use Rattle.mesh_laws.proofs.Cells.{range_at_least}
 use Rattle.mesh_report.specs.declared.part.Part.{Part}
 use Rattle.mesh_report.specs.Report.{Summary, component, components, edges, has_one_side, part_of, summary_of, total_of, used}

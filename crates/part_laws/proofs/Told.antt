@@ -5,7 +5,7 @@ use Rattle.std.proofs.lemmas.Bool.{eq-eqb, or_left, or_right}
 use Rattle.iso_defs.specs.Cell.{Triangle}
 use Rattle.iso_defs.specs.Manifold.{uses}
 use Rattle.iso_base.specs.Triangles.{IsBelow}
-use Rattle.verdict_laws.proofs.Lists.{In}
+use Rattle.triangle_laws.proofs.Lists.{In}
 use Rattle.mesh_report.specs.Report.{component, edges, has_one_side, part_of, total_of}
 use Rattle.mesh_report.proofs.NumberLaws.{AgreesOn}
 use Rattle.mesh_report.proofs.ComponentLaws.{component_corner}

@@ -5,12 +5,12 @@ use Rattle.iso_defs.specs.Signs.{is_above}
 use Rattle.iso_defs.specs.Lists.{has_pair}
 use Rattle.iso_defs.specs.Grid.{Grid, index, edge_name, edge_lower, edge_upper}
 use Rattle.iso_defs.specs.Face.{value_segments, is_joined}
-use Rattle.verdict_laws.proofs.Fans.{in_is_in}
+use Rattle.triangle_laws.proofs.Fans.{in_is_in}
 use Rattle.plane_laws.specs.Sides.{side, side_pairs, runs_along, HasSide}
 use Rattle.plane_laws.proofs.Squares.{Rises, square_at}
 use Rattle.plane_laws.proofs.Places.{HasSquare, up_from, down_from, up_begins, down_ends, square_pair}
 use Rattle.mesh_laws.proofs.Neighbours.{by_four}
-use Rattle.verdict_laws.proofs.Lists.{In, any_in}
+use Rattle.triangle_laws.proofs.Lists.{In, any_in}
 use Rattle.std.proofs.lemmas.Bool.{both_ways, eqb-true, eq-eqb, cases_lt, lt-ltb}
 use Rattle.std.specs.List.{position, position_or_len}
 use Rattle.std.proofs.lemmas.List.Sums.{fails_before_first}

@@ -8,9 +8,9 @@ use Rattle.iso_defs.specs.Grid.{Grid, index, coordinate, edge_lower, edge_upper,
 use Rattle.iso_defs.specs.Place.{place, edge_coordinate}
 use Rattle.iso_defs.specs.Signs.{is_above, differ}
 use Rattle.iso_defs.proofs.Points.{x_index, y_index}
-use Rattle.verdict_laws.proofs.Lists.{In}
-use Rattle.verdict_laws.proofs.Counts.{pair_in}
-use Rattle.verdict_laws.proofs.FanWalk.{begins_from, ends_from, next_in}
+use Rattle.triangle_laws.proofs.Lists.{In}
+use Rattle.triangle_laws.proofs.Counts.{pair_in}
+use Rattle.triangle_laws.proofs.FanWalk.{begins_from, ends_from, next_in}
 use Rattle.plane_laws.specs.Lines.{backwards, last_of, start_of}
 use Rattle.plane_laws.specs.Sides.{slot_name}
 use Rattle.plane_laws.proofs.Homes.{back_in, in_back, single_back}

@@ -5,9 +5,9 @@ use Rattle.std.proofs.lemmas.Bool.{cases_Bool, both_ways, and_parts, and_from, l
 use Rattle.iso_defs.specs.Lists.{begins, ends, has_pair, least_of}
 use Rattle.iso_defs.specs.Cell.{next_of}
 use Rattle.iso_defs.specs.Contours.{trace, line_from, leads_back, lines_at}
-use Rattle.verdict_laws.proofs.Lists.{In, In-map, in_map, in_any, any_in, list_all_at}
-use Rattle.verdict_laws.proofs.Counts.{count-map, pair_in, in_pair}
-use Rattle.verdict_laws.proofs.FanWalk.{IsSingle, one_next, begins_from, ends_from, ends_in}
+use Rattle.triangle_laws.proofs.Lists.{In, In-map, in_map, in_any, any_in, list_all_at}
+use Rattle.triangle_laws.proofs.Counts.{count-map, pair_in, in_pair}
+use Rattle.triangle_laws.proofs.FanWalk.{IsSingle, one_next, begins_from, ends_from, ends_in}
 use Rattle.plane_laws.specs.Lines.{backwards, last_of, start_of}
 use Rattle.plane_laws.proofs.Walks.{Reached, turned, in_turned, turned_in, one_previous, comes_from, goes_to, Told, told}
 

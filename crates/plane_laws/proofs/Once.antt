@@ -5,9 +5,9 @@ use Rattle.std.proofs.lemmas.Bool.{cases_Bool, and_parts, eqb-true, both_ways, c
 use Rattle.iso_defs.specs.Lists.{below, begins, ends, steps, closing, around, least_of, count_pair}
 use Rattle.iso_defs.specs.Grid.{Grid, name_bound}
 use Rattle.iso_defs.specs.Contours.{line_from, plane_pairs, lines_of_least, contours, line_pairs}
-use Rattle.verdict_laws.proofs.Lists.{In, In-flat_map, in_flat_map}
-use Rattle.verdict_laws.proofs.Counts.{Distinct, count-cons, count_none, count_some, count_finds, count_once, eq_pair}
-use Rattle.verdict_laws.proofs.FanWalk.{IsSingle, one_next, next_in, begins_from, ends_from, ends_in}
+use Rattle.triangle_laws.proofs.Lists.{In, In-flat_map, in_flat_map}
+use Rattle.triangle_laws.proofs.Counts.{Distinct, count-cons, count_none, count_some, count_finds, count_once, eq_pair}
+use Rattle.triangle_laws.proofs.FanWalk.{IsSingle, one_next, next_in, begins_from, ends_from, ends_in}
 use Rattle.mesh_laws.proofs.Cells.{Distinct-range}
 use Rattle.mesh_laws.proofs.Rows.{flat_flat}
 use Rattle.plane_laws.specs.Lines.{last_of}

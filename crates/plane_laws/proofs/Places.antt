@@ -8,9 +8,9 @@ use Rattle.iso_defs.specs.Face.{is_up, is_down}
 use Rattle.iso_defs.specs.Cell.{next_of}
 use Rattle.iso_defs.specs.Contours.{squares, plane_pairs}
 use Rattle.iso_defs.proofs.Points.{x_index, y_index}
-use Rattle.verdict_laws.proofs.Lists.{In}
-use Rattle.verdict_laws.proofs.Counts.{pair_in, in_pair}
-use Rattle.verdict_laws.proofs.FanWalk.{next_in, ends_in}
+use Rattle.triangle_laws.proofs.Lists.{In}
+use Rattle.triangle_laws.proofs.Counts.{pair_in, in_pair}
+use Rattle.triangle_laws.proofs.FanWalk.{next_in, ends_in}
 use Rattle.mesh_laws.proofs.Neighbours.{by_four}
 use Rattle.plane_laws.proofs.Squares.{side, segs, corner_signs, along, Rises, up_signs, down_signs, lower_is, upper_is, side_axis, pair_at, Source, source, first_up, second_down, Spot, spot, small, row}
 

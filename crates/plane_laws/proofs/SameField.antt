@@ -6,8 +6,8 @@ use Rattle.iso_defs.specs.Lists.{below, begins, ends}
 use Rattle.iso_defs.specs.Grid.{Grid, name_bound, edge_lower, edge_upper, edge_name}
 use Rattle.iso_defs.specs.Face.{value_segments}
 use Rattle.iso_defs.specs.Contours.{squares, square_pairs, plane_pairs, line_from, lines_of_least, contours}
-use Rattle.verdict_laws.proofs.Lists.{In, In-flat_map}
-use Rattle.verdict_laws.proofs.FanWalk.{next_in, ends_in}
+use Rattle.triangle_laws.proofs.Lists.{In, In-flat_map}
+use Rattle.triangle_laws.proofs.FanWalk.{next_in, ends_in}
 use Rattle.mesh_laws.proofs.Neighbours.{by_four}
 use Rattle.plane_laws.proofs.Homes.{active_on}
 use Rattle.plane_laws.proofs.Scan.{Found, found}

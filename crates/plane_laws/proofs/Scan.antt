@@ -6,10 +6,10 @@ use Rattle.iso_defs.specs.Lists.{below, begins, ends, is_in, least_of}
 use Rattle.iso_defs.specs.Grid.{Grid, name_bound}
 use Rattle.iso_defs.specs.Contours.{line_from, lines_at, all_lines, lines_of_least}
 use Rattle.iso_defs.proofs.Ranges.{range_append}
-use Rattle.verdict_laws.proofs.Lists.{In, In-flat_map, in_flat_map, In-filter, in_filter, in_any, any_in}
-use Rattle.verdict_laws.proofs.Counts.{Distinct}
-use Rattle.verdict_laws.proofs.Fans.{in_is_in}
-use Rattle.verdict_laws.proofs.FanWalk.{IsSingle, next_in, ends_in}
+use Rattle.triangle_laws.proofs.Lists.{In, In-flat_map, in_flat_map, In-filter, in_filter, in_any, any_in}
+use Rattle.triangle_laws.proofs.Counts.{Distinct}
+use Rattle.triangle_laws.proofs.Fans.{in_is_in}
+use Rattle.triangle_laws.proofs.FanWalk.{IsSingle, next_in, ends_in}
 use Rattle.mesh_laws.proofs.Cells.{range_at_least, range_in, Distinct-range}
 use Rattle.mesh_laws.proofs.Rows.{filter_flat}
 use Rattle.plane_laws.specs.Lines.{start_of}

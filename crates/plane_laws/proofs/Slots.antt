@@ -7,8 +7,8 @@ use Rattle.iso_defs.specs.Lists.{below, begins, ends, is_in}
 use Rattle.iso_defs.specs.Grid.{Grid, name_bound}
 use Rattle.iso_defs.specs.Contours.{squares, plane_pairs, lines_of_least, contours}
 use Rattle.iso_defs.proofs.Ranges.{range_append}
-use Rattle.verdict_laws.proofs.Lists.{In}
-use Rattle.verdict_laws.proofs.FanWalk.{next_in, ends_in}
+use Rattle.triangle_laws.proofs.Lists.{In}
+use Rattle.triangle_laws.proofs.FanWalk.{next_in, ends_in}
 use Rattle.mesh_laws.proofs.Cells.{range_at_least}
 use Rattle.mesh_laws.proofs.Neighbours.{by_four}
 use Rattle.plane_laws.specs.Sides.{slot_name}

@@ -10,9 +10,9 @@ use Rattle.iso_defs.specs.Contours.{squares, square_edges, square_pairs, plane_p
 use Rattle.iso_defs.proofs.Points.{x_index, y_index, z_index, index_in, index_of_point}
 use Rattle.case_laws.proofs.Cases.{all_lists, all_below, same}
 use Rattle.case_laws.proofs.Tests.{all_lists_at, all_below_at}
-use Rattle.verdict_laws.proofs.Lists.{In, In-map, in_map, In-flat_map, in_flat_map, In-filter, in_filter, list_all_at, any_in}
-use Rattle.verdict_laws.proofs.Counts.{count_once, count_finds, count_agree, count-map}
-use Rattle.verdict_laws.proofs.FanWalk.{IsSingle}
+use Rattle.triangle_laws.proofs.Lists.{In, In-map, in_map, In-flat_map, in_flat_map, In-filter, in_filter, list_all_at, any_in}
+use Rattle.triangle_laws.proofs.Counts.{count_once, count_finds, count_agree, count-map}
+use Rattle.triangle_laws.proofs.FanWalk.{IsSingle}
 use Rattle.mesh_laws.proofs.Cells.{Distinct-range, Distinct-filter}
 use Rattle.mesh_laws.proofs.Neighbours.{by_four}
 use Rattle.mesh_laws.proofs.TwoCells.{same-true}

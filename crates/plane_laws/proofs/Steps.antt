@@ -3,9 +3,9 @@ use Rattle.std.proofs.Common.{◌≡◌, ℕ, false, List, [], ◌∷◌, length
 use Rattle.iso_defs.specs.Lists.{begins}
 use Rattle.iso_defs.specs.Cell.{next_of}
 use Rattle.iso_defs.specs.Contours.{trace}
-use Rattle.verdict_laws.proofs.Lists.{In}
-use Rattle.verdict_laws.proofs.Counts.{Distinct}
-use Rattle.verdict_laws.proofs.FanWalk.{IsSingle, next_is, begins_from}
+use Rattle.triangle_laws.proofs.Lists.{In}
+use Rattle.triangle_laws.proofs.Counts.{Distinct}
+use Rattle.triangle_laws.proofs.FanWalk.{IsSingle, next_is, begins_from}
 use Rattle.plane_laws.proofs.Walks.{Reached, Told, told, fresh, trace_on, trace_end, trace_back}
 
 -- on the way from the start

@@ -4,9 +4,9 @@ use Rattle.std.proofs.lemmas.Bool.{cases_Bool, cases_eq, eq-eqb, ne_eqb}
 use Rattle.iso_defs.specs.Lists.{begins}
 use Rattle.iso_defs.specs.Cell.{next_of}
 use Rattle.iso_defs.specs.Contours.{trace}
-use Rattle.verdict_laws.proofs.Lists.{In, in_map}
-use Rattle.verdict_laws.proofs.Counts.{Distinct}
-use Rattle.verdict_laws.proofs.FanWalk.{IsSingle, no_longer, one_element, next_in}
+use Rattle.triangle_laws.proofs.Lists.{In, in_map}
+use Rattle.triangle_laws.proofs.Counts.{Distinct}
+use Rattle.triangle_laws.proofs.FanWalk.{IsSingle, no_longer, one_element, next_in}
 
 -- e is reached from the start through the list, which is told from its end
 abbrev pub Reached : List (ℕ × ℕ) → ℕ → List ℕ → ℕ → Type 0

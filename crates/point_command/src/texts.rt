@@ -13,9 +13,9 @@ ghost use Rattle.point_command.specs.Edges.{edge_points, lines_in, row_line, row
 ghost use Rattle.point_command.specs.Rows.{AreTextsOf};
 
 use byte_streams::{Failed, Sink};
-use crossing_edges::{EdgeRows, RowEdges, SliceSigns};
+use crossing_edges::{EdgeBuffers, EdgeRows, SliceSigns};
 use iso_base::{LONGEST_ROW, Memory, MeshFormat, Sizes};
-use mesh_lines::{Block, Origin, RowTexts, Style};
+use mesh_lines::{LineBuffer, Origin, RowTexts, Style};
 use mesh_text::points_head_text;
 use samples::Samples;
 use std::alloc::Global;
@@ -43,7 +43,7 @@ fn write_edge<K: Sink>(
     texts: &RowTexts,
     edge: u16,
     place: u16,
-    block: &mut Block,
+    block: &mut LineBuffer,
     sink: &mut K,
 ) -> Result<(), Failed>
     requires edge { edge < 3 * texts.now.count }
@@ -61,7 +61,7 @@ fn write_edges<K: Sink>(
     texts: &RowTexts,
     edges: &[u16],
     places: &[u16],
-    block: &mut Block,
+    block: &mut LineBuffer,
     sink: &mut K,
 ) -> Result<(), Failed>
     requires edges { All (λ e. e < 3 * texts.now.count) edges.now }
@@ -79,7 +79,7 @@ fn write_edges<K: Sink>(
 /// What the lines of a row are made of: its crossing edges, and what the lines have in common.
 #[derive(Drop)]
 struct PointRow {
-    edges: RowEdges,
+    edges: EdgeBuffers,
     texts: RowTexts,
 }
 
@@ -90,7 +90,7 @@ impl PointRow {
         rows: &EdgeRows<'_, S>,
         row: u32,
         flags: &[u8],
-        block: &mut Block,
+        block: &mut LineBuffer,
         sink: &mut K,
     ) -> Result<(), Failed>
         requires texts { AreTextsOf rows.now.grid self.old.texts }
@@ -118,7 +118,7 @@ fn write_rows<S: Samples, K: Sink>(
     rows: &EdgeRows<'_, S>,
     signs: &mut SliceSigns,
     flags: &mut [u8],
-    block: &mut Block,
+    block: &mut LineBuffer,
     sink: &mut K,
 ) -> Result<(), Failed>
     requires signs { HaveSlices rows.now.grid signs.old }
@@ -128,12 +128,12 @@ fn write_rows<S: Samples, K: Sink>(
 {
     let sizes = rows.sizes();
     let mut row = PointRow {
-        edges: RowEdges::new(),
+        edges: EdgeBuffers::new(),
         texts: RowTexts::new(STYLE, sizes.nx(), block),
     };
     signs.begin(rows);
     for number in 0..sizes.ny() * sizes.nz() {
-        signs.put_flags(rows, number, flags);
+        signs.fill_flags(rows, number, flags);
         row.write(rows, number, flags, block, sink)?;
     }
     Ok(())
@@ -151,7 +151,7 @@ fn write_points<S: Samples, K: Sink>(
 {
     let mut room = [0; LONGEST_ROW];
     let flags = &mut room[..rows.sizes().nx() as usize];
-    let mut block = Block::new();
+    let mut block = LineBuffer::new();
     block.push(
         points_head_text(rows.count(signs, flags))
             .as_str()

@@ -14,7 +14,7 @@ use Rattle.text_lines.proofs.Places.{decide}
 abbrev pub IsBytes : List ℕ → Type 0
 IsBytes bytes = (i : ℕ) → get_or bytes i 0 < 256
 
-number_fits : (big : Bool) (width : ℕ) (bytes : List ℕ) → IsBytes bytes → number_in big width bytes < 256 ^ width
+number_fits : (big_endian : Bool) (width : ℕ) (bytes : List ℕ) → IsBytes bytes → number_in big_endian width bytes < 256 ^ width
 number_fits true width bytes fits = big_from-lt 0 width bytes fits
 number_fits false width bytes fits = little_from-lt 0 width bytes fits
 
@@ -29,12 +29,12 @@ in_kind I8 n lt = decide (ltb n (2 ^ 7)) (λ t. let h = ltb-true n (2 ^ 7) t in 
 in_kind I16 n lt = decide (ltb n (2 ^ 15)) (λ t. let h = ltb-true n (2 ^ 15) t in rw t (record { low = omega (arith, ints); high = omega (arith, ints) })) (λ f. let h = ltb-false n (2 ^ 15) f in rw f (record { low = omega (arith, ints); high = omega (arith, ints) }))
 in_kind I32 n lt = decide (ltb n (2 ^ 31)) (λ t. let h = ltb-true n (2 ^ 31) t in rw t (record { low = omega (arith, ints); high = omega (arith, ints) })) (λ f. let h = ltb-false n (2 ^ 31) f in rw f (record { low = omega (arith, ints); high = omega (arith, ints) }))
 
-pub each_in_kind : (kind : SampleKind) (big : Bool) (bytes : List ℕ) (count : ℕ) (samples : List ℤ) → IsBytes bytes → samples ≡ samples_in kind big bytes count → All (IsOfKind kind) samples
-each_in_kind kind big bytes count samples fits e k d lt =
-    let f = λ (i : ℕ). sample_of kind big bytes i in
+pub each_in_kind : (kind : SampleKind) (big_endian : Bool) (bytes : List ℕ) (count : ℕ) (samples : List ℤ) → IsBytes bytes → samples ≡ samples_in kind big_endian bytes count → All (IsOfKind kind) samples
+each_in_kind kind big_endian bytes count samples fits e k d lt =
+    let f = λ (i : ℕ). sample_of kind big_endian bytes i in
     let n : length samples ≡ count = ap length e ∙ length-map-range_with_len f 0 count in
     let at : get_or samples k d ≡ f k = ap (λ (l : List ℤ). get_or l k d) e ∙ get_or-map-range_with_len f 0 count k k d (omega arith) (omega arith) in
-    rw at (in_kind kind (number_in big (width_of kind) (drop (width_of kind * k) bytes)) (number_fits big (width_of kind) (drop (width_of kind * k) bytes) (dropped (width_of kind * k) bytes fits)))
+    rw at (in_kind kind (number_in big_endian (width_of kind) (drop (width_of kind * k) bytes)) (number_fits big_endian (width_of kind) (drop (width_of kind * k) bytes) (dropped (width_of kind * k) bytes fits)))
 
-pub length_samples : (kind : SampleKind) (big : Bool) (bytes : List ℕ) (count : ℕ) → length (samples_in kind big bytes count) ≡ count
-length_samples kind big bytes count = length-map-range_with_len (λ (i : ℕ). sample_of kind big bytes i) 0 count
+pub length_samples : (kind : SampleKind) (big_endian : Bool) (bytes : List ℕ) (count : ℕ) → length (samples_in kind big_endian bytes count) ≡ count
+length_samples kind big_endian bytes count = length-map-range_with_len (λ (i : ℕ). sample_of kind big_endian bytes i) 0 count

@@ -5,20 +5,20 @@ ghost use Rattle.iso_base.specs.Samples.{width_of};
 ghost use Rattle.iso_base.specs.SampleBytes.{sample_of, samples_in};
 ghost use Rattle.samples.specs.Signs.{IsBound, sign_of};
 
-use crate::lies::Lies;
+use crate::sample_format::SampleFormat;
 use iso_base::{Level, Point, Sizes, index};
 use samples::{Packed, Samples, convert, copy_all, sign};
 use std::marker::{Model, PhantomData};
 
 /// Samples of one kind and byte order, in bytes: each is read when it is asked for.
 #[derive(Drop)]
-pub struct InBytes<'a, K: Lies> {
+pub struct InBytes<'a, K: SampleFormat> {
     bytes: &'a [u8],
     count: u32,
     lies: PhantomData<K>,
 }
 
-impl<'a, K: Lies> Model for InBytes<'a, K> {
+impl<'a, K: SampleFormat> Model for InBytes<'a, K> {
     ghost use Rattle.std.specs.Prelude.{List, ℤ};
     ghost use Rattle.iso_base.specs.Samples.{width_of};
     ghost use Rattle.iso_base.specs.SampleBytes.{samples_in};
@@ -26,16 +26,16 @@ impl<'a, K: Lies> Model for InBytes<'a, K> {
 
     ghost Value = { List ℤ };
 
-    ghost view = { λ r. samples_in K.kind K.big r.bytes.now r.count };
+    ghost view = { λ r. samples_in K.kind K.big_endian r.bytes.now r.count };
 
     ghost invariant = { λ r. BeginWith (width_of K.kind) r.count r.bytes.now };
 }
 
-impl<'a, K: Lies> InBytes<'a, K> {
+impl<'a, K: SampleFormat> InBytes<'a, K> {
     /// So many samples, with which the bytes begin.
     pub(crate) fn new(bytes: &'a [u8], count: u32) -> InBytes<'a, K>
         requires { width_of K.kind * count ≤ length bytes.now }
-        ensures { result ≡ samples_in K.kind K.big bytes.now count }
+        ensures { result ≡ samples_in K.kind K.big_endian bytes.now count }
     {
         InBytes {
             bytes,
@@ -47,12 +47,12 @@ impl<'a, K: Lies> InBytes<'a, K> {
 
 /// Reads samples from an index on over the numbers of a list, as many as it has.
 #[inline(always)]
-fn read_each<K: Lies, T: Packed>(bytes: &[u8], start: usize, into: &mut [T])
+fn read_each<K: SampleFormat, T: Packed>(bytes: &[u8], start: usize, into: &mut [T])
     requires room { width_of K.kind * (start + length into.old) ≤ length bytes.now }
     requires few { start + length into.old < 2 ^ 32 }
-    requires fits { All T.Fits (map (λ k. sample_of K.kind K.big bytes.now (start + k))
+    requires fits { All T.Fits (map (λ k. sample_of K.kind K.big_endian bytes.now (start + k))
         (range_with_len 0 (length into.old))) }
-    ensures { map T.value into.new ≡ map (λ k. sample_of K.kind K.big bytes.now (start + k))
+    ensures { map T.value into.new ≡ map (λ k. sample_of K.kind K.big_endian bytes.now (start + k))
         (range_with_len 0 (length into.old)) }
 {
     for k in 0..into.len() {
@@ -63,13 +63,17 @@ fn read_each<K: Lies, T: Packed>(bytes: &[u8], start: usize, into: &mut [T])
 /// Reads as many samples from an index on as are known before the program runs. They are all read before the first is written,
 /// from where the first lies, so that this takes no loop and no test whether the two lots overlap.
 #[inline(always)]
-fn read_known<const N: usize, K: Lies, T: Packed>(bytes: &[u8], start: usize, into: &mut [T])
+fn read_known<const N: usize, K: SampleFormat, T: Packed>(
+    bytes: &[u8],
+    start: usize,
+    into: &mut [T],
+)
     requires known { length into.old ≡ N }
     requires room { width_of K.kind * (start + length into.old) ≤ length bytes.now }
     requires few { start + length into.old < 2 ^ 32 }
-    requires fits { All T.Fits (map (λ k. sample_of K.kind K.big bytes.now (start + k))
+    requires fits { All T.Fits (map (λ k. sample_of K.kind K.big_endian bytes.now (start + k))
         (range_with_len 0 (length into.old))) }
-    ensures { map T.value into.new ≡ map (λ k. sample_of K.kind K.big bytes.now (start + k))
+    ensures { map T.value into.new ≡ map (λ k. sample_of K.kind K.big_endian bytes.now (start + k))
         (range_with_len 0 (length into.old)) }
 {
     let (_, run) = bytes.split_at(K::width() * start);
@@ -83,12 +87,12 @@ fn read_known<const N: usize, K: Lies, T: Packed>(bytes: &[u8], start: usize, in
 /// Reads samples from an index on over the numbers of a list, as many as it has: nine, as a whole row of a brick has, and eight,
 /// as a row at the end of a grid often has, without a loop.
 #[inline(always)]
-fn read_run<K: Lies, T: Packed>(bytes: &[u8], start: usize, into: &mut [T])
+fn read_run<K: SampleFormat, T: Packed>(bytes: &[u8], start: usize, into: &mut [T])
     requires room { width_of K.kind * (start + length into.old) ≤ length bytes.now }
     requires few { start + length into.old < 2 ^ 32 }
-    requires fits { All T.Fits (map (λ k. sample_of K.kind K.big bytes.now (start + k))
+    requires fits { All T.Fits (map (λ k. sample_of K.kind K.big_endian bytes.now (start + k))
         (range_with_len 0 (length into.old))) }
-    ensures { map T.value into.new ≡ map (λ k. sample_of K.kind K.big bytes.now (start + k))
+    ensures { map T.value into.new ≡ map (λ k. sample_of K.kind K.big_endian bytes.now (start + k))
         (range_with_len 0 (length into.old)) }
 {
     match into.len() {
@@ -101,11 +105,16 @@ fn read_run<K: Lies, T: Packed>(bytes: &[u8], start: usize, into: &mut [T])
 /// Writes 1 for each sample from an index on that is at least a bound, and 0 for each other, as many as there is room for; where
 /// there is no bound, 0 throughout.
 #[inline(always)]
-fn put_by_bound<K: Lies>(bytes: &[u8], start: usize, bound: Option<K::Number>, into: &mut [u8])
+fn fill_by_bound<K: SampleFormat>(
+    bytes: &[u8],
+    start: usize,
+    bound: Option<K::Number>,
+    into: &mut [u8],
+)
     requires room { width_of K.kind * (start + length into.old) ≤ length bytes.now }
     requires few { start + length into.old < 2 ^ 32 }
     ensures { (least : ℤ) → IsBound K.Number.Fits K.Number.value least bound
-        → into.new ≡ map (λ k. cond (int_le least (sample_of K.kind K.big bytes.now (start + k))) 1 0)
+        → into.new ≡ map (λ k. cond (int_le least (sample_of K.kind K.big_endian bytes.now (start + k))) 1 0)
         (range_with_len 0 (length into.old)) }
 {
     for k in 0..into.len() {
@@ -114,21 +123,21 @@ fn put_by_bound<K: Lies>(bytes: &[u8], start: usize, bound: Option<K::Number>, i
 }
 
 /// Writes the signs of samples from an index on, as many as there is room for.
-fn put_run_signs<K: Lies>(bytes: &[u8], start: usize, level: Level, into: &mut [u8])
+fn fill_run_signs<K: SampleFormat>(bytes: &[u8], start: usize, level: Level, into: &mut [u8])
     requires room { width_of K.kind * (start + length into.old) ≤ length bytes.now }
     requires few { start + length into.old < 2 ^ 32 }
-    ensures { into.new ≡ map (λ k. sign_of level (sample_of K.kind K.big bytes.now (start + k)))
+    ensures { into.new ≡ map (λ k. sign_of level (sample_of K.kind K.big_endian bytes.now (start + k)))
         (range_with_len 0 (length into.old)) }
 {
     let bound = K::Number::at_least(level.least_above());
     // Each case has its own loop, so that none asks of each number again whether there is a bound.
     match bound {
-        Some(bound) => put_by_bound::<K>(bytes, start, Some(bound), into),
-        None => put_by_bound::<K>(bytes, start, None, into),
+        Some(bound) => fill_by_bound::<K>(bytes, start, Some(bound), into),
+        None => fill_by_bound::<K>(bytes, start, None, into),
     }
 }
 
-impl<'a, K: Lies> Samples for InBytes<'a, K> {
+impl<'a, K: SampleFormat> Samples for InBytes<'a, K> {
     ghost list = { λ r. r };
 
     #[inline(always)]
@@ -146,7 +155,7 @@ impl<'a, K: Lies> Samples for InBytes<'a, K> {
         read_run::<K, T>(self.bytes, index(sizes, point) as usize, into);
     }
 
-    fn put_signs(&self, start: u32, level: Level, into: &mut [u8]) {
-        put_run_signs::<K>(self.bytes, start as usize, level, into);
+    fn fill_signs(&self, start: u32, level: Level, into: &mut [u8]) {
+        fill_run_signs::<K>(self.bytes, start as usize, level, into);
     }
 }

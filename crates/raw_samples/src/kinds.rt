@@ -2,7 +2,7 @@
 ghost use Rattle.std.specs.Prelude.{◌≡◌};
 
 use crate::in_bytes::InBytes;
-use crate::lies::{
+use crate::sample_format::{
     Signed8, Signed16Big, Signed16Little, Signed32Big, Signed32Little, Unsigned8, Unsigned16Big,
     Unsigned16Little, Unsigned32Big, Unsigned32Little,
 };

@@ -5,12 +5,12 @@
 
 mod in_bytes;
 mod kinds;
-mod lies;
 mod raw;
 mod read;
+mod sample_format;
 
 pub use in_bytes::InBytes;
 pub use kinds::RawSamples;
-pub use lies::Lies;
 pub use raw::RawVolume;
 pub use read::ReadVolume;
+pub use sample_format::SampleFormat;

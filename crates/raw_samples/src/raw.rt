@@ -21,7 +21,7 @@ use std::marker::Model;
 pub struct RawVolume<'a> {
     sizes: Sizes,
     kind: SampleKind,
-    big: bool,
+    big_endian: bool,
     bytes: &'a [u8],
 }
 
@@ -31,9 +31,9 @@ impl<'a> Model for RawVolume<'a> {
 
     ghost Value = { Voxels };
 
-    ghost view = { λ v. voxels_in v.sizes v.kind v.big v.bytes.now };
+    ghost view = { λ v. voxels_in v.sizes v.kind v.big_endian v.bytes.now };
 
-    ghost invariant = { λ v. IsRaw v.sizes v.kind v.big v.bytes.now };
+    ghost invariant = { λ v. IsRaw v.sizes v.kind v.big_endian v.bytes.now };
 }
 
 /// Each of so many samples from an index on.
@@ -66,16 +66,16 @@ fn part_of<S: Samples>(
 
 impl<'a> RawVolume<'a> {
     /// The volume whose samples these bytes begin with: of this kind, with the high byte of each first or last.
-    pub fn new(sizes: Sizes, kind: SampleKind, big: bool, bytes: &'a [u8]) -> RawVolume<'a>
+    pub fn new(sizes: Sizes, kind: SampleKind, big_endian: bool, bytes: &'a [u8]) -> RawVolume<'a>
         requires { width_of kind * point_count sizes ≤ length bytes.now }
-        ensures { result ≡ voxels_in sizes kind big bytes.now }
+        ensures { result ≡ voxels_in sizes kind big_endian bytes.now }
     {
         // Reading a size brings in that the sizes are those of a grid.
         let _ = sizes.nx();
         RawVolume {
             sizes,
             kind,
-            big,
+            big_endian,
             bytes,
         }
     }
@@ -100,7 +100,7 @@ impl<'a> RawVolume<'a> {
         ensures { raw_list result ≡ self.now.samples }
     {
         let (bytes, count) = (self.bytes, self.sizes.count());
-        match (self.kind, self.big) {
+        match (self.kind, self.big_endian) {
             (SampleKind::U8, _) => RawSamples::Unsigned8(InBytes::new(bytes, count)),
             (SampleKind::I8, _) => RawSamples::Signed8(InBytes::new(bytes, count)),
             (SampleKind::U16, false) => RawSamples::Unsigned16Little(InBytes::new(bytes, count)),

@@ -1,6 +1,6 @@
 //! Tests of command-line arguments.
 
-use command_words::{Request, read_words};
+use arguments::{Request, read_words};
 use iso_base::Level;
 use mesh_text::TwoWayFormat;
 use std::alloc::{AllocError, Global};

@@ -10,7 +10,7 @@ use iso_base::LONGEST_ROW;
 use std::simd::prelude::*;
 
 /// The cells that are tested at once.
-const GROUP: usize = 32;
+const GROUP_CELLS: usize = 32;
 
 /// Room for the cases of the longest row of cells in whole groups.
 pub const CASES: usize = 1056;
@@ -40,7 +40,7 @@ fn group_bits(cases: &[u16], from: usize, count: usize) -> u64
 
 /// Lists those of the first cells of a group behind others, bit after bit that is set, so that no branch rests on a cell.
 #[inline(always)]
-fn put_group(
+fn fill_group(
     cases: &[u16; CASES],
     from: usize,
     count: usize,
@@ -72,10 +72,10 @@ pub fn list_active(cases: &[u16; CASES], count: usize, cells: &mut [u16; LONGEST
     ensures count { result ≡ length (active_among cases.now 0 count) }
 {
     let mut at = 0;
-    for group in 0..count.div_ceil(GROUP) {
-        let from = GROUP * group;
-        let some = GROUP.min(count - from);
-        at = put_group(cases, from, some, cells, at);
+    for group in 0..count.div_ceil(GROUP_CELLS) {
+        let from = GROUP_CELLS * group;
+        let some = GROUP_CELLS.min(count - from);
+        at = fill_group(cases, from, some, cells, at);
     }
     at
 }

@@ -10,12 +10,12 @@ use iso_base::ROW_EDGES;
 use std::simd::prelude::*;
 
 /// The points that are passed over at once where no crossing edge begins.
-const BLOCK: usize = 32;
+const BLOCK_POINTS: usize = 32;
 
 /// Writes the offset of an edge, and says where the next one's goes: behind it, or over it where the edge is not crossing.
 /// So there is no branch whose way a processor would have to guess.
 #[inline(always)]
-fn put_edge(edge: u16, crossing: bool, edges: &mut [u16; ROW_EDGES], at: usize) -> usize
+fn set_edge(edge: u16, crossing: bool, edges: &mut [u16; ROW_EDGES], at: usize) -> usize
     requires { at < 3078 }
     ensures put { take result edges.new ≡ take at edges.old ++ cond crossing (edge ∷ []) [] }
     ensures end { result ≤ at + 1 }
@@ -26,20 +26,20 @@ fn put_edge(edge: u16, crossing: bool, edges: &mut [u16; ROW_EDGES], at: usize) 
 
 /// Writes the offsets of the crossing edges that begin at a point.
 #[inline(always)]
-fn put_point(flags: u8, x: u16, edges: &mut [u16; ROW_EDGES], at: usize) -> usize
+fn fill_point(flags: u8, x: u16, edges: &mut [u16; ROW_EDGES], at: usize) -> usize
     requires x { x < 1026 }
     requires room { at + 3 ≤ 3078 }
     ensures put { take result edges.new ≡ take at edges.old ++ edges_at flags x }
     ensures end { result ≤ at + 3 }
 {
-    let first = put_edge(3 * x, flags % 2 == 1, edges, at);
-    let second = put_edge(3 * x + 1, flags / 2 % 2 == 1, edges, first);
-    put_edge(3 * x + 2, flags / 4 == 1, edges, second)
+    let first = set_edge(3 * x, flags % 2 == 1, edges, at);
+    let second = set_edge(3 * x + 1, flags / 2 % 2 == 1, edges, first);
+    set_edge(3 * x + 2, flags / 4 == 1, edges, second)
 }
 
 /// Writes those of the points from a place to before an end.
 #[inline(always)]
-fn put_points(
+fn fill_points(
     flags: &[u8],
     from: usize,
     end: usize,
@@ -55,7 +55,7 @@ fn put_points(
 {
     let mut at = at;
     for x in from..end {
-        at = put_point(flags[x], x as u16, edges, at);
+        at = fill_point(flags[x], x as u16, edges, at);
     }
     at
 }
@@ -145,7 +145,7 @@ fn moved_on(offsets: &[u16; 8], by: u16, from: u16) -> [u16; 8]
 
 /// Writes eight numbers at once.
 #[inline(always)]
-fn put_numbers(numbers: &[u16; 8], edges: &mut [u16; ROW_EDGES], at: usize)
+fn fill_numbers(numbers: &[u16; 8], edges: &mut [u16; ROW_EDGES], at: usize)
     requires { at + 8 ≤ 3078 }
     ensures { take (at + 8) edges.new ≡ take at edges.old ++ numbers.now }
 {
@@ -166,7 +166,7 @@ fn pair_at(flags: &[u8], x: usize) -> usize
 /// Writes the offsets of the crossing edges that begin at a point and the next one: eight numbers at once, of which so many
 /// stay as there are. So there is no branch whose way a processor would have to guess.
 #[inline(always)]
-fn put_pair(flags: &[u8], from: usize, k: usize, edges: &mut [u16; ROW_EDGES], at: usize) -> usize
+fn fill_pair(flags: &[u8], from: usize, k: usize, edges: &mut [u16; ROW_EDGES], at: usize) -> usize
     requires flags { All (λ f. f < 8) flags.now }
     requires pair { from + k + 2 ≤ length flags.now }
     requires low { from + k ≤ 1023 }
@@ -176,7 +176,7 @@ fn put_pair(flags: &[u8], from: usize, k: usize, edges: &mut [u16; ROW_EDGES], a
 {
     let pair = pair_at(flags, from + k);
     let offsets = moved_on(&PAIRS[pair], 3 * k as u16, 3 * from as u16);
-    put_numbers(&offsets, edges, at);
+    fill_numbers(&offsets, edges, at);
     at + usize::from(COUNTS[pair])
 }
 
@@ -196,7 +196,7 @@ fn eight_at(flags: &[u8], from: usize) -> u64
 
 /// Writes those of eight points, by the number of the eight, two points at a time: at once where there are none.
 #[inline(always)]
-fn put_eight(flags: &[u8], eight: usize, edges: &mut [u16; ROW_EDGES], at: usize) -> usize
+fn fill_eight(flags: &[u8], eight: usize, edges: &mut [u16; ROW_EDGES], at: usize) -> usize
     requires flags { All (λ f. f < 8) flags.now }
     requires eight { 8 * eight + 8 ≤ length flags.now }
     requires few { length flags.now ≤ 1026 }
@@ -208,10 +208,10 @@ fn put_eight(flags: &[u8], eight: usize, edges: &mut [u16; ROW_EDGES], at: usize
     if eight_at(flags, from) == 0 {
         return at;
     }
-    let at = put_pair(flags, from, 0, edges, at);
-    let at = put_pair(flags, from, 2, edges, at);
-    let at = put_pair(flags, from, 4, edges, at);
-    put_pair(flags, from, 6, edges, at)
+    let at = fill_pair(flags, from, 0, edges, at);
+    let at = fill_pair(flags, from, 2, edges, at);
+    let at = fill_pair(flags, from, 4, edges, at);
+    fill_pair(flags, from, 6, edges, at)
 }
 
 /// Whether no crossing edge begins at the points of a block. This saves work and no list rests on it: the contract leaves
@@ -227,7 +227,7 @@ fn is_still(flags: &[u8], from: usize) -> bool
 
 /// Writes those of the points from one number of eight points to before another.
 #[inline(always)]
-fn put_eights(
+fn fill_eights(
     flags: &[u8],
     from: usize,
     end: usize,
@@ -244,14 +244,14 @@ fn put_eights(
 {
     let mut at = at;
     for eight in from..end {
-        at = put_eight(flags, eight, edges, at);
+        at = fill_eight(flags, eight, edges, at);
     }
     at
 }
 
 /// Writes those of the points of a block, by its number: at once where there are none.
 #[inline(always)]
-fn put_block(flags: &[u8], block: usize, edges: &mut [u16; ROW_EDGES], at: usize) -> usize
+fn fill_block(flags: &[u8], block: usize, edges: &mut [u16; ROW_EDGES], at: usize) -> usize
     requires flags { All (λ f. f < 8) flags.now }
     requires block { 32 * block + 32 ≤ length flags.now }
     requires few { length flags.now ≤ 1026 }
@@ -259,10 +259,10 @@ fn put_block(flags: &[u8], block: usize, edges: &mut [u16; ROW_EDGES], at: usize
     ensures put { take result edges.new ≡ take at edges.old ++ edges_among flags.now (32 * block) 32 }
     ensures end { result ≤ 3 * (32 * block + 32) }
 {
-    if is_still(flags, BLOCK * block) {
+    if is_still(flags, BLOCK_POINTS * block) {
         return at;
     }
-    put_eights(flags, 4 * block, 4 * block + 4, edges, at)
+    fill_eights(flags, 4 * block, 4 * block + 4, edges, at)
 }
 
 /// Writes the offsets of the crossing edges that begin at the points of a row, by their flags, and says how many there are. An
@@ -273,12 +273,12 @@ pub fn list_edges(flags: &[u8], edges: &mut [u16; ROW_EDGES]) -> usize
     ensures put { take result edges.new ≡ edges_among flags.now 0 (length flags.now) }
     ensures count { result ≤ 3 * length flags.now }
 {
-    let blocks = flags.len() / BLOCK;
+    let blocks = flags.len() / BLOCK_POINTS;
     let mut at = 0;
     for block in 0..blocks {
-        at = put_block(flags, block, edges, at);
+        at = fill_block(flags, block, edges, at);
     }
     let eights = flags.len() / 8;
-    let at = put_eights(flags, 4 * blocks, eights, edges, at);
-    put_points(flags, 8 * eights, flags.len(), edges, at)
+    let at = fill_eights(flags, 4 * blocks, eights, edges, at);
+    fill_points(flags, 8 * eights, flags.len(), edges, at)
 }

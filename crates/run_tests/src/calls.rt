@@ -96,13 +96,13 @@ fn sink_of(alloc: Global, room: u32, piece: u32, failing: &[u64]) -> Result<MemS
 }
 
 /// The most bytes of a file on the shelf of a test.
-const ROOM: u32 = 2_200_000;
+const FILE_BYTES: u32 = 2_200_000;
 
 /// A shelf with the volume as the file `v`.
 fn shelf_of(alloc: Global, call: &Call<'_>) -> Result<MemShelf, Fail> {
     let failing = Vec::from_slice(alloc, call.shelf_failing)?;
-    let mut shelf = MemShelf::cutting(alloc, 5, ROOM, call.cut, failing)?;
-    if call.volume.len() <= ROOM as usize {
+    let mut shelf = MemShelf::cutting(alloc, 5, FILE_BYTES, call.cut, failing)?;
+    if call.volume.len() <= FILE_BYTES as usize {
         shelf.put("v", call.volume);
     }
     Ok(shelf)

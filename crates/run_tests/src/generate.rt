@@ -25,13 +25,13 @@ const REPLIES: &[u8] =
     b"ok vertices 89272 faces 175766 bytes 5271032\nok vertices 144645 faces 284436 bytes 8761578\nok vertices 109001 faces 214680 bytes 6493150\nok vertices 124491 faces 244665 bytes 7468923\nok vertices 86622 faces 169680 bytes 5087901\nok vertices 130068 faces 255633 bytes 7826118\nok vertices 142008 faces 279300 bytes 8595026\nok vertices 96938 faces 190154 bytes 5710893\nok vertices 136739 faces 269006 bytes 8259666\nok vertices 137171 faces 269878 bytes 8288072\n";
 
 /// The bytes of the longest of these meshes, and of the last.
-const LONGEST: u32 = 8_761_578;
+const LONGEST_BYTES: u32 = 8_761_578;
 
 const LAST: usize = 8_288_072;
 
 /// What the script of seed 7 leaves.
 fn soak(alloc: Global) -> Result<Outcome, Fail> {
-    let shelf = MemShelf::new(alloc, 1, LONGEST, Vec::new(alloc))?;
+    let shelf = MemShelf::new(alloc, 1, LONGEST_BYTES, Vec::new(alloc))?;
     let mut input = MemSource::new(Vec::new(alloc), 1, Vec::new(alloc));
     outcome_on(alloc, &call_of(&["soak", "7"], b""), &mut input, shelf)
 }

@@ -9,4 +9,4 @@ mod signs;
 pub use list::{Numbers, convert, copy_all};
 pub use number::{Packed, sample_at};
 pub use samples::{Samples, all_signs, each_corner};
-pub use signs::{put_signs, sample_sign, sign};
+pub use signs::{fill_signs, sample_sign, sign};

@@ -5,7 +5,7 @@ ghost use Rattle.iso_base.specs.Points.{IsPoint, index_of};
 
 use crate::number::{Packed, sample_at};
 use crate::samples::Samples;
-use crate::signs::put_signs;
+use crate::signs::fill_signs;
 use iso_base::{Level, Point, Sizes, index};
 
 /// Samples in memory, in a width of their own.
@@ -67,8 +67,8 @@ impl<'a, T: Packed> Samples for Numbers<'a, T> {
         copy_part(self.numbers, sizes, point, into);
     }
 
-    fn put_signs(&self, start: u32, level: Level, into: &mut [u8]) {
+    fn fill_signs(&self, start: u32, level: Level, into: &mut [u8]) {
         let start = start as usize;
-        put_signs(&self.numbers[start..start + into.len()], level, into);
+        fill_signs(&self.numbers[start..start + into.len()], level, into);
     }
 }

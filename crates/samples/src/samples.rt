@@ -44,7 +44,7 @@ pub trait Samples {
         ensures { map T.value into.new ≡ take (length into.old) (drop (index_of sizes.now point) (list self.now)) };
 
     /// Writes 1 for each sample above the level, and 0 for each other, from an index on, as many as there is room for.
-    fn put_signs(&self, start: u32, level: Level, into: &mut [u8])
+    fn fill_signs(&self, start: u32, level: Level, into: &mut [u8])
         requires { start + length into.old ≤ length (list self.now) }
         ensures { into.new ≡ map (sign_of level) (take (length into.old) (drop start (list self.now))) };
 }
@@ -86,6 +86,6 @@ pub fn all_signs<S: Samples>(
     ensures { IfOk result (λ v. v.items ≡ map (sign_of level) (S.list samples.now)) }
 {
     let mut signs = vec![in alloc; 0u8; sizes.count() as usize]?;
-    samples.put_signs(0, level, signs.as_mut_slice());
+    samples.fill_signs(0, level, signs.as_mut_slice());
     Ok(signs)
 }

@@ -28,7 +28,7 @@ pub fn sample_sign(sample: i64, level: Level) -> u8
 
 /// Writes 1 for each number that is at least a bound, and 0 for each other; where there is no bound, 0 throughout.
 #[inline(always)]
-fn put_by_bound<T: Packed>(numbers: &[T], bound: Option<T>, into: &mut [u8])
+fn fill_by_bound<T: Packed>(numbers: &[T], bound: Option<T>, into: &mut [u8])
     requires { length numbers.now ≡ length into.old }
     ensures { (least : ℤ) → IsBound T.Fits T.value least bound → into.new
         ≡ map (λ sample. cond (int_le least sample) 1 0) (map T.value numbers.now) }
@@ -40,13 +40,13 @@ fn put_by_bound<T: Packed>(numbers: &[T], bound: Option<T>, into: &mut [u8])
 
 /// Writes 1 for each number above the level, and 0 for each other.
 #[inline(always)]
-pub fn put_signs<T: Packed>(numbers: &[T], level: Level, into: &mut [u8])
+pub fn fill_signs<T: Packed>(numbers: &[T], level: Level, into: &mut [u8])
     requires { length numbers.now ≡ length into.old }
     ensures { into.new ≡ map (sign_of level) (map T.value numbers.now) }
 {
     // Each case has its own loop, so that none asks of each number again whether there is a bound.
     match T::at_least(level.least_above()) {
-        Some(bound) => put_by_bound(numbers, Some(bound), into),
-        None => put_by_bound(numbers, None, into),
+        Some(bound) => fill_by_bound(numbers, Some(bound), into),
+        None => fill_by_bound(numbers, None, into),
     }
 }

@@ -18,8 +18,8 @@ use Rattle.voxel_list.specs.Areas.{Area, area_count, between, is_in_area}
 use Rattle.voxel_list.proofs.Volumes.{set_keeps}
 use Rattle.edit_log.specs.Boxes.{filled}
 use Rattle.brick_store.proofs.Replacing.{length-replaced, sample-replaced}
-use Rattle.inner_volume.specs.Places.{IsInside, place_of, plane_of, point_by, stored_coordinate}
-use Rattle.inner_volume.proofs.Insides.{free, inside_area, inside_is_inner}
+use Rattle.unpadded_volume.specs.Places.{IsInside, place_of, plane_of, point_by, stored_coordinate}
+use Rattle.unpadded_volume.proofs.Insides.{free, inside_area, inside_is_inner}
 use Rattle.bench_core.specs.Machine.{Entry, IsAbovePad, IsState, State, area_by, changed, checked_level, contour_by, contour_step, fill_at, fill_step, is_of_kind, level_by, level_step, pad_fault, redo_by, redo_step, set_at, set_step, undo_by, undo_step, unless_fault, value_fault, with_sample}
 use Rattle.bench_core.specs.Windows.{stays_unless, window_area, window_fault, window_step}
 use Rattle.bench_core.proofs.States.{changed_state, redone_state, undone_state}

@@ -6,7 +6,7 @@ use Rattle.iso_defs.specs.Grid.{Grid, name_bound, cells}
 use Rattle.iso_defs.specs.Cell.{cell_edge, corner_point, edge_corner}
 use Rattle.iso_defs.specs.Outside.{IsSolid}
 use Rattle.iso_defs.specs.Scratch.{crossing_edges, number_of, vertex_names, vertex_name}
-use Rattle.verdict_laws.proofs.Lists.{In}
+use Rattle.triangle_laws.proofs.Lists.{In}
 use Rattle.mesh_laws.proofs.Names.{edge_in, name_of_edge, name_of_centre}
 use Rattle.slab_laws.specs.Slabs.{slices, slice_size, renumbered}
 use Rattle.slab_laws.proofs.Parts.{above, keys, lower_solid, group}

@@ -12,7 +12,7 @@ use Rattle.iso_defs.specs.Cell.{corner_point, edge_corner, cell_edge, cell_value
 use Rattle.iso_defs.specs.Place.{Position, place, mean, edge_coordinate, edge_position, centre_position}
 use Rattle.iso_defs.specs.Scratch.{vertex_name, on_corners, cell_loops, has_centre, centre_name, cell_centres, cell_triangles, crossing_edges, vertices, number_of}
 use Rattle.iso_defs.proofs.Coordinates.{height_moved}
-use Rattle.verdict_laws.proofs.Lists.{In, In-filter, in_filter}
+use Rattle.triangle_laws.proofs.Lists.{In, In-filter, in_filter}
 use Rattle.mesh_laws.proofs.Apart.{by_twelve}
 use Rattle.mesh_laws.proofs.Cells.{range_at_least, range_in}
 use Rattle.mesh_laws.proofs.Names.{corner_in}

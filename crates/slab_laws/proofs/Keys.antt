@@ -10,8 +10,8 @@ use Rattle.iso_defs.specs.Signs.{is_crossing}
 use Rattle.iso_defs.specs.Outside.{IsSolid}
 use Rattle.iso_defs.specs.Place.{Position, edge_position}
 use Rattle.iso_defs.specs.Scratch.{crossing_edges, cell_centres, number_of, cell_loops, has_centre, centre_name}
-use Rattle.verdict_laws.proofs.Lists.{In-filter}
-use Rattle.verdict_laws.proofs.Counts.{count-append, count_agree, count-map}
+use Rattle.triangle_laws.proofs.Lists.{In-filter}
+use Rattle.triangle_laws.proofs.Counts.{count-append, count_agree, count-map}
 use Rattle.mesh_laws.proofs.Cells.{range_at_least}
 use Rattle.mesh_laws.proofs.Rows.{count_all}
 use Rattle.window_laws.proofs.Ascents.{map_agree_in, flat_map_agree_in, map-map, map-flat_map, flat_map-map}

@@ -9,8 +9,8 @@ use Rattle.iso_defs.specs.Outside.{IsSolid}
 use Rattle.iso_defs.specs.Place.{Position, edge_position}
 use Rattle.iso_defs.specs.Scratch.{crossing_edges, cell_centres, number_of, cell_loops, has_centre}
 use Rattle.iso_defs.proofs.Ranges.{range_append}
-use Rattle.verdict_laws.proofs.Lists.{In, In-map, In-flat_map, In-filter}
-use Rattle.verdict_laws.proofs.Counts.{count-append, count_agree, count_none, count-map}
+use Rattle.triangle_laws.proofs.Lists.{In, In-map, In-flat_map, In-filter}
+use Rattle.triangle_laws.proofs.Counts.{count-append, count_agree, count_none, count-map}
 use Rattle.mesh_laws.proofs.Cells.{range_at_least}
 use Rattle.mesh_laws.proofs.Rows.{count_all, count_zero}
 use Rattle.slab_laws.specs.Slabs.{slices, slice_size}

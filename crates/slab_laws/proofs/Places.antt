@@ -12,7 +12,7 @@ use Rattle.iso_defs.specs.Scratch.{cell_loops, has_centre}
 use Rattle.iso_defs.proofs.Means.{mean_moved}
 use Rattle.case_laws.proofs.Tests.{cell_passes}
 use Rattle.case_laws.proofs.Wedges.{centre_test, centre_all}
-use Rattle.verdict_laws.proofs.Lists.{In, In-filter, list_all_at}
+use Rattle.triangle_laws.proofs.Lists.{In, In-filter, list_all_at}
 use Rattle.mesh_laws.proofs.Names.{corner_in}
 use Rattle.mesh_laws.proofs.TwoCells.{corner_below}
 use Rattle.window_laws.proofs.Ascents.{map_agree_in, map-map}

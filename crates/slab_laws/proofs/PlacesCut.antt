@@ -8,7 +8,7 @@ use Rattle.iso_defs.specs.Signs.{is_crossing}
 use Rattle.iso_defs.specs.Outside.{IsSolid}
 use Rattle.iso_defs.specs.Place.{Position, edge_position}
 use Rattle.iso_defs.specs.Scratch.{crossing_edges, vertices, cell_centres, has_centre, cell_loops}
-use Rattle.verdict_laws.proofs.Lists.{In, In-filter}
+use Rattle.triangle_laws.proofs.Lists.{In, In-filter}
 use Rattle.mesh_laws.proofs.Cells.{range_at_least}
 use Rattle.window_laws.proofs.Ascents.{map_agree_in, flat_map_agree_in, map-map, map-append, map-flat_map, flat_map-map}
 use Rattle.slab_laws.specs.Slabs.{slices, slice_size, lifted}

@@ -8,8 +8,8 @@ use Rattle.iso_defs.specs.Outside.{IsSolid}
 use Rattle.iso_defs.specs.Scratch.{crossing_edges, number_of, vertex_names, cell_loops, has_centre}
 use Rattle.case_laws.proofs.Tests.{cell_passes}
 use Rattle.case_laws.proofs.Wedges.{centre_test, centre_all}
-use Rattle.verdict_laws.proofs.Lists.{In, In-filter, in_filter, In-flat_map, In-map, list_all_at}
-use Rattle.verdict_laws.proofs.Counts.{count-append, count_agree, count-map}
+use Rattle.triangle_laws.proofs.Lists.{In, In-filter, in_filter, In-flat_map, In-map, list_all_at}
+use Rattle.triangle_laws.proofs.Counts.{count-append, count_agree, count-map}
 use Rattle.mesh_laws.proofs.Cells.{range_at_least, range_in}
 use Rattle.mesh_laws.proofs.Numbers.{count_less}
 use Rattle.mesh_laws.proofs.Rows.{count_all, count_zero}

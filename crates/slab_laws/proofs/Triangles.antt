@@ -9,7 +9,7 @@ use Rattle.iso_defs.specs.Grid.{Grid, point_count, is_cell, cells}
 use Rattle.iso_defs.specs.Cell.{Triangle, cell_signs, cell_joined, case_triangles, signs_of, joined_of}
 use Rattle.iso_defs.specs.Outside.{IsSolid}
 use Rattle.iso_defs.specs.Scratch.{crossing_edges, number_of, vertex_name, cell_triangles, triangles, on_corners}
-use Rattle.verdict_laws.proofs.Lists.{In, in_filter, in_map, in_flat_map}
+use Rattle.triangle_laws.proofs.Lists.{In, in_filter, in_map, in_flat_map}
 use Rattle.mesh_laws.proofs.Cells.{range_in}
 use Rattle.mesh_laws.proofs.Directed.{LowCorners, low_corners}
 use Rattle.mesh_laws.proofs.Numbers.{Vertices, triangle_vertices}

@@ -17,7 +17,7 @@ use Rattle.brick_store.specs.Copies.{AreCopiesOf}
 use Rattle.brick_store.specs.Holding.{points_along}
 use Rattle.brick_store.proofs.Runs.{run_is}
 use Rattle.brick_store.proofs.Standing.{brick_point_in, row_samples}
-use Rattle.span_tree.specs.Spans.{IsWhole, brick_samples, layer_of, list_span, row_of, span_of}
+use Rattle.span_tree.specs.Spans.{IsWhole, brick_samples, slice_of, list_span, row_of, span_of}
 use Rattle.span_tree.proofs.Active.{IsWide, each_listed, inside, wide}
 use Rattle.span_tree.proofs.ListSpans.{in_all}
 
@@ -96,8 +96,8 @@ module _ (v : Volume) (b : ℕ) (copies : List ℤ) (is : IsVolume v) (low : b <
         ),
       )
 
-  pub layer_samples : (z : ℕ) → z < points_along v.grid b 2 → All IsSample (layer_of v b z)
-  layer_samples z hz =
+  pub slice_samples : (z : ℕ) → z < points_along v.grid b 2 → All IsSample (slice_of v b z)
+  slice_samples z hz =
       each_joined IsSample (row_of v b z) (points_along v.grid b 1) (λ y hy. row_samples v b y z is (inside v (pos 0) b is low 0 y z some hy hz))
 
   -- the copies of whole rows stand one behind the other
@@ -110,35 +110,35 @@ module _ (v : Volume) (b : ℕ) (copies : List ℤ) (is : IsVolume v) (low : b <
         sym (ap₂ (λ n s. take n (drop s copies)) (sym n) (sym at)
         ∙ (row_among start 9 y z (omega arith) (sym nine) hy hz).1.1.0)
 
-    layer_there : (z : ℕ) → z < points_along v.grid b 2 → layer_of v b z ≡ take (9 * points_along v.grid b 1) (drop (81 * z) copies)
-    layer_there z hz = parts_join (row_of v b z) copies (81 * z) 9 (points_along v.grid b 1) (λ y hy. row_there y z hy hz)
+    slice_there : (z : ℕ) → z < points_along v.grid b 2 → slice_of v b z ≡ take (9 * points_along v.grid b 1) (drop (81 * z) copies)
+    slice_there z hz = parts_join (row_of v b z) copies (81 * z) 9 (points_along v.grid b 1) (λ y hy. row_there y z hy hz)
 
     -- those of a slice
-    pub layer_among : (start n z : ℕ) → start ≡ 81 * z → n ≡ 9 * points_along v.grid b 1 → z < points_along v.grid b 2
-        → (0 < n) × ((start + n ≤ length copies) × ((take (start + n - start) (drop start copies) ≡ layer_of v b z) × All IsSample (layer_of v b z)))
-    layer_among start n z at size hz =
+    pub slice_among : (start n z : ℕ) → start ≡ 81 * z → n ≡ 9 * points_along v.grid b 1 → z < points_along v.grid b 2
+        → (0 < n) × ((start + n ≤ length copies) × ((take (start + n - start) (drop start copies) ≡ slice_of v b z) × All IsSample (slice_of v b z)))
+    slice_among start n z at size hz =
         let w : IsWide v.grid b = wide v (pos 0) b is low in (
           omega (arith, size, w.y),
           (
             omega (arith, are.count, at, size, hz),
             (
-              ap₂ (λ m s. take m (drop s copies)) (omega (arith, size)) at ∙ sym (layer_there z hz),
-              layer_samples z hz,
+              ap₂ (λ m s. take m (drop s copies)) (omega (arith, size)) at ∙ sym (slice_there z hz),
+              slice_samples z hz,
             ),
           ),
         )
 
   -- the copies of a brick that lies in the grid are its samples
   module _ (whole : IsWhole v.grid b) where
-    whole_layer : (z : ℕ) → z < 9 → layer_of v b z ≡ take 81 (drop (81 * z) copies)
-    whole_layer z hz =
-        layer_there whole.x z (omega (arith, whole.z))
+    whole_slice : (z : ℕ) → z < 9 → slice_of v b z ≡ take 81 (drop (81 * z) copies)
+    whole_slice z hz =
+        slice_there whole.x z (omega (arith, whole.z))
         ∙ ap (λ n. take (9 * n) (drop (81 * z) copies)) whole.y
 
     pub samples_are : brick_samples v b ≡ copies
     samples_are =
-        ap (λ n. flat_map (layer_of v b) (below n)) whole.z
-        ∙ (parts_join (layer_of v b) copies 0 81 9 (λ z hz. whole_layer z hz ∙ ap (λ s. take 81 (drop s copies)) (omega arith))
+        ap (λ n. flat_map (slice_of v b) (below n)) whole.z
+        ∙ (parts_join (slice_of v b) copies 0 81 9 (λ z hz. whole_slice z hz ∙ ap (λ s. take 81 (drop s copies)) (omega arith))
         ∙ (ap (λ n. take n copies) (sym are.count) ∙ take-length copies))
 
     pub each_is : All IsSample copies

@@ -5,7 +5,7 @@ use Rattle.std.specs.Int.{int_max, int_min}
 use Rattle.std.proofs.lemmas.List.{get_or-map}
 use Rattle.iso_base.specs.Samples.{IsSample}
 use Rattle.iso_base.specs.Volume.{sample}
-use Rattle.verdict_laws.proofs.Lists.{In}
+use Rattle.triangle_laws.proofs.Lists.{In}
 use Rattle.span_tree.proofs.Active.{all_in, fold_keeps}
 use Rattle.span_tree.proofs.OneValue.{greatest_first, least_first}
 use Rattle.span_tree.proofs.SpanLaws.{of_max, of_min}

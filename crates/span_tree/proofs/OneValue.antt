@@ -17,8 +17,8 @@ use Rattle.brick_store.proofs.BrickNumbers.{IsIn, brick_in, is_in}
 use Rattle.iso_defs.specs.Bricks.{brick_count, brick_point, bricks_along, in_brick}
 use Rattle.iso_base.specs.Samples.{IsSample}
 use Rattle.iso_base.specs.Volume.{Volume, IsVolume, sample}
-use Rattle.verdict_laws.proofs.Lists.{In}
-use Rattle.brick_store.specs.Copies.{home}
+use Rattle.triangle_laws.proofs.Lists.{In}
+use Rattle.brick_store.specs.Copies.{first_brick_along}
 use Rattle.brick_store.specs.Holding.{brick_at}
 use Rattle.brick_store.proofs.Standing.{IsHome, home_of, point_in}
 use Rattle.span_tree.specs.Spans.{IsRightFor, Span, Tree, brick_samples, list_span, no_span, one_span, span_at, span_of, spans_of}
@@ -74,7 +74,7 @@ sample_in_span v b value is low one x y z hx hy hz there =
 
 -- the first bricks that hold a point of a box have one value
 abbrev pub HaveOne : Grid → Area → ℤ → (ℕ → Span) → Type 0
-HaveOne g a value span = (x y z : ℕ) → home a.low.x ≤ x → x ≤ home a.high.x → home a.low.y ≤ y → y ≤ home a.high.y → home a.low.z ≤ z → z ≤ home a.high.z
+HaveOne g a value span = (x y z : ℕ) → first_brick_along a.low.x ≤ x → x ≤ first_brick_along a.high.x → first_brick_along a.low.y ≤ y → y ≤ first_brick_along a.high.y → first_brick_along a.low.z ≤ z → z ≤ first_brick_along a.high.z
     → span (brick_at g x y z) ≡ one_span value
 
 -- then all of its samples are that value
@@ -84,18 +84,18 @@ box_of_one v a value spans is box right have p low inside =
     let g : Grid = v.grid in
     let q : Point = point_at g p in
     let first : IsHome g q = home_of g q is.grid (point_in g p is.grid low) in
-    let b : ℕ = brick_at g (home q.x) (home q.y) (home q.z) in
+    let b : ℕ = brick_at g (first_brick_along q.x) (first_brick_along q.y) (first_brick_along q.z) in
     let sx = x_side g a box p low inside in
     let sy = y_side g a box p low inside in
     let sz = z_side g a box p low inside in
     let span : span_at spans b ≡ one_span value
-    = have (home q.x) (home q.y) (home q.z) (on _ _ sx.0) (on _ _ sx.1) (on _ _ sy.0) (on _ _ sy.1) (on _ _ sz.0) (on _ _ sz.1) in
+    = have (first_brick_along q.x) (first_brick_along q.y) (first_brick_along q.z) (on _ _ sx.0) (on _ _ sx.1) (on _ _ sy.0) (on _ _ sy.1) (on _ _ sz.0) (on _ _ sz.1) in
     let own : span_of v b ≡ one_span value
     = sym (ap (λ l. span_at l b) right ∙ get_or-map-range_with_len (span_of v) 0 (brick_count g) b b no_span first.brick (omega arith)) ∙ span in
     ap (sample v.samples) (sym (first.point ∙ index_of_point g p low))
-    ∙ sample_in_span v b value is first.brick own (q.x - 8 * home q.x) (q.y - 8 * home q.y) (q.z - 8 * home q.z) (omega arith) (omega arith) (omega arith) first.inside
+    ∙ sample_in_span v b value is first.brick own (q.x - 8 * first_brick_along q.x) (q.y - 8 * first_brick_along q.y) (q.z - 8 * first_brick_along q.z) (omega arith) (omega arith) (omega arith) first.inside
   where
-    on : (c d : ℕ) → c ≤ d → home c ≤ home d
+    on : (c d : ℕ) → c ≤ d → first_brick_along c ≤ first_brick_along d
     on c d le = omega (arith, le)
 
 -- the same by the nodes of a tree

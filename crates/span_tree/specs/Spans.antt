@@ -52,11 +52,11 @@ straddles level s = not (is_above_level s.least level) && is_above_level s.great
 abbrev pub row_of : Volume → ℕ → ℕ → ℕ → List ℤ
 row_of v brick z y = map (λ x. sample v.samples (brick_point v.grid brick x y z)) (below (points_along v.grid brick 0))
 
-abbrev pub layer_of : Volume → ℕ → ℕ → List ℤ
-layer_of v brick z = flat_map (row_of v brick z) (below (points_along v.grid brick 1))
+abbrev pub slice_of : Volume → ℕ → ℕ → List ℤ
+slice_of v brick z = flat_map (row_of v brick z) (below (points_along v.grid brick 1))
 
 abbrev pub brick_samples : Volume → ℕ → List ℤ
-brick_samples v brick = flat_map (layer_of v brick) (below (points_along v.grid brick 2))
+brick_samples v brick = flat_map (slice_of v brick) (below (points_along v.grid brick 2))
 
 -- the least and the greatest sample of a brick
 unfoldable pub span_of : Volume → ℕ → Span

@@ -3,13 +3,13 @@ ghost use Rattle.std.specs.Prelude.{◌≡◌, ℕ, ◌+◌, ◌*◌, ◌^◌, �
 ghost use Rattle.std.specs.Bool.{OnTrue};
 ghost use Rattle.iso_defs.specs.Bricks.{brick_count, bricks_along};
 ghost use Rattle.iso_base.specs.Points.{IsPoint};
-ghost use Rattle.brick_store.specs.Copies.{home};
+ghost use Rattle.brick_store.specs.Copies.{first_brick_along};
 ghost use Rattle.brick_store.specs.Holding.{brick_at};
 ghost use Rattle.span_tree.specs.Nodes.{node_at};
 ghost use Rattle.span_tree.specs.Spans.{one_span};
 
 use crate::span::Span;
-use brick_store::{brick_at, home};
+use brick_store::{brick_at, first_brick_along};
 use iso_base::Sizes;
 use voxel_list::FillBox;
 
@@ -46,12 +46,12 @@ fn is_one_line(
     requires high { IsPoint sizes.now area.now.high }
     requires y { y < bricks_along sizes.now 1 }
     requires z { z < bricks_along sizes.now 2 }
-    ensures { OnTrue result ((x : ℕ) → home area.now.low.x ≤ x → x ≤ home area.now.high.x
+    ensures { OnTrue result ((x : ℕ) → first_brick_along area.now.low.x ≤ x → x ≤ first_brick_along area.now.high.x
         → node_at nodes.now (half + brick_at sizes.now x y z) ≡ one_span value) }
 {
     // Reading a size brings in that the sizes are those of a grid.
     let _ = sizes.nx();
-    for x in home(area.low().x)..home(area.high().x) + 1 {
+    for x in first_brick_along(area.low().x)..first_brick_along(area.high().x) + 1 {
         if !is_one_brick(sizes, nodes, half, x, y, z, value) {
             return false;
         }
@@ -60,7 +60,7 @@ fn is_one_line(
 }
 
 /// Whether the bricks of a slice have one value where they are the first that hold a point of the box.
-fn is_one_layer(
+fn is_one_slice(
     sizes: &Sizes,
     nodes: &[Span],
     half: usize,
@@ -71,13 +71,14 @@ fn is_one_layer(
     requires nodes { half + brick_count sizes.now ≤ length nodes.now }
     requires high { IsPoint sizes.now area.now.high }
     requires z { z < bricks_along sizes.now 2 }
-    ensures { OnTrue result ((x y : ℕ) → home area.now.low.x ≤ x → x ≤ home area.now.high.x → home area.now.low.y
-        ≤ y → y ≤ home area.now.high.y
+    ensures { OnTrue result ((x y : ℕ) → first_brick_along area.now.low.x ≤ x → x ≤ first_brick_along area.now.high.x
+        → first_brick_along area.now.low.y
+        ≤ y → y ≤ first_brick_along area.now.high.y
         → node_at nodes.now (half + brick_at sizes.now x y z) ≡ one_span value) }
 {
     // Reading a size brings in that the sizes are those of a grid.
     let _ = sizes.ny();
-    for y in home(area.low().y)..home(area.high().y) + 1 {
+    for y in first_brick_along(area.low().y)..first_brick_along(area.high().y) + 1 {
         if !is_one_line(sizes, nodes, half, area, y, z, value) {
             return false;
         }
@@ -89,15 +90,17 @@ fn is_one_layer(
 pub fn is_one(sizes: &Sizes, nodes: &[Span], half: usize, area: &FillBox, value: i64) -> bool
     requires nodes { half + brick_count sizes.now ≤ length nodes.now }
     requires high { IsPoint sizes.now area.now.high }
-    ensures { OnTrue result ((x y z : ℕ) → home area.now.low.x ≤ x → x ≤ home area.now.high.x → home area.now.low.y
-        ≤ y → y ≤ home area.now.high.y
-        → home area.now.low.z ≤ z → z ≤ home area.now.high.z → node_at nodes.now (half + brick_at sizes.now x y z)
+    ensures { OnTrue result ((x y z : ℕ) → first_brick_along area.now.low.x ≤ x → x ≤ first_brick_along area.now.high.x
+        → first_brick_along area.now.low.y
+        ≤ y → y ≤ first_brick_along area.now.high.y
+        → first_brick_along area.now.low.z ≤ z → z ≤ first_brick_along area.now.high.z → node_at nodes.now (half
+        + brick_at sizes.now x y z)
         ≡ one_span value) }
 {
     // Reading a size brings in that the sizes are those of a grid.
     let _ = sizes.nz();
-    for z in home(area.low().z)..home(area.high().z) + 1 {
-        if !is_one_layer(sizes, nodes, half, area, z, value) {
+    for z in first_brick_along(area.low().z)..first_brick_along(area.high().z) + 1 {
+        if !is_one_slice(sizes, nodes, half, area, z, value) {
             return false;
         }
     }
@@ -109,11 +112,17 @@ pub fn first_least(sizes: &Sizes, nodes: &[Span], half: usize, area: &FillBox) -
     requires nodes { half + brick_count sizes.now ≤ length nodes.now }
     requires high { IsPoint sizes.now area.now.high }
     ensures { result ≡ (node_at nodes.now (half
-        + brick_at sizes.now (home area.now.low.x) (home area.now.low.y) (home area.now.low.z))).least }
+        + brick_at sizes.now (first_brick_along area.now.low.x) (first_brick_along area.now.low.y)
+        (first_brick_along area.now.low.z))).least }
 {
     // Reading a size brings in that the sizes are those of a grid.
     let _ = (sizes.nx(), sizes.ny(), sizes.nz());
     let low = area.low();
-    let brick = brick_at(sizes, home(low.x), home(low.y), home(low.z));
+    let brick = brick_at(
+        sizes,
+        first_brick_along(low.x),
+        first_brick_along(low.y),
+        first_brick_along(low.z),
+    );
     nodes[half + brick.0 as usize].least()
 }

@@ -2,7 +2,7 @@
 use Rattle.std.proofs.Common.{◌≡◌, ℕ, ◌+◌, ◌*◌, ◌/◌, ◌%◌, ◌<◌, ◌∙◌, ap, arith}
 use Rattle.std.proofs.lemmas.Nat.{div-mul-add, mod-mul-add}
 use Rattle.flat_mesh.specs.Lattice.{Leveled, heights}
-use Rattle.stitch_rows.specs.Named.{Named, asked_along}
+use Rattle.brick_rows.specs.Named.{Named, asked_along}
 use Rattle.stitch.specs.Asked.{asked_in_row}
 
 -- where a row of points lies, by its number

@@ -14,15 +14,15 @@ use Rattle.flat_mesh.specs.Faces.{loops_at}
 use Rattle.flat_mesh.specs.Found.{numbered}
 use Rattle.flat_mesh.specs.Lattice.{IsLeveled, Leveled, heights}
 use Rattle.flat_mesh.proofs.CellAdds.{few_of_cell, no_centres, no_triangles}
-use Rattle.stitch_rows.specs.Bricks.{IsNextFrom}
-use Rattle.stitch_rows.specs.Named.{Named, asked_among, centres_of_entries, triangles_of_entries}
-use Rattle.stitch_rows.proofs.Asked.{asked_more}
-use Rattle.stitch_rows.proofs.CellCases.{case_is}
-use Rattle.stitch_rows.proofs.QuietBricks.{unmixed_loops}
+use Rattle.brick_rows.specs.Bricks.{IsNextFrom}
+use Rattle.brick_rows.specs.Named.{Named, asked_among, centres_of_entries, triangles_of_entries}
+use Rattle.brick_rows.proofs.Asked.{asked_more}
+use Rattle.brick_rows.proofs.CellCases.{case_is}
+use Rattle.brick_rows.proofs.QuietBricks.{unmixed_loops}
 use Rattle.mesh_rows.specs.declared.counts.Counts.{Counts}
 use Rattle.mesh_rows.specs.Counts.{AreCounts, centres_among, triangles_among}
 use Rattle.stitch.proofs.BrickSums.{of_all, span_sum}
-use Rattle.stitch_rows.proofs.Uptos.{upto, upto_append, upto_low, upto_more, zeros}
+use Rattle.brick_rows.proofs.Uptos.{upto, upto_append, upto_low, upto_more, zeros}
 
 none_pass : (p : ℕ → Bool) (xs : List ℕ) → list_any p xs ≡ false → filter p xs ≡ []
 none_pass p [] none = refl

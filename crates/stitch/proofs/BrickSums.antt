@@ -17,7 +17,7 @@ use Rattle.iso_defs.proofs.Ranges.{range_append}
 use Rattle.iso_base.specs.Sizing.{IsGrid}
 use Rattle.mesh_rows.specs.Counts.{span}
 use Rattle.mesh_rows.proofs.SpanLaws.{length_more, span_none, span_not, span_one}
-use Rattle.stitch_rows.proofs.Uptos.{in_eights, upto, upto_same, upto_split, upto_swap, zeros}
+use Rattle.brick_rows.proofs.Uptos.{in_eights, upto, upto_same, upto_split, upto_swap, zeros}
 
 -- lists that are chosen by number, joined
 pub span_sum : {X : Type 0} (f : ℕ → List X) (p : ℕ → Bool) (n : ℕ) → length (span f p 0 n) ≡ upto (λ q. cond (p q) (length (f q)) 0) n

@@ -12,7 +12,7 @@ use Rattle.crossing_edges.specs.Flags.{names_in, places_in}
 use Rattle.flat_mesh.specs.Lattice.{Leveled, heights}
 use Rattle.flat_mesh.specs.Rows.{row_start}
 use Rattle.mesh_rows.specs.Rows.{AreEdges, row_names, row_places}
-use Rattle.stitch_rows.proofs.NextBricks.{at_row}
+use Rattle.brick_rows.proofs.NextBricks.{at_row}
 use Rattle.stitch.specs.declared.recent.RecentLists.{RecentLists}
 use Rattle.stitch.specs.Cells.{AreListed}
 use Rattle.stitch.specs.Recent.{AreRecent, AreWithin, IsKept, IsPut}

@@ -15,7 +15,7 @@ use Rattle.mesh_lines.specs.declared.style.Style.{Style}
 use Rattle.mesh_lines.specs.Lines.{text_of, written_of}
 use Rattle.mesh_lines.proofs.Texts.{pad_obj, pad_ply, volume_obj, volume_ply}
 use Rattle.mesh_lines.specs.Padded.{obj_of, obj_written, ply_of, ply_written, scratch_obj, written_with}
-use Rattle.stitch_rows.specs.Rows.{at_level}
+use Rattle.brick_rows.specs.Rows.{at_level}
 use Rattle.stitch.specs.Origins.{origin_for}
 
 abbrev style : MeshFormat → Origin → Style

@@ -1,7 +1,7 @@
 -- What no call of the rows of a volume in bricks changes.
 use Rattle.std.specs.Borrow.{GName}
 use Rattle.flat_mesh.specs.Lattice.{Leveled}
-use Rattle.stitch_rows.specs.Named.{Named}
+use Rattle.brick_rows.specs.Named.{Named}
 
 -- the volume, the cases that are named for its cells, and which references the rows hold: to who names the cases, and to the counter
 pub record StoreKept : Type 0 where

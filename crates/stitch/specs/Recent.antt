@@ -4,9 +4,9 @@ use Rattle.std.specs.Global.{Vec}
 use Rattle.iso_defs.specs.Rows.{row_count}
 use Rattle.flat_mesh.specs.Lattice.{Leveled}
 use Rattle.mesh_rows.specs.Rows.{AreEdges, row_places}
-use Rattle.stitch_rows.specs.Bricks.{AreMarked}
+use Rattle.brick_rows.specs.Bricks.{AreMarked}
 use Rattle.stitch.specs.Cells.{AreListed}
-use Rattle.stitch.specs.declared.known.KnownRows.{KnownRows}
+use Rattle.stitch.specs.declared.row_memory.KnownRows.{KnownRows}
 use Rattle.stitch.specs.declared.recent.RecentLists.{RecentLists}
 
 -- the numbers of a room; none where there is no room

@@ -3,18 +3,18 @@ ghost use Rattle.std.specs.Prelude.{◌≡◌, ◌+◌, ◌*◌, ◌≤◌};
 ghost use Rattle.iso_defs.specs.Bricks.{brick_count};
 ghost use Rattle.flat_mesh.specs.Lattice.{heights};
 ghost use Rattle.mesh_rows.specs.Counts.{AreAllCounts};
-ghost use Rattle.stitch_rows.specs.Named.{NamesCases, asked_among};
+ghost use Rattle.brick_rows.specs.Named.{NamesCases, asked_among};
 
+use brick_rows::{BricksAtLevel, CellRows};
 use brick_store::BrickId;
 use iso_base::Steps;
 use mesh_rows::Counts;
 use std::sync::ledger::Ledger;
-use stitch_rows::{CellRows, Field};
 
 /// How many centres and triangles there are in all, brick by brick: each cell stands in one brick, and a brick that is not active
 /// has none.
 pub fn count_all<R: CellRows, L: Ledger>(
-    field: &Field,
+    field: &BricksAtLevel,
     rows: &mut R,
     steps: &mut Steps<L>,
 ) -> Counts

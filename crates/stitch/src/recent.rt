@@ -6,21 +6,21 @@ ghost use Rattle.std.specs.Bool.{OnTrue};
 ghost use Rattle.stitch.specs.Recent.{AreNoted, AreWithin, IsKept, IsNoted, IsPut, numbers_in, numbers_of};
 
 /// The places for lists: three for each of 16,384 rows, which are all rows of a volume of 128 points along each axis.
-pub const PLACES: usize = 49_152;
+pub const LIST_PLACES: usize = 49_152;
 
 /// The most numbers that are used, however many there is room for.
-const MOST: usize = (1 << 31) - 1;
+const MOST_NUMBERS: usize = (1 << 31) - 1;
 
 /// Stands in place of where a list begins where none is noted.
-const NONE: u32 = u32::MAX;
+const NO_LIST: u32 = u32::MAX;
 
 /// Room for lists, of which nothing is known: buffers of whoever asks for them. The more numbers there is room for, the more lists are
 /// kept, and none where there is none.
 #[derive(Drop)]
 pub struct ListRoom<'a> {
-    pub tags: &'a mut [u8; PLACES],
-    pub starts: &'a mut [u32; PLACES],
-    pub counts: &'a mut [u16; PLACES],
+    pub tags: &'a mut [u8; LIST_PLACES],
+    pub starts: &'a mut [u32; LIST_PLACES],
+    pub counts: &'a mut [u16; LIST_PLACES],
     pub numbers: &'a mut Option<Vec<u16>>,
 }
 
@@ -30,9 +30,9 @@ pub struct ListRoom<'a> {
 /// may be.
 #[derive(Drop)]
 pub struct RecentLists<'a> {
-    pub tags: &'a mut [u8; PLACES],
-    pub starts: &'a mut [u32; PLACES],
-    pub counts: &'a mut [u16; PLACES],
+    pub tags: &'a mut [u8; LIST_PLACES],
+    pub starts: &'a mut [u32; LIST_PLACES],
+    pub counts: &'a mut [u16; LIST_PLACES],
     pub numbers: &'a mut Option<Vec<u16>>,
     pub most: usize,
 }
@@ -43,7 +43,7 @@ fn place_of(key: u32) -> usize
     ensures value { result ≡ key % 49152 }
     ensures bound { result < 49152 }
 {
-    key as usize % PLACES
+    key as usize % LIST_PLACES
 }
 
 /// What is noted of a key there.
@@ -52,7 +52,7 @@ fn tag_of(key: u32) -> u8
     requires { key < 2 ^ 23 }
     ensures { result ≡ key / 49152 }
 {
-    (key as usize / PLACES) as u8
+    (key as usize / LIST_PLACES) as u8
 }
 
 /// The numbers of a room.
@@ -71,7 +71,7 @@ fn most_in(room: &Option<Vec<u16>>) -> usize
     ensures { result < 2 ^ 31 }
 {
     match room {
-        Some(numbers) => numbers.capacity().min(MOST),
+        Some(numbers) => numbers.capacity().min(MOST_NUMBERS),
         None => 0,
     }
 }
@@ -87,7 +87,7 @@ fn clear(room: &mut Option<Vec<u16>>)
 
 /// Puts a list behind the numbers of a room, and says whether it is there.
 #[inline(always)]
-fn put_list(list: &[u16], room: &mut Option<Vec<u16>>) -> bool
+fn push_list(list: &[u16], room: &mut Option<Vec<u16>>) -> bool
     ensures { OnTrue result (numbers_in room.new ≡ numbers_in room.old ++ list.now) }
 {
     match room {
@@ -98,7 +98,7 @@ fn put_list(list: &[u16], room: &mut Option<Vec<u16>>) -> bool
 
 /// Tells contracts how many places there are, and does nothing else.
 #[inline(always)]
-fn tell_places(tags: &[u8; PLACES], starts: &[u32; PLACES], counts: &[u16; PLACES])
+fn tell_places(tags: &[u8; LIST_PLACES], starts: &[u32; LIST_PLACES], counts: &[u16; LIST_PLACES])
     ensures tags { length tags.now ≡ 49152 }
     ensures starts { length starts.now ≡ 49152 }
     ensures counts { length counts.now ≡ 49152 }
@@ -108,19 +108,19 @@ fn tell_places(tags: &[u8; PLACES], starts: &[u32; PLACES], counts: &[u16; PLACE
 
 /// Whether a list is noted at the place of a key, and is its own.
 #[inline(always)]
-fn is_noted(tags: &[u8; PLACES], starts: &[u32; PLACES], key: u32) -> bool
+fn is_noted(tags: &[u8; LIST_PLACES], starts: &[u32; LIST_PLACES], key: u32) -> bool
     requires { key < 2 ^ 23 }
     ensures { OnTrue result (AreNoted tags.now starts.now key) }
 {
     let place = place_of(key);
-    tags[place] == tag_of(key) && starts[place] != NONE
+    tags[place] == tag_of(key) && starts[place] != NO_LIST
 }
 
 /// The list at a place.
 #[inline(always)]
 fn part_of<'n>(
-    starts: &[u32; PLACES],
-    counts: &[u16; PLACES],
+    starts: &[u32; LIST_PLACES],
+    counts: &[u16; LIST_PLACES],
     room: &'n Option<Vec<u16>>,
     place: usize,
 ) -> &'n [u16]
@@ -160,7 +160,7 @@ impl<'a> RecentLists<'a> {
         ensures numbers { numbers_of self.new ≡ [] }
     {
         tell_places(self.tags, self.starts, self.counts);
-        self.starts.fill(NONE);
+        self.starts.fill(NO_LIST);
         clear(self.numbers);
     }
 
@@ -229,7 +229,7 @@ impl<'a> RecentLists<'a> {
         }
         self.make_room(list.len());
         let start = numbers_in(self.numbers).len();
-        if put_list(list, self.numbers) {
+        if push_list(list, self.numbers) {
             self.note(key, start, list.len());
         } else {
             self.forget();

@@ -7,25 +7,25 @@ ghost use Rattle.std.specs.Prelude.{◌≡◌, ◌+◌, ◌*◌, ◌<◌, ◌≤
 ghost use Rattle.flat_mesh.specs.Lattice.{heights};
 ghost use Rattle.iso_defs.specs.Bricks.{brick_count};
 ghost use Rattle.mesh_rows.specs.Rows.{AreCases};
-ghost use Rattle.stitch_rows.specs.Bricks.{AreMarked};
-ghost use Rattle.stitch_rows.specs.Named.{NamesCases, asked_along, asked_among};
+ghost use Rattle.brick_rows.specs.Bricks.{AreMarked};
+ghost use Rattle.brick_rows.specs.Named.{NamesCases, asked_along, asked_among};
 ghost use Rattle.stitch.specs.Asked.{asked_in_row};
 ghost use Rattle.stitch.specs.Kept.{StoreKept};
 ghost use Rattle.stitch.specs.Recent.{AreKnown};
 
 use crate::counts::count_all;
-use crate::known::{KnownRows, is_even};
 use crate::recent::ListRoom;
+use crate::row_memory::{KnownRows, is_even};
+use brick_rows::{ActiveRow, BricksAtLevel, CellRows, case_row};
 use flat_mesh::{Cell, Heights};
 use iso_base::{LONGEST_ROW, ROW_EDGES, Sizes, Steps};
 use mesh_rows::{Counts, MeshRows};
 use row_bits::{CASES, list_cases};
 use std::sync::ledger::Ledger;
-use stitch_rows::{ActiveRow, CellRows, Field, case_row};
 
 /// Writes the cases of the cells of a row whose bricks are marked at the front of a buffer.
 fn case_marked<R: CellRows, L: Ledger>(
-    field: &Field,
+    field: &BricksAtLevel,
     active: &ActiveRow,
     rows: &mut R,
     all: &mut [u16; CASES],
@@ -49,7 +49,7 @@ fn case_marked<R: CellRows, L: Ledger>(
 /// its rows, and a buffer for the cases of one.
 #[derive(Drop)]
 pub struct StoreRows<'a, R: CellRows, L: Ledger> {
-    field: &'a Field<'a>,
+    field: &'a BricksAtLevel<'a>,
     known: KnownRows<'a>,
     cases: [u16; CASES],
     rows: &'a mut R,
@@ -61,7 +61,7 @@ pub struct StoreRows<'a, R: CellRows, L: Ledger> {
 impl<'a, R: CellRows, L: Ledger> StoreRows<'a, R, L> {
     /// The rows of a volume at a level.
     pub fn new(
-        field: &'a Field<'a>,
+        field: &'a BricksAtLevel<'a>,
         rows: &'a mut R,
         room: ListRoom<'a>,
         steps: &'a mut Steps<L>,

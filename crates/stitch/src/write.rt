@@ -9,11 +9,12 @@ ghost use Rattle.flat_mesh.specs.Mesh.{mesh_of};
 ghost use Rattle.mesh_lines.specs.Lines.{text_of, written_of};
 ghost use Rattle.mesh_lines.specs.Padded.{obj_written, ply_written, scratch_obj};
 ghost use Rattle.span_tree.specs.Spans.{IsRightFor};
-ghost use Rattle.stitch_rows.specs.Named.{NamesCases, asked_among};
+ghost use Rattle.brick_rows.specs.Named.{NamesCases, asked_among};
 ghost use Rattle.stitch.specs.Origins.{origin_for};
 
-use crate::recent::{ListRoom, PLACES};
+use crate::recent::{LIST_PLACES, ListRoom};
 use crate::store::StoreRows;
+use brick_rows::{BricksAtLevel, CellRows};
 use brick_store::BrickStore;
 use byte_streams::{Failed, Sink};
 use edge_points::RowRanks;
@@ -22,7 +23,6 @@ use mesh_lines::{Origin, Style};
 use mesh_walk::write_mesh;
 use span_tree::SpanTree;
 use std::sync::ledger::Ledger;
-use stitch_rows::{CellRows, Field};
 
 /// Where the coordinates of the mesh of a volume are counted from.
 fn origin_of(store: &BrickStore) -> Origin
@@ -38,7 +38,7 @@ fn origin_of(store: &BrickStore) -> Origin
 /// Appends the text of the mesh in a style, and says how many vertices, faces and bytes were written.
 fn write_in<R: CellRows, K: Sink, L: Ledger>(
     style: Style,
-    field: &Field,
+    field: &BricksAtLevel,
     rows: &mut R,
     ranks: &mut RowRanks,
     sink: &mut K,
@@ -59,9 +59,9 @@ fn write_in<R: CellRows, K: Sink, L: Ledger>(
     // Reading the sizes brings in what is true of every volume at a level.
     let _ = field.sizes();
     // Buffers, made here so that they are never moved.
-    let mut tags = [0; PLACES];
-    let mut starts = [0; PLACES];
-    let mut counts = [0; PLACES];
+    let mut tags = [0; LIST_PLACES];
+    let mut starts = [0; LIST_PLACES];
+    let mut counts = [0; LIST_PLACES];
     // What is kept of rows has room that stays with the ranks from one write to the next.
     let mut numbers = ranks.take_room();
     let room = ListRoom {
@@ -72,7 +72,7 @@ fn write_in<R: CellRows, K: Sink, L: Ledger>(
     };
     let mut store = StoreRows::new(field, rows, room, steps);
     let written = write_mesh(&mut store, style, ranks, sink);
-    ranks.put_room(numbers);
+    ranks.set_room(numbers);
     written
 }
 
@@ -107,7 +107,7 @@ pub fn write_ply<R: CellRows, K: Sink, L: Ledger>(
         format: MeshFormat::Ply,
         origin: origin_of(store),
     };
-    let field = Field::new(store, tree, level);
+    let field = BricksAtLevel::new(store, tree, level);
     write_in(style, &field, rows, ranks, sink, steps)
 }
 
@@ -140,6 +140,6 @@ pub fn write_obj<R: CellRows, K: Sink, L: Ledger>(
         format: MeshFormat::Obj,
         origin: origin_of(store),
     };
-    let field = Field::new(store, tree, level);
+    let field = BricksAtLevel::new(store, tree, level);
     write_in(style, &field, rows, ranks, sink, steps)
 }

@@ -6,7 +6,7 @@ use crossing_edges::{
     EdgeRows, EdgeVertices, SliceSigns, edge_vertices, flag_row, point_bits, position_on,
 };
 use iso_base::{Level, Memory};
-use samples::put_signs;
+use samples::fill_signs;
 use std::alloc::Global;
 use std::process::Abort;
 use std::test::Fail;
@@ -71,7 +71,7 @@ fn positions_on_edges(rt: HostRuntime) -> Result<(), Fail> {
 fn signs_of_a_row(rt: HostRuntime) -> Result<(), Fail> {
     let level = Level::new(5_000).ok_or("5 is a level")?;
     let mut signs = [2; 3];
-    put_signs([4u16, 5, 6].as_slice(), level, &mut signs);
+    fill_signs([4u16, 5, 6].as_slice(), level, &mut signs);
     assert!(rt; signs == [0, 1, 1]);
     Ok(())
 }

@@ -24,6 +24,8 @@ mod loops;
 #[cfg(test)]
 mod measures;
 #[cfg(test)]
+mod mesh_texts;
+#[cfg(test)]
 mod places;
 #[cfg(test)]
 mod reports;
@@ -35,5 +37,3 @@ mod texts;
 mod verdicts;
 #[cfg(test)]
 mod volumes;
-#[cfg(test)]
-mod written;

@@ -246,7 +246,7 @@ impl Shape {
 }
 
 /// Sets the samples in a shape to 10.
-fn put_shape(volume: &mut VoxelList, shape: Shape)
+fn fill_shape(volume: &mut VoxelList, shape: Shape)
     requires kind { volume.old.kind ≡ U8 }
     requires pad { volume.old.pad ≡ None }
     ensures { volume.new.pad ≡ None }
@@ -279,7 +279,7 @@ fn volume_of_shape(alloc: Global, shape: Shape) -> Result<VoxelList, Fail>
     ensures { IfOk result (λ v. v.pad ≡ None) }
 {
     let mut volume = zeros(alloc, grid().ok_or("13, 13 and 7 are sizes")?)?;
-    put_shape(&mut volume, shape);
+    fill_shape(&mut volume, shape);
     Ok(volume)
 }
 

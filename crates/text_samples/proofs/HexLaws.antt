@@ -207,66 +207,66 @@ little_before i (suc n) xs ys h =
     let here : get_or (xs ++ ys) i 0 ≡ get_or xs i 0 = get_or-append xs ys 0 i (omega arith) in
     rw (here, little_before (suc i) n xs ys (omega arith)) refl
 
-number_before : (big : Bool) (n : ℕ) (xs ys : List ℕ) → n ≤ length xs → number_in big n (xs ++ ys) ≡ number_in big n xs
+number_before : (big_endian : Bool) (n : ℕ) (xs ys : List ℕ) → n ≤ length xs → number_in big_endian n (xs ++ ys) ≡ number_in big_endian n xs
 number_before true n xs ys h = big_before 0 n xs ys (omega arith)
 number_before false n xs ys h = little_before 0 n xs ys (omega arith)
 
 -- the first sample and those behind it
-samples_split : (kind : SampleKind) (big : Bool) (n : ℕ) (xs ys : List ℕ) → length xs ≡ width_of kind
-    → samples_in kind big (xs ++ ys) (suc n) ≡ as_kind kind (number_in big (width_of kind) xs) ∷ samples_in kind big ys n
-samples_split kind big n xs ys e =
+samples_split : (kind : SampleKind) (big_endian : Bool) (n : ℕ) (xs ys : List ℕ) → length xs ≡ width_of kind
+    → samples_in kind big_endian (xs ++ ys) (suc n) ≡ as_kind kind (number_in big_endian (width_of kind) xs) ∷ samples_in kind big_endian ys n
+samples_split kind big_endian n xs ys e =
     let none : width_of kind * 0 ≡ 0 = omega arith in
-    let first : sample_of kind big (xs ++ ys) 0 ≡ as_kind kind (number_in big (width_of kind) xs)
-    = ap (λ k. as_kind kind (number_in big (width_of kind) (drop k (xs ++ ys)))) none ∙ ap (as_kind kind) (number_before big (width_of kind) xs ys (omega arith)) in
-    ap (λ v. v ∷ map (sample_of kind big (xs ++ ys)) (range_with_len 1 n)) first
-    ∙ ap (λ vs. as_kind kind (number_in big (width_of kind) xs) ∷ vs) (shifted 0 n)
+    let first : sample_of kind big_endian (xs ++ ys) 0 ≡ as_kind kind (number_in big_endian (width_of kind) xs)
+    = ap (λ k. as_kind kind (number_in big_endian (width_of kind) (drop k (xs ++ ys)))) none ∙ ap (as_kind kind) (number_before big_endian (width_of kind) xs ys (omega arith)) in
+    ap (λ v. v ∷ map (sample_of kind big_endian (xs ++ ys)) (range_with_len 1 n)) first
+    ∙ ap (λ vs. as_kind kind (number_in big_endian (width_of kind) xs) ∷ vs) (shifted 0 n)
   where
-    there : (i : ℕ) → sample_of kind big (xs ++ ys) (i + 1) ≡ sample_of kind big ys i
+    there : (i : ℕ) → sample_of kind big_endian (xs ++ ys) (i + 1) ≡ sample_of kind big_endian ys i
     there i =
         let k : width_of kind * (i + 1) ≡ length xs + width_of kind * i = omega (arith, e) in
-        ap (λ k. as_kind kind (number_in big (width_of kind) (drop k (xs ++ ys)))) k
-        ∙ ap (λ bs. as_kind kind (number_in big (width_of kind) bs)) (drop-append-add xs ys (width_of kind * i))
+        ap (λ k. as_kind kind (number_in big_endian (width_of kind) (drop k (xs ++ ys)))) k
+        ∙ ap (λ bs. as_kind kind (number_in big_endian (width_of kind) bs)) (drop-append-add xs ys (width_of kind * i))
 
-    shifted : (a n : ℕ) → map (sample_of kind big (xs ++ ys)) (range_with_len (a + 1) n) ≡ map (sample_of kind big ys) (range_with_len a n)
+    shifted : (a n : ℕ) → map (sample_of kind big_endian (xs ++ ys)) (range_with_len (a + 1) n) ≡ map (sample_of kind big_endian ys) (range_with_len a n)
     shifted a zero = refl
     shifted a (suc n) = rw (there a, shifted (a + 1) n) refl
 
 -- so many samples, one after the other
 abbrev pub samples_read : ℕ → SampleKind → Bool → Wanted → ℕ → List ℕ → Result (List ℤ × List ℕ) SampleFault
-samples_read zero kind big wanted done rest = Ok ([], rest)
-samples_read (suc n) kind big wanted done rest = do
-  first ← sample_read kind big wanted done rest
-  more ← samples_read n kind big wanted (done + 2 * width_of kind) first.1
+samples_read zero kind big_endian wanted done rest = Ok ([], rest)
+samples_read (suc n) kind big_endian wanted done rest = do
+  first ← sample_read kind big_endian wanted done rest
+  more ← samples_read n kind big_endian wanted (done + 2 * width_of kind) first.1
   Ok (first.0 ∷ more.0, more.1)
 
 abbrev as_samples : SampleKind → Bool → ℕ → List ℕ × List ℕ → Result (List ℤ × List ℕ) SampleFault
-as_samples kind big n bytes = Ok (samples_in kind big bytes.0 n, bytes.1)
+as_samples kind big_endian n bytes = Ok (samples_in kind big_endian bytes.0 n, bytes.1)
 
-samples_are : (n : ℕ) (kind : SampleKind) (big : Bool) (wanted : Wanted) (done : ℕ) (rest : List ℕ)
-    → samples_read n kind big wanted done rest ≡ (bytes_read (width_of kind * n) wanted done rest >>= as_samples kind big n)
-samples_are zero kind big wanted done rest = let e : width_of kind * 0 ≡ 0 = omega arith in rw e refl
-samples_are (suc n) kind big wanted done rest =
+samples_are : (n : ℕ) (kind : SampleKind) (big_endian : Bool) (wanted : Wanted) (done : ℕ) (rest : List ℕ)
+    → samples_read n kind big_endian wanted done rest ≡ (bytes_read (width_of kind * n) wanted done rest >>= as_samples kind big_endian n)
+samples_are zero kind big_endian wanted done rest = let e : width_of kind * 0 ≡ 0 = omega arith in rw e refl
+samples_are (suc n) kind big_endian wanted done rest =
     let e : width_of kind * suc n ≡ width_of kind + width_of kind * n = omega arith in
     rw (e, bytes_split (width_of kind) (width_of kind * n) wanted done rest, sample_is)
-    (by_first (bytes_read (width_of kind) wanted done rest) (λ rest. samples_are n kind big wanted (done + 2 * width_of kind) rest) refl)
+    (by_first (bytes_read (width_of kind) wanted done rest) (λ rest. samples_are n kind big_endian wanted (done + 2 * width_of kind) rest) refl)
   where
-    sample_is : sample_read kind big wanted done rest
-        ≡ ((bytes_read (width_of kind) wanted done rest >>= (λ (bytes : List ℕ × List ℕ). Ok (number_in big (width_of kind) bytes.0, bytes.1)))
+    sample_is : sample_read kind big_endian wanted done rest
+        ≡ ((bytes_read (width_of kind) wanted done rest >>= (λ (bytes : List ℕ × List ℕ). Ok (number_in big_endian (width_of kind) bytes.0, bytes.1)))
         >>= (λ (number : ℕ × List ℕ). Ok (as_kind kind number.0, number.1)))
     sample_is = unfold sample_read number_read in refl
 
     by_more : (xs : List ℕ) → length xs ≡ width_of kind → (r : Result (List ℕ × List ℕ) SampleFault)
-        → ((r >>= as_samples kind big n) >>= before (as_kind kind (number_in big (width_of kind) xs)))
-        ≡ ((r >>= joined_to xs) >>= as_samples kind big (suc n))
+        → ((r >>= as_samples kind big_endian n) >>= before (as_kind kind (number_in big_endian (width_of kind) xs)))
+        ≡ ((r >>= joined_to xs) >>= as_samples kind big_endian (suc n))
     by_more xs e (Err f) = refl
-    by_more xs e (Ok y) = ap (λ (l : List ℤ). Ok (l, y.1)) (sym (samples_split kind big n xs y.0 e))
+    by_more xs e (Ok y) = ap (λ (l : List ℤ). Ok (l, y.1)) (sym (samples_split kind big_endian n xs y.0 e))
 
     by_first : (r : Result (List ℕ × List ℕ) SampleFault)
-        → ((rest : List ℕ) → samples_read n kind big wanted (done + 2 * width_of kind) rest ≡ (bytes_read (width_of kind * n) wanted (done + 2 * width_of kind) rest >>= as_samples kind big n))
-        → bytes_read (width_of kind) wanted done rest ≡ r → (((r >>= (λ (bytes : List ℕ × List ℕ). Ok (number_in big (width_of kind) bytes.0, bytes.1)))
+        → ((rest : List ℕ) → samples_read n kind big_endian wanted (done + 2 * width_of kind) rest ≡ (bytes_read (width_of kind * n) wanted (done + 2 * width_of kind) rest >>= as_samples kind big_endian n))
+        → bytes_read (width_of kind) wanted done rest ≡ r → (((r >>= (λ (bytes : List ℕ × List ℕ). Ok (number_in big_endian (width_of kind) bytes.0, bytes.1)))
         >>= (λ (number : ℕ × List ℕ). Ok (as_kind kind number.0, number.1)))
-        >>= (λ (first : ℤ × List ℕ). samples_read n kind big wanted (done + 2 * width_of kind) first.1 >>= before first.0))
-        ≡ ((r >>= (λ x. bytes_read (width_of kind * n) wanted (done + 2 * width_of kind) x.1 >>= joined_to x.0)) >>= as_samples kind big (suc n))
+        >>= (λ (first : ℤ × List ℕ). samples_read n kind big_endian wanted (done + 2 * width_of kind) first.1 >>= before first.0))
+        ≡ ((r >>= (λ x. bytes_read (width_of kind * n) wanted (done + 2 * width_of kind) x.1 >>= joined_to x.0)) >>= as_samples kind big_endian (suc n))
     by_first (Err f) ih h = refl
     by_first (Ok x) ih h =
         rw (ih x.1)
@@ -282,49 +282,49 @@ behind_done done more = Ok (done ++ more.0, length more.1)
 
 -- what is read on from a place: these samples stand before it, and so many are still wanted
 unfoldable pub decoding : SampleKind → Bool → ℕ → List ℤ → ℕ → ℕ → List ℕ → Result (List ℤ × ℕ) SampleFault
-decoding kind big count done place n rest =
-    samples_read n kind big (wanted_of kind count) (2 * width_of kind * place) rest >>= behind_done done
+decoding kind big_endian count done place n rest =
+    samples_read n kind big_endian (wanted_of kind count) (2 * width_of kind * place) rest >>= behind_done done
 
 -- what holds while a text is read
-pub record IsDecoding (kind : SampleKind) (big : Bool) (count : ℕ) (bytes : List ℕ) (place : ℕ) (done : List ℤ) (rest : List ℕ) : Type 0 where
-  pub read : hex_samples kind big count bytes ≡ decoding kind big count done place (count - place) rest
+pub record IsDecoding (kind : SampleKind) (big_endian : Bool) (count : ℕ) (bytes : List ℕ) (place : ℕ) (done : List ℤ) (rest : List ℕ) : Type 0 where
+  pub read : hex_samples kind big_endian count bytes ≡ decoding kind big_endian count done place (count - place) rest
   pub each : All (IsOfKind kind) done
   pub number : length done ≡ place
 
 -- it holds at the start, where nothing is read yet
-all_digits : (kind : SampleKind) (big : Bool) (count : ℕ) (few : Bool) (fault : SampleFault) (after : List ℕ) (r : Result (List ℕ) SampleFault)
-    → ((((r >>= ended few fault after) >>= in_pairs) >>= as_samples kind big count) >>= behind_done [])
-    ≡ (r >>= (λ digits. cond {A = Result (List ℤ × ℕ) SampleFault} few (Err fault) (Ok (samples_in kind big (paired digits) count, length after))))
-all_digits kind big count few fault after (Err f) = refl
-all_digits kind big count true fault after (Ok ds) = refl
-all_digits kind big count false fault after (Ok ds) = refl
+all_digits : (kind : SampleKind) (big_endian : Bool) (count : ℕ) (few : Bool) (fault : SampleFault) (after : List ℕ) (r : Result (List ℕ) SampleFault)
+    → ((((r >>= ended few fault after) >>= in_pairs) >>= as_samples kind big_endian count) >>= behind_done [])
+    ≡ (r >>= (λ digits. cond {A = Result (List ℤ × ℕ) SampleFault} few (Err fault) (Ok (samples_in kind big_endian (paired digits) count, length after))))
+all_digits kind big_endian count few fault after (Err f) = refl
+all_digits kind big_endian count true fault after (Ok ds) = refl
+all_digits kind big_endian count false fault after (Ok ds) = refl
 
-pub at_first : (kind : SampleKind) (big : Bool) (count : ℕ) (bytes : List ℕ) → hex_samples kind big count bytes ≡ decoding kind big count [] 0 count bytes
+pub at_first : (kind : SampleKind) (big_endian : Bool) (count : ℕ) (bytes : List ℕ) → hex_samples kind big_endian count bytes ≡ decoding kind big_endian count [] 0 count bytes
 unfolding hex_samples decoding
-at_first kind big count bytes =
+at_first kind big_endian count bytes =
     let w : Wanted = wanted_of kind count in
     let none : 2 * width_of kind * 0 ≡ 0 = omega arith in
     let needed : 2 * (width_of kind * count) ≡ digits_needed kind count = omega arith in
     let all : 0 + length (marks_in bytes) ≡ length (marks_in bytes) = omega arith in
     let few : Bool = ltb (length (marks_in bytes)) (digits_needed kind count) in
-    let read : samples_read count kind big w (2 * width_of kind * 0) bytes
-    ≡ ((digits_among (digits_needed kind count) w 0 bytes (marks_in bytes) >>= in_pairs) >>= as_samples kind big count)
-    = ap (λ n. samples_read count kind big w n bytes) none
-    ∙ (samples_are count kind big w 0 bytes
-    ∙ ap (λ r. r >>= as_samples kind big count) (bytes_are (width_of kind * count) w 0 bytes
+    let read : samples_read count kind big_endian w (2 * width_of kind * 0) bytes
+    ≡ ((digits_among (digits_needed kind count) w 0 bytes (marks_in bytes) >>= in_pairs) >>= as_samples kind big_endian count)
+    = ap (λ n. samples_read count kind big_endian w n bytes) none
+    ∙ (samples_are count kind big_endian w 0 bytes
+    ∙ ap (λ r. r >>= as_samples kind big_endian count) (bytes_are (width_of kind * count) w 0 bytes
     ∙ ap (λ r. r >>= in_pairs) (ap (λ n. digits_read n w 0 bytes) needed ∙ digits_are (digits_needed kind count) w 0 bytes (marks_in bytes) refl))) in
     sym (ap (λ r. r >>= behind_done []) read
-    ∙ (all_digits kind big count few (Short (digits_needed kind count) (0 + length (marks_in bytes))) (after_marks (digits_needed kind count) bytes (marks_in bytes))
+    ∙ (all_digits kind big_endian count few (Short (digits_needed kind count) (0 + length (marks_in bytes))) (after_marks (digits_needed kind count) bytes (marks_in bytes))
     (digits_said (2 * width_of kind) 0 (take (digits_needed kind count) (marks_in bytes)))
     ∙ ap (λ n. digits_said (2 * width_of kind) 0 (take (digits_needed kind count) (marks_in bytes)) >>= (λ digits. cond {A = Result (List ℤ × ℕ) SampleFault} few
-    (Err (Short (digits_needed kind count) n)) (Ok (samples_in kind big (paired digits) count, length (after_marks (digits_needed kind count) bytes (marks_in bytes))))))
+    (Err (Short (digits_needed kind count) n)) (Ok (samples_in kind big_endian (paired digits) count, length (after_marks (digits_needed kind count) bytes (marks_in bytes))))))
     all))
 
-pub begins : (kind : SampleKind) (big : Bool) (count : ℕ) (bytes : List ℕ) → IsDecoding kind big count bytes 0 [] bytes
-begins kind big count bytes =
+pub begins : (kind : SampleKind) (big_endian : Bool) (count : ℕ) (bytes : List ℕ) → IsDecoding kind big_endian count bytes 0 [] bytes
+begins kind big_endian count bytes =
     let e : count ≡ count - 0 = omega arith in
     record {
-      read = at_first kind big count bytes ∙ ap (λ n. decoding kind big count [] 0 n bytes) e;
+      read = at_first kind big_endian count bytes ∙ ap (λ n. decoding kind big_endian count [] 0 n bytes) e;
       each = All-nil (IsOfKind kind);
       number = refl;
     }
@@ -333,45 +333,45 @@ begins kind big count bytes =
 abbrev finished : ℕ → List ℤ → Result (List ℤ × ℕ) SampleFault
 finished n samples = Ok (samples, n)
 
-pub ends_here : (kind : SampleKind) (big : Bool) (count : ℕ) (done : List ℤ) (place : ℕ) (rest : List ℕ) → count ≤ place
-    → decoding kind big count done place (count - place) rest ≡ Ok (done, length rest)
+pub ends_here : (kind : SampleKind) (big_endian : Bool) (count : ℕ) (done : List ℤ) (place : ℕ) (rest : List ℕ) → count ≤ place
+    → decoding kind big_endian count done place (count - place) rest ≡ Ok (done, length rest)
 unfolding decoding
-ends_here kind big count done place rest h =
+ends_here kind big_endian count done place rest h =
     let e : count - place ≡ 0 = omega arith in
-    ap (λ n. samples_read n kind big (wanted_of kind count) (2 * width_of kind * place) rest >>= behind_done done) e
+    ap (λ n. samples_read n kind big_endian (wanted_of kind count) (2 * width_of kind * place) rest >>= behind_done done) e
     ∙ ap (finished (length rest)) (append-nil done)
 
 -- the next sample, or why there is none
-module _ (kind : SampleKind) (big : Bool) (count : ℕ) (done : List ℤ) (place : ℕ) (rest : List ℕ) (h : place < count)
+module _ (kind : SampleKind) (big_endian : Bool) (count : ℕ) (done : List ℤ) (place : ℕ) (rest : List ℕ) (h : place < count)
     (wanted : Wanted) (k : ℕ) (asked : wanted ≡ wanted_of kind count) (at : k ≡ 2 * width_of kind * place) where
   one_more : count - place ≡ suc (count - (place + 1))
   one_more = omega arith
 
-  read_is : sample_read kind big wanted k rest ≡ sample_read kind big (wanted_of kind count) (2 * width_of kind * place) rest
-  read_is = ap (λ (w : Wanted). sample_read kind big w k rest) asked ∙ ap (λ k. sample_read kind big (wanted_of kind count) k rest) at
+  read_is : sample_read kind big_endian wanted k rest ≡ sample_read kind big_endian (wanted_of kind count) (2 * width_of kind * place) rest
+  read_is = ap (λ (w : Wanted). sample_read kind big_endian w k rest) asked ∙ ap (λ k. sample_read kind big_endian (wanted_of kind count) k rest) at
 
   abbrev more : ℕ → ℤ × List ℕ → Result (List ℤ × List ℕ) SampleFault
-  more n first = samples_read n kind big (wanted_of kind count) (2 * width_of kind * place + 2 * width_of kind) first.1 >>= before first.0
+  more n first = samples_read n kind big_endian (wanted_of kind count) (2 * width_of kind * place + 2 * width_of kind) first.1 >>= before first.0
 
-  pub ends_bad : (fault : SampleFault) → sample_read kind big wanted k rest ≡ Err fault → decoding kind big count done place (count - place) rest ≡ Err fault
+  pub ends_bad : (fault : SampleFault) → sample_read kind big_endian wanted k rest ≡ Err fault → decoding kind big_endian count done place (count - place) rest ≡ Err fault
   unfolding decoding
   ends_bad fault bad =
-      ap (λ n. samples_read n kind big (wanted_of kind count) (2 * width_of kind * place) rest >>= behind_done done) one_more
+      ap (λ n. samples_read n kind big_endian (wanted_of kind count) (2 * width_of kind * place) rest >>= behind_done done) one_more
       ∙ ap (λ r. (r >>= more (count - (place + 1))) >>= behind_done done) (sym read_is ∙ bad)
 
   behind_one : (v : ℤ) (r : Result (List ℤ × List ℕ) SampleFault) → ((r >>= before v) >>= behind_done done) ≡ (r >>= behind_done (done ++ v ∷ []))
   behind_one v (Err f) = refl
   behind_one v (Ok x) = ap (λ (l : List ℤ). behind_done [] (l, x.1)) (sym (append_assoc done (v ∷ []) x.0))
 
-  pub goes_on : (v : ℤ) (after : List ℕ) → sample_read kind big wanted k rest ≡ Ok (v, after)
-      → decoding kind big count done place (count - place) rest ≡ decoding kind big count (done ++ v ∷ []) (place + 1) (count - (place + 1)) after
+  pub goes_on : (v : ℤ) (after : List ℕ) → sample_read kind big_endian wanted k rest ≡ Ok (v, after)
+      → decoding kind big_endian count done place (count - place) rest ≡ decoding kind big_endian count (done ++ v ∷ []) (place + 1) (count - (place + 1)) after
   unfolding decoding
   goes_on v after good =
       let next : 2 * width_of kind * place + 2 * width_of kind ≡ 2 * width_of kind * (place + 1) = omega arith in
-      ap (λ n. samples_read n kind big (wanted_of kind count) (2 * width_of kind * place) rest >>= behind_done done) one_more
+      ap (λ n. samples_read n kind big_endian (wanted_of kind count) (2 * width_of kind * place) rest >>= behind_done done) one_more
       ∙ (ap (λ r. (r >>= more (count - (place + 1))) >>= behind_done done) (sym read_is ∙ good)
-      ∙ (ap (λ n. (samples_read (count - (place + 1)) kind big (wanted_of kind count) n after >>= before v) >>= behind_done done) next
-      ∙ behind_one v (samples_read (count - (place + 1)) kind big (wanted_of kind count) (2 * width_of kind * (place + 1)) after)))
+      ∙ (ap (λ n. (samples_read (count - (place + 1)) kind big_endian (wanted_of kind count) n after >>= before v) >>= behind_done done) next
+      ∙ behind_one v (samples_read (count - (place + 1)) kind big_endian (wanted_of kind count) (2 * width_of kind * (place + 1)) after)))
 
 -- a refusal that is read
 pub fails_at : {A : Type 0} (fault : SampleFault) (read : Result A SampleFault) → read ≡ Err fault → Fails fault read

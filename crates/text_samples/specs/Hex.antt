@@ -55,11 +55,11 @@ digits_needed kind count = 2 * width_of kind * count
 -- the samples whose bytes the first digits of a text make, so many, and the number of bytes after the last of them;
 -- or the sample of the first byte that is no digit, or else how many digits there are where there are too few
 unfoldable pub hex_samples : SampleKind → Bool → ℕ → List ℕ → Result (List ℤ × ℕ) SampleFault
-hex_samples kind big count bytes = do
+hex_samples kind big_endian count bytes = do
   digits ← digits_said (2 * width_of kind) 0 (take (digits_needed kind count) (marks_in bytes))
   if nat_lt (length (marks_in bytes)) (digits_needed kind count)
       then Err (Short (digits_needed kind count) (length (marks_in bytes)))
       else Ok (
-        samples_in kind big (paired digits) count,
+        samples_in kind big_endian (paired digits) count,
         length (after_marks (digits_needed kind count) bytes (marks_in bytes)),
       )

@@ -35,14 +35,14 @@ bytes_read (suc n) wanted done rest = do
 
 -- the number in so many bytes
 unfoldable pub number_read : Bool → ℕ → Wanted → ℕ → List ℕ → Result (ℕ × List ℕ) SampleFault
-number_read big width wanted done rest = do
+number_read big_endian width wanted done rest = do
   bytes ← bytes_read width wanted done rest
-  Ok (number_in big width bytes.0, bytes.1)
+  Ok (number_in big_endian width bytes.0, bytes.1)
 
 -- the next sample
 unfoldable pub sample_read : SampleKind → Bool → Wanted → ℕ → List ℕ → Result (ℤ × List ℕ) SampleFault
-sample_read kind big wanted done rest = do
-  number ← number_read big (width_of kind) wanted done rest
+sample_read kind big_endian wanted done rest = do
+  number ← number_read big_endian (width_of kind) wanted done rest
   Ok (as_kind kind number.0, number.1)
 
 -- a value with the bytes after it, wherever they lie in memory

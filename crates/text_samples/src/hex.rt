@@ -13,7 +13,7 @@ ghost use Rattle.text_samples.specs.Hex.{hex_samples, hex_value, marks_in};
 ghost use Rattle.text_samples.specs.declared.hex.Wanted.{Wanted};
 
 use crate::fault::SampleFault;
-use crate::gathered::Gather;
+use crate::targets::Gather;
 use crate::words::is_separator;
 use iso_base::SampleKind;
 use std::alloc::Global;
@@ -149,26 +149,35 @@ fn number_8(rest: &[u8], done: u64, wanted: Wanted) -> Result<(u32, &[u8]), Samp
 /// The number in the next two bytes, the high one first or last.
 #[inline(always)]
 #[tactic(auto, unfolding(crate::specs::HexScan::number_read))]
-fn number_16(rest: &[u8], big: bool, done: u64, wanted: Wanted) -> Result<(u32, &[u8]), SampleFault>
+fn number_16(
+    rest: &[u8],
+    big_endian: bool,
+    done: u64,
+    wanted: Wanted,
+) -> Result<(u32, &[u8]), SampleFault>
     requires each { 0 < wanted.each }
     requires bound { done < 2 ^ 31 }
-    ensures value { map_ok (λ x. (x.0, x.1.now)) result ≡ number_read big 2 wanted done rest.now }
+    ensures value { map_ok (λ x. (x.0, x.1.now)) result ≡ number_read big_endian 2 wanted done rest.now }
     ensures bound { IfOk result (λ x. x.0 < 2 ^ 16) }
 {
     let (a, rest) = byte(rest, done, wanted)?;
     let done = done + 2;
     let (b, rest) = byte(rest, done, wanted)?;
-    let (high, low) = if big { (a, b) } else { (b, a) };
+    let (high, low) = if big_endian { (a, b) } else { (b, a) };
     Ok((256 * u32::from(high) + u32::from(low), rest))
 }
 
 /// The number in four bytes, the high one first or last.
 #[inline(always)]
-fn number_of(big: bool, bytes: [u8; 4]) -> u32
-    ensures { result ≡ number_in big 4 bytes }
+fn number_of(big_endian: bool, bytes: [u8; 4]) -> u32
+    ensures { result ≡ number_in big_endian 4 bytes }
 {
     let [a, b, c, d] = bytes;
-    let (a, b, c, d) = if big { (a, b, c, d) } else { (d, c, b, a) };
+    let (a, b, c, d) = if big_endian {
+        (a, b, c, d)
+    } else {
+        (d, c, b, a)
+    };
     let high = 256 * u32::from(a) + u32::from(b);
     let low = 256 * u32::from(c) + u32::from(d);
     65_536 * high + low
@@ -177,10 +186,15 @@ fn number_of(big: bool, bytes: [u8; 4]) -> u32
 /// The number in the next four bytes, the high one first or last.
 #[inline(always)]
 #[tactic(auto, unfolding(crate::specs::HexScan::number_read))]
-fn number_32(rest: &[u8], big: bool, done: u64, wanted: Wanted) -> Result<(u32, &[u8]), SampleFault>
+fn number_32(
+    rest: &[u8],
+    big_endian: bool,
+    done: u64,
+    wanted: Wanted,
+) -> Result<(u32, &[u8]), SampleFault>
     requires each { 0 < wanted.each }
     requires bound { done < 2 ^ 31 }
-    ensures value { map_ok (λ x. (x.0, x.1.now)) result ≡ number_read big 4 wanted done rest.now }
+    ensures value { map_ok (λ x. (x.0, x.1.now)) result ≡ number_read big_endian 4 wanted done rest.now }
     ensures bound { IfOk result (λ x. x.0 < 2 ^ 32) }
 {
     let (a, rest) = byte(rest, done, wanted)?;
@@ -190,7 +204,7 @@ fn number_32(rest: &[u8], big: bool, done: u64, wanted: Wanted) -> Result<(u32, 
     let (c, rest) = byte(rest, done, wanted)?;
     let done = done + 2;
     let (d, rest) = byte(rest, done, wanted)?;
-    Ok((number_of(big, [a, b, c, d]), rest))
+    Ok((number_of(big_endian, [a, b, c, d]), rest))
 }
 
 /// The number of a kind in these bits.
@@ -214,19 +228,19 @@ fn value_of(kind: SampleKind, number: u32) -> i64
 fn number(
     rest: &[u8],
     kind: SampleKind,
-    big: bool,
+    big_endian: bool,
     done: u64,
     wanted: Wanted,
 ) -> Result<(u32, &[u8]), SampleFault>
     requires each { 0 < wanted.each }
     requires bound { done < 2 ^ 31 }
-    ensures value { map_ok (λ x. (x.0, x.1.now)) result ≡ number_read big (width_of kind) wanted done rest.now }
+    ensures value { map_ok (λ x. (x.0, x.1.now)) result ≡ number_read big_endian (width_of kind) wanted done rest.now }
     ensures bound { IfOk result (λ x. x.0 < 256 ^ width_of kind) }
 {
     match kind {
         SampleKind::I8 | SampleKind::U8 => number_8(rest, done, wanted),
-        SampleKind::I16 | SampleKind::U16 => number_16(rest, big, done, wanted),
-        SampleKind::I32 | SampleKind::U32 => number_32(rest, big, done, wanted),
+        SampleKind::I16 | SampleKind::U16 => number_16(rest, big_endian, done, wanted),
+        SampleKind::I32 | SampleKind::U32 => number_32(rest, big_endian, done, wanted),
     }
 }
 
@@ -236,16 +250,16 @@ fn number(
 fn sample(
     rest: &[u8],
     kind: SampleKind,
-    big: bool,
+    big_endian: bool,
     done: u64,
     wanted: Wanted,
 ) -> Result<(i64, &[u8]), SampleFault>
     requires each { 0 < wanted.each }
     requires bound { done < 2 ^ 31 }
-    ensures value { map_ok (λ x. (x.0, x.1.now)) result ≡ sample_read kind big wanted done rest.now }
+    ensures value { map_ok (λ x. (x.0, x.1.now)) result ≡ sample_read kind big_endian wanted done rest.now }
     ensures range { IfOk result (λ x. IsOfKind kind x.0) }
 {
-    let (number, rest) = number(rest, kind, big, done, wanted)?;
+    let (number, rest) = number(rest, kind, big_endian, done, wanted)?;
     Ok((value_of(kind, number), rest))
 }
 
@@ -254,14 +268,15 @@ fn gather<G: Gather>(
     alloc: Global,
     bytes: &[u8],
     kind: SampleKind,
-    big: bool,
+    big_endian: bool,
     count: u64,
 ) -> Result<(G, u64), SampleFault>
     requires some { 1 ≤ count }
     requires limit { count ≤ 160000000 }
-    ensures ok { IfOk result (λ r. IsReadInto (G.Holds r.0 kind) kind count (hex_samples kind big count bytes.now)
+    ensures ok { IfOk result (λ r. IsReadInto (G.Holds r.0 kind) kind count
+        (hex_samples kind big_endian count bytes.now)
         r.1) }
-    ensures err { IfErr result (λ fault. Fails fault (hex_samples kind big count bytes.now)) }
+    ensures err { IfErr result (λ fault. Fails fault (hex_samples kind big_endian count bytes.now)) }
 {
     let each = 2 * u64::from(kind.width());
     let wanted = Wanted {
@@ -272,7 +287,7 @@ fn gather<G: Gather>(
     let mut samples = G::with_room(alloc, kind, room)?;
     let mut rest = bytes;
     for place in 0..count {
-        let (value, after) = sample(rest, kind, big, each * place, wanted)?;
+        let (value, after) = sample(rest, kind, big_endian, each * place, wanted)?;
         samples.add(kind, value)?;
         rest = after;
     }
@@ -290,17 +305,17 @@ pub fn read_hex(
     alloc: Global,
     bytes: &[u8],
     kind: SampleKind,
-    big: bool,
+    big_endian: bool,
     count: u64,
 ) -> Result<(Vec<i64>, u64), SampleFault>
     requires some { 1 ≤ count }
     requires limit { count ≤ 160000000 }
-    ensures ok { IfOk result (λ r. hex_samples kind big count bytes.now ≡ Ok (r.0.items, r.1)) }
+    ensures ok { IfOk result (λ r. hex_samples kind big_endian count bytes.now ≡ Ok (r.0.items, r.1)) }
     ensures each { IfOk result (λ r. All (IsOfKind kind) r.0.items) }
     ensures number { IfOk result (λ r. length r.0.items ≡ count) }
-    ensures err { IfErr result (λ fault. Fails fault (hex_samples kind big count bytes.now)) }
+    ensures err { IfErr result (λ fault. Fails fault (hex_samples kind big_endian count bytes.now)) }
 {
-    gather(alloc, bytes, kind, big, count)
+    gather(alloc, bytes, kind, big_endian, count)
 }
 
 /// Reads samples as `read_hex` does, into their bytes: 1, 2 or 4 each, as the kind has, the low byte first, in whichever
@@ -309,15 +324,15 @@ pub fn read_hex_bytes(
     alloc: Global,
     bytes: &[u8],
     kind: SampleKind,
-    big: bool,
+    big_endian: bool,
     count: u64,
 ) -> Result<(Vec<u8>, u64), SampleFault>
     requires some { 1 ≤ count }
     requires limit { count ≤ 160000000 }
-    ensures ok { IfOk result (λ r. hex_samples kind big count bytes.now
+    ensures ok { IfOk result (λ r. hex_samples kind big_endian count bytes.now
         ≡ Ok (samples_in kind false r.0.items count, r.1)) }
     ensures size { IfOk result (λ r. length r.0.items ≡ width_of kind * count) }
-    ensures err { IfErr result (λ fault. Fails fault (hex_samples kind big count bytes.now)) }
+    ensures err { IfErr result (λ fault. Fails fault (hex_samples kind big_endian count bytes.now)) }
 {
-    gather(alloc, bytes, kind, big, count)
+    gather(alloc, bytes, kind, big_endian, count)
 }

@@ -6,8 +6,8 @@
 
 mod bits;
 mod fault;
-mod gathered;
 mod hex;
+mod targets;
 mod text;
 mod words;
 

@@ -7,7 +7,7 @@ ghost use Rattle.iso_base.specs.SampleBytes.{samples_in};
 ghost use Rattle.text_samples.specs.Text.{sample_said, text_samples};
 
 use crate::fault::SampleFault;
-use crate::gathered::Gather;
+use crate::targets::Gather;
 use crate::words::next_word;
 use iso_base::SampleKind;
 use std::alloc::Global;

@@ -8,5 +8,5 @@ mod soak;
 mod steps;
 
 pub use blocks::generate;
-pub use rows::{STAGE, put_generated};
+pub use rows::{STAGE_BYTES, put_generated};
 pub use soak::SoakLines;

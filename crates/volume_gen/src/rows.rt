@@ -12,7 +12,7 @@ use iso_base::{SampleKind, Sizes};
 use nrrd::put_nrrd_head;
 
 /// The room of a buffer for `put_generated` that never grows: a block that is staged, and a run of samples behind it.
-pub const STAGE: usize = 32_768 + 4_096;
+pub const STAGE_BYTES: usize = 32_768 + 4_096;
 
 /// Puts a sample behind what waits, so many times.
 fn stage_run<K: Sink>(

@@ -15,7 +15,7 @@ ghost use Rattle.window_mesh.specs.Views.{InBox, boxed_at, boxed_list, whole_of,
 use crate::boxes::{WindowFault, window_sizes};
 use brick_store::BrickStore;
 use iso_base::{LONGEST_ROW, Level, Point, Sizes, index, point_of};
-use samples::{Packed, Samples, copy_all, put_signs, sample_sign};
+use samples::{Packed, Samples, copy_all, fill_signs, sample_sign};
 use std::marker::Model;
 use voxel_list::FillBox;
 
@@ -49,13 +49,13 @@ fn are_same(a: &Sizes, b: &Sizes) -> bool
 
 /// Writes the signs of samples over a part of a list.
 #[inline(always)]
-fn put_part(samples: &[i64], level: Level, from: usize, into: &mut [u8])
+fn fill_part(samples: &[i64], level: Level, from: usize, into: &mut [u8])
     requires { from + length samples.now ≤ length into.old }
     ensures inside { (i : ℕ) → i < length samples.now → slice_index into.new (from + i)
         ≡ sign_of level (sample samples.now i) }
     ensures before { (i : ℕ) → i < from → slice_index into.new i ≡ slice_index into.old i }
 {
-    put_signs(samples, level, &mut into[from..from + samples.len()]);
+    fill_signs(samples, level, &mut into[from..from + samples.len()]);
 }
 
 impl<'a> BoxSamples<'a> {
@@ -163,7 +163,7 @@ impl<'a> BoxSamples<'a> {
     /// Writes the signs of a row of the box over a part of a list. `row` is as long as the row, and what it holds afterwards
     /// is open.
     #[inline(always)]
-    fn put_row(&self, first: Point, level: Level, row: &mut [i64], from: usize, into: &mut [u8])
+    fn fill_row(&self, first: Point, level: Level, row: &mut [i64], from: usize, into: &mut [u8])
         requires point { IsPoint self.now.window.grid first }
         requires first { first.x ≡ 0 }
         requires row { length row.old ≡ self.now.window.grid.nx }
@@ -174,11 +174,11 @@ impl<'a> BoxSamples<'a> {
         ensures before { (i : ℕ) → i < from → slice_index into.new i ≡ slice_index into.old i }
     {
         self.copy_samples(first, row);
-        put_part(row, level, from, into);
+        fill_part(row, level, from, into);
     }
 
     /// Writes the signs of all samples, row by row.
-    fn put_rows(&self, level: Level, into: &mut [u8])
+    fn fill_rows(&self, level: Level, into: &mut [u8])
         requires { length into.old ≡ point_count self.now.window.grid }
         ensures { (i : ℕ) → i < length into.old → slice_index into.new i ≡ sign_of level (boxed_at self.now i) }
     {
@@ -192,12 +192,12 @@ impl<'a> BoxSamples<'a> {
                 y: number % height,
                 z: number / height,
             };
-            self.put_row(first, level, row, width * number as usize, into);
+            self.fill_row(first, level, row, width * number as usize, into);
         }
     }
 
     /// Writes the signs of samples from an index on, one by one.
-    fn put_each(&self, start: u32, level: Level, into: &mut [u8])
+    fn fill_each(&self, start: u32, level: Level, into: &mut [u8])
         requires { start + length into.old ≤ point_count self.now.window.grid }
         ensures { (i : ℕ) → i < length into.old → slice_index into.new i
             ≡ sign_of level (boxed_at self.now (start + i)) }
@@ -237,11 +237,11 @@ impl<'a> Samples for BoxSamples<'a> {
     }
 
     // The signs of all samples are written row by row.
-    fn put_signs(&self, start: u32, level: Level, into: &mut [u8]) {
+    fn fill_signs(&self, start: u32, level: Level, into: &mut [u8]) {
         if start == 0 && into.len() == self.sizes.count() as usize {
-            self.put_rows(level, into);
+            self.fill_rows(level, into);
         } else {
-            self.put_each(start, level, into);
+            self.fill_each(start, level, into);
         }
     }
 }

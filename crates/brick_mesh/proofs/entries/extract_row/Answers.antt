@@ -13,8 +13,8 @@ row_there v brick y z level y_low z_low there =
     = inside v.grid brick 0 (y + 1) (z + 1) (record { x-in = omega (arith, o.x-in); y-in = o.y-in; z-in = o.z-in }) (omega arith) (omega arith) (omega arith) in
     record { y_low = y_low; z_low = z_low; last = last }
 
-pub put_cases-requires : goal.put_cases-requires
-put_cases-requires g c = record { row = rw c.of-block.ensures (row_there c.args.store.now c.args.brick.0 c.args.y c.args.z c.args.level c.requires.y c.requires.z c.requires.there) }
+pub fill_cases-requires : goal.fill_cases-requires
+fill_cases-requires g c = record { row = rw c.of-block.ensures (row_there c.args.store.now c.args.brick.0 c.args.y c.args.z c.args.level c.requires.y c.requires.z c.requires.there) }
 
 pub returns-clause-cases : goal.returns-clause-cases
-returns-clause-cases g c = c.put_cases.ensures.cases ∙ ap (λ (b : BrickAt). row_cases b.grid (heights b) b.brick c.args.y c.args.z) c.of-block.ensures
+returns-clause-cases g c = c.fill_cases.ensures.cases ∙ ap (λ (b : BrickAt). row_cases b.grid (heights b) b.brick c.args.y c.args.z) c.of-block.ensures

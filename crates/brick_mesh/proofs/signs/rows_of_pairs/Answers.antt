@@ -4,7 +4,7 @@ use Rattle.brick_mesh.proofs.RowSigns.{row_paired, rows_more, signs_low}
 use Rattle.brick_mesh.proofs.signs.rows_of_pairs.Goals as goal
 
 pub pairs_at-requires-clause-signs : goal.pairs_at-requires-clause-signs
-pairs_at-requires-clause-signs g c = signs_low _ _ _ (c.put_signs.ensures c.level.result c.bound_at.ensures)
+pairs_at-requires-clause-signs g c = signs_low _ _ _ (c.fill_signs.ensures c.level.result c.bound_at.ensures)
 
 pub loop-row-preserved : goal.loop-row-preserved
 loop-row-preserved g c =
@@ -12,8 +12,8 @@ loop-row-preserved g c =
     record {
       long = length-set c.loop-row.rows c.loop-row.row c.pairs_at.result ∙ c.loop-row.invariant.long;
       signs = rows_more c.args.block.now c.loop-row.rows c.loop-row.row c.pairs_at.result (omega arith) c.loop-row.invariant.signs
-          (row_paired c.args.block.now samples c.put_signs.new.into c.loop-row.row c.pairs_at.result c.loop-row-test.true c.requires
-          (c.put_signs.ensures c.level.result c.bound_at.ensures ∙ ap (λ level. map (sign_of level) samples) c.level.ensures) c.pairs_at.ensures);
+          (row_paired c.args.block.now samples c.fill_signs.new.into c.loop-row.row c.pairs_at.result c.loop-row-test.true c.requires
+          (c.fill_signs.ensures c.level.result c.bound_at.ensures ∙ ap (λ level. map (sign_of level) samples) c.level.ensures) c.pairs_at.ensures);
     }
 
 pub returns : goal.returns

@@ -29,7 +29,7 @@ source g c = record {
   values = c.args.values;
   from = c.place_in-from.result;
   row = c.high-high.result.x - c.low-low.result.x + 1;
-  layer = (c.high-high.result.x - c.low-low.result.x + 1) * (c.high-high.result.y - c.low-low.result.y + 1);
+  slice = (c.high-high.result.x - c.low-low.result.x + 1) * (c.high-high.result.y - c.low-low.result.y + 1);
 }
 
 -- where the first of them begins

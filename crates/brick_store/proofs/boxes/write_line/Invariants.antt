@@ -1,7 +1,7 @@
 use Rattle.std.proofs.Common.{◌+◌}
-use Rattle.brick_store.specs.Copies.{home}
+use Rattle.brick_store.specs.Copies.{first_brick_along}
 use Rattle.brick_store.specs.Boxes.{AreBoxWritten}
 use Rattle.brick_store.proofs.boxes.write_line.Given as goal
 
 abbrev pub invariant-loop-x : goal.invariant-loop-x
-invariant-loop-x g l = AreBoxWritten l.sizes l.area l.values (record { x = home l.area.low.x; x_end = l.x; y = l.y; y_end = l.y + 1; z = l.z; z_end = l.z + 1 }) (g.C.PackedList.list l.fn.copies) (g.C.PackedList.list l.copies)
+invariant-loop-x g l = AreBoxWritten l.sizes l.area l.values (record { x = first_brick_along l.area.low.x; x_end = l.x; y = l.y; y_end = l.y + 1; z = l.z; z_end = l.z + 1 }) (g.C.PackedList.list l.fn.copies) (g.C.PackedList.list l.copies)

@@ -11,5 +11,5 @@ returns g c =
     let p = c.args.p in
     let at = c.requires.point in
     let number : to_z w64 (of_z w64 c.at.result) ≡ c.at.result = search (rules, to_z-of_z) in
-    number ∙ (c.at.ensures ∙ (ap (sample list) c.home_place.ensures.value
+    number ∙ (c.at.ensures ∙ (ap (sample list) c.first_copy_place.ensures.value
     ∙ sample_at c.args.sizes.now list p at (index_in c.args.sizes.now p.x p.y p.z at.x at.y at.z)))

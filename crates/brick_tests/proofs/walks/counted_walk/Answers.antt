@@ -1,5 +1,5 @@
 use Rattle.std.proofs.Common.{refl}
-use Rattle.stitch_rows.proofs.LoopCases.{own_loops}
+use Rattle.brick_rows.proofs.LoopCases.{own_loops}
 use Rattle.brick_tests.proofs.walks.counted_walk.Goals as goal
 
 pub write_ply-requires-clause-named : goal.write_ply-requires-clause-named

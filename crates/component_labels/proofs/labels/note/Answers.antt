@@ -11,7 +11,7 @@ returns c =
     let low : ℕ = c.args.low in
     let high : ℕ = c.args.high in
     let e : c.extend_from_slice.new.self.items ≡ ps ++ (low, high) ∷ (high, low) ∷ [] = c.in_ok-extend_from_slice.ensures.items in
-    let room : length ps + 2 ≤ 4294967294 = omega (arith, c.if-len-gt-MOST.false, c.len.ensures) in
+    let room : length ps + 2 ≤ 4294967294 = omega (arith, c.if-len-gt-MOST_LABELS.false, c.len.ensures) in
     record {
       count = length-set c.args.met.now.items high low;
       known = subst (λ qs. AreMet qs (set c.args.met.now.items high low)) (sym e) (more_met ps c.args.met.now.items low high c.requires.known c.requires.low c.requires.high room);

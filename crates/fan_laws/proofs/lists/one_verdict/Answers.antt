@@ -1,4 +1,4 @@
-use Rattle.verdict_laws.proofs.Verdicts.{some_verdict, verdict_unique}
+use Rattle.triangle_laws.proofs.Verdicts.{some_verdict, verdict_unique}
 use Rattle.fan_laws.proofs.lists.one_verdict.Goals as goal
 
 pub returns : goal.returns

@@ -1,4 +1,4 @@
-use Rattle.verdict_laws.proofs.FanDecided.{fan_decided}
+use Rattle.triangle_laws.proofs.FanDecided.{fan_decided}
 use Rattle.fan_laws.proofs.lists.walk_decides_fan.Goals as goal
 
 pub returns : goal.returns

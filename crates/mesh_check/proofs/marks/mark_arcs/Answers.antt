@@ -20,15 +20,15 @@ loop-begin-preserved c =
     let e : drop (length arcs - length (c.loop-begin.yielded ++ c.in-Some.field-0 ∷ [])) arcs ≡ p ∷ rest
     = ap (λ k. drop (length arcs - k) arcs) more
     ∙ last_left arcs done p turn in
-    let n : length c.put_mark.new.marks ≡ length c.loop-begin.marks = search rules in
+    let n : length c.set_mark.new.marks ≡ length c.loop-begin.marks = search rules in
     let b : p.0 < length c.loop-begin.marks = subst (λ k. p.0 < k) (sym c.loop-begin.auto.marks) (last_item (ArcBelow (length c.args.marks.now)) arcs done p c.requires.vertices turn).0 in
     let o : c.least_twice-twice.result ≡ noted_of c.loop-begin.twice p.0 (begins rest p.0)
     = c.least_twice-twice.ensures ∙ ap (noted_of c.loop-begin.twice p.0) (owned_is c.loop-begin.marks c.args.stamp rest p.0 c.loop-begin.invariant.marked b) in
     record {
       can_next = tt;
       is_finite = tt;
-      marked = subst (IsMarked c.put_mark.new.marks c.args.stamp) (sym e) (marked_put c.loop-begin.marks c.put_mark.new.marks p.0 p.1 c.args.stamp rest n c.put_mark.ensures c.loop-begin.invariant.marked);
-      older = older_put c.loop-begin.marks c.put_mark.new.marks p.0 p.1 c.args.stamp rest n c.put_mark.ensures c.loop-begin.invariant.older;
+      marked = subst (IsMarked c.set_mark.new.marks c.args.stamp) (sym e) (marked_put c.loop-begin.marks c.set_mark.new.marks p.0 p.1 c.args.stamp rest n c.set_mark.ensures c.loop-begin.invariant.marked);
+      older = older_put c.loop-begin.marks c.set_mark.new.marks p.0 p.1 c.args.stamp rest n c.set_mark.ensures c.loop-begin.invariant.older;
       twice = subst (λ l. IsLeastTwice l c.least_twice-twice.result) (sym e) (subst (IsLeastTwice (p ∷ rest)) (sym o) (twice_put p.0 p.1 rest c.loop-begin.twice c.loop-begin.invariant.twice));
     }
 

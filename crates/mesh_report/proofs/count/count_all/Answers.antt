@@ -6,7 +6,7 @@ use Rattle.iso_defs.specs.Manifold.{HasThreeCorners, arcs, uses}
 use Rattle.iso_base.specs.Triangles.{IsBelow, triangles_of}
 use Rattle.arc_rings.specs.Arcs.{ArcBelow}
 use Rattle.arc_rings.proofs.ArcLaws.{all_of, arcs_few, length_is}
-use Rattle.mesh_report.specs.declared.tally.Tally.{Tally}
+use Rattle.mesh_report.specs.declared.tally.VertexTally.{VertexTally}
 use Rattle.mesh_report.specs.Meetings.{AreCounted}
 use Rattle.mesh_report.specs.Named.{named}
 use Rattle.mesh_report.specs.Report.{component, components}
@@ -153,7 +153,7 @@ loop-v-preserved c =
             let used : list_any (uses v) ts ≡ true = used_is ts v c.arcs_round-arcs.result.now ring c.is_empty.result c.is_empty.ensures ∙ ap not w.if-not-is_empty.true in
             let f : IsFound n ts c.args.names.now c.args.places.now v = found n ts c.args.names.now c.args.places.now c.requires.names c.requires.places v inside used in
             let r : ℕ = get_or c.args.places.now (get_or c.args.names.now v 0) 0 in
-            let t : Tally = get_or c.loop-v.tallies r (nothing_of 0) in
+            let t : VertexTally = get_or c.loop-v.tallies r (nothing_of 0) in
             w.tallies-is
             ∙ (ap (set c.loop-v.tallies r) (w.with.ensures ∙ ap (λ k. tally_with t k c.edges_from-edges.result) corners)
             ∙ each_more n ts d b v r f.place f.here c.edges_from-edges.result counted c.loop-v.tallies t c.loop-v.invariant.each

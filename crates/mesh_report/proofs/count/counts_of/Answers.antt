@@ -7,7 +7,7 @@ use Rattle.iso_base.specs.Triangles.{IsBelow, triangles_of}
 use Rattle.arc_rings.proofs.ArcLaws.{all_of, length_is}
 use Rattle.arc_rings.proofs.RingLaws.{written_back}
 use Rattle.mesh_report.specs.declared.part.Part.{Part}
-use Rattle.mesh_report.specs.declared.tally.Tally.{Tally}
+use Rattle.mesh_report.specs.declared.tally.VertexTally.{VertexTally}
 use Rattle.mesh_report.specs.Report.{components, Summary, total_of}
 use Rattle.mesh_report.specs.Tallies.{IsSmall, part_with, tally_of}
 use Rattle.mesh_report.proofs.BegunLaws.{ascending}
@@ -22,7 +22,7 @@ returns-clause-summary c =
     let b : AllByRecursion (IsBelow n) ts = all_of (IsBelow n) c.args.mesh.now.triangles c.vertex_count-vertices.ensures.mesh in
     let long : c.in_ok-each.each.len ≡ length c.count_all-total.new.tallies = search rules in
     let each = written_back c.in_ok-each.each.len c.count_all-total.new.tallies c.in_ok-each.each.items long ∙ c.count_all-total.ensures.each in
-    ap (λ (l : List Tally). summary (part_with c.count_all-total.result) (map part_with l)) each
+    ap (λ (l : List VertexTally). summary (part_with c.count_all-total.result) (map part_with l)) each
     ∙ (ap (λ p. summary p (map part_with (map (tally_of n ts n) (components n ts)))) (ap part_with c.count_all-total.ensures.total ∙ total_is n ts d b)
     ∙ ap (summary (total_of n ts)) (parts_are n ts d b (components n ts)))
   where

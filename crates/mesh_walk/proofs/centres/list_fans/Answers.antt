@@ -23,8 +23,8 @@ loop-k-init g c =
 pub of-requires : goal.of-requires
 of-requires g c = (case_of (g.H.Heights.leveled c.args.field.now) c.args.cells.now c.requires.cells c.loop-k.k c.loop-k-test.true).small
 
-pub put_fans-count-requires : goal.put_fans-count-requires
-put_fans-count-requires g c =
+pub fill_fans-count-requires : goal.fill_fans-count-requires
+fill_fans-count-requires g c =
     let v = g.H.Heights.leveled c.args.field.now in
     let low = place_low v c.args.cells.now c.requires.cells c.loop-k.k c.loop-k-test.true in
     record { room = omega (arith, low, c.loop-k.invariant.few, c.sizes.ensures.leveled.grid.x.most) }
@@ -41,12 +41,12 @@ loop-k-preserved g c =
     let case = ap row_loops c.of.ensures ∙ (case_of v cells are k more).loops in
     let tested = tested_at v cells are x (cell_low v cells are k more) in
     record {
-      few = omega (arith, c.put_fans-count.ensures.end, c.loop-k.invariant.few);
-      are = c.put_fans-count.ensures.put
+      few = omega (arith, c.fill_fans-count.ensures.end, c.loop-k.invariant.few);
+      are = c.fill_fans-count.ensures.put
           ∙ (ap (λ l. l ++ map (λ (l : ℕ × List ℕ). (x, fan_of l.1)) (row_centres c.of.result)) c.loop-k.invariant.are
           ∙ (sym (one_cell v start (gap v cells are k) x c.of.result (gap_before v cells are k more) (quiet_gap v cells are k more) tested case)
           ∙ ap (λ n. map by_numbers (row_fans v start n)) (sym (gap_next v cells are k more))));
-      low = c.put_fans-count.ensures.low c.loop-k.invariant.low;
+      low = c.fill_fans-count.ensures.low c.loop-k.invariant.low;
     }
 
 pub returns-clause-few : goal.returns-clause-few

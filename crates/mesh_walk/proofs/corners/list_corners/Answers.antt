@@ -12,8 +12,8 @@ pub loop-k-init : goal.loop-k-init
 unfolding corner_slots_to
 loop-k-init c = record { put = refl; count = refl; long = c.told-list; few = omega arith }
 
-pub put_corners-requires-clause-from : goal.put_corners-requires-clause-from
-put_corners-requires-clause-from c =
+pub fill_corners-requires-clause-from : goal.fill_corners-requires-clause-from
+fill_corners-requires-clause-from c =
     let n = c.of-case.result in
     let small : n < 656 = omega (arith, c.of-case.ensures, c.requires.cells.cases c.loop-k.k c.loop-k-test.true) in
     omega (arith, c.from-from.ensures, c.corners_before.ensures.value, corners_upto n small, all_count)
@@ -34,10 +34,10 @@ loop-k-preserved c =
     = ap (λ n. map slot (case_corners n)) (sym c.of-case.ensures) in
     let few : length (case_corners n) ≤ 36 = omega (arith, c.corner_count.ensures.value, c.corner_count.ensures.few) in
     record {
-      put = ap (λ m. take (c.loop-k.at + m) c.put_corners.new.list) count
-          ∙ (corners_put cells.y cells.z n c.args.table.now c.requires.table small c.loop-k.list c.put_corners.new.list c.loop-k.at far
+      put = ap (λ m. take (c.loop-k.at + m) c.fill_corners.new.list) count
+          ∙ (corners_put cells.y cells.z n c.args.table.now c.requires.table small c.loop-k.list c.fill_corners.new.list c.loop-k.at far
           (omega (arith, c.loop-k.invariant.few, c.loop-k.invariant.long, c.requires.cells.few, low)) (omega (arith, c.requires.cells.places k low)) few
-          (subst (λ from. take (c.loop-k.at + 40) c.put_corners.new.list ≡ take c.loop-k.at c.loop-k.list ++ map (λ s. lane_sum s far) (take 40 (drop from c.args.table.now))) (c.from-from.ensures ∙ c.corners_before.ensures.value) c.put_corners.ensures)
+          (subst (λ from. take (c.loop-k.at + 40) c.fill_corners.new.list ≡ take c.loop-k.at c.loop-k.list ++ map (λ s. lane_sum s far) (take 40 (drop from c.args.table.now))) (c.from-from.ensures ∙ c.corners_before.ensures.value) c.fill_corners.ensures)
           ∙ (ap (λ l. l ++ map slot (case_corners n)) c.loop-k.invariant.put ∙ (ap (λ l. corner_slots_to cells k ++ l) (sym row) ∙ sym more)));
       count = omega (
         arith,
@@ -48,6 +48,6 @@ loop-k-preserved c =
         count,
         c.loop-k.invariant.count,
       );
-      long = c.put_corners.array_long;
+      long = c.fill_corners.array_long;
       few = omega (arith, c.loop-k.invariant.few, count, few);
     }

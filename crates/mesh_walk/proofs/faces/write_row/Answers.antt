@@ -25,8 +25,8 @@ returns-then-not-find-clause-next g c =
 pub returns-clause-ready : goal.returns-clause-ready
 returns-clause-ready g c =
     let v = g.R.Heights.leveled c.args.rows.now in
-    let due = number_due c.args.walk.style v in
-    let ready : IsReady (text_at c.turn_to.new.self.slots.texts) due v c.turn_to.new.self.next = search rules in
+    let expected = number_due c.args.walk.style v in
+    let ready : IsReady (text_at c.move_to.new.self.slots.texts) expected v c.move_to.new.self.next = search rules in
     let texts = text_at c.write.new.self.texts.slots.texts in
-    subst (IsReady texts due v) (sym c.write.ensures.row)
-    (ready_still v c.sizes.ensures.leveled.grid (text_at c.turn_to.new.self.slots.texts) texts due c.write.ensures.edges c.turn_to.new.self.next ready)
+    subst (IsReady texts expected v) (sym c.write.ensures.row)
+    (ready_still v c.sizes.ensures.leveled.grid (text_at c.move_to.new.self.slots.texts) texts expected c.write.ensures.edges c.move_to.new.self.next ready)

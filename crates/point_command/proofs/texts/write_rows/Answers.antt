@@ -37,7 +37,7 @@ loop-number-preserved g c =
     let v = c.args.rows.now in
     record {
       texts = c.in_ok-write.ensures.texts;
-      signs = c.put_flags.ensures.signs;
-      flags = c.put_flags.auto.flags ∙ c.loop-number.invariant.flags;
+      signs = c.fill_flags.ensures.signs;
+      flags = c.fill_flags.auto.flags ∙ c.loop-number.invariant.flags;
       lines = row_staged v.grid (heights v) _ _ _ tt tt _ _ _ c.loop-number.number c.loop-number.invariant.lines c.in_ok-write.ensures.lines;
     }

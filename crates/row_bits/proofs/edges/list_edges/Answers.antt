@@ -9,12 +9,12 @@ pub loop-block-preserved : goal.loop-block-preserved
 loop-block-preserved c =
     let n = c.loop-block.block in
     record {
-      put = put_behind c.args.flags.now _ _ (32 * n) (32 * n) 32 (32 * (n + 1)) (omega arith) (omega arith) c.loop-block.invariant.put c.put_block-at.ensures.put;
-      end = omega (arith, c.put_block-at.ensures.end);
+      put = put_behind c.args.flags.now _ _ (32 * n) (32 * n) 32 (32 * (n + 1)) (omega arith) (omega arith) c.loop-block.invariant.put c.fill_block-at.ensures.put;
+      end = omega (arith, c.fill_block-at.ensures.end);
     }
 
 pub returns-clause-put : goal.returns-clause-put
 returns-clause-put c =
     let n = length c.args.flags.now in
-    let blocks = put_behind c.args.flags.now _ _ (32 * c.loop-block.block) (8 * (4 * (n / 32))) (8 * (n / 8 - 4 * (n / 32))) (8 * (n / 8)) (omega (arith, c.loop-block-test.false, c.loop-block.auto.block-end)) (omega arith) c.loop-block.invariant.put c.put_eights-at.ensures.put in
-    put_behind c.args.flags.now _ _ (8 * (n / 8)) (8 * (n / 8)) (n - 8 * (n / 8)) n (omega arith) (omega arith) blocks c.put_points.ensures.put
+    let blocks = put_behind c.args.flags.now _ _ (32 * c.loop-block.block) (8 * (4 * (n / 32))) (8 * (n / 8 - 4 * (n / 32))) (8 * (n / 8)) (omega (arith, c.loop-block-test.false, c.loop-block.auto.block-end)) (omega arith) c.loop-block.invariant.put c.fill_eights-at.ensures.put in
+    put_behind c.args.flags.now _ _ (8 * (n / 8)) (8 * (n / 8)) (n - 8 * (n / 8)) n (omega arith) (omega arith) blocks c.fill_points.ensures.put

@@ -1,6 +1,6 @@
 use Rattle.std.proofs.Common.{◌*◌, arith, map, rules}
 use Rattle.span_tree.specs.Spans.{row_of}
-use Rattle.span_tree.proofs.Copied.{layer_samples, one_more}
+use Rattle.span_tree.proofs.Copied.{slice_samples, one_more}
 use Rattle.span_tree.proofs.bricks.gather_eights.Goals as goal
 
 pub loop-y-preserved : goal.loop-y-preserved
@@ -10,4 +10,4 @@ loop-y-preserved g c =
 
 pub returns-clause-range : goal.returns-clause-range
 returns-clause-range g c =
-    layer_samples c.args.store.now c.args.brick.0 (map g.T.Packed.value c.args.copies.now) c.sizes.ensures.volume c.requires.brick c.requires.copies c.args.z c.requires.z
+    slice_samples c.args.store.now c.args.brick.0 (map g.T.Packed.value c.args.copies.now) c.sizes.ensures.volume c.requires.brick c.requires.copies c.args.z c.requires.z

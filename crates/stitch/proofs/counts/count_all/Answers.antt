@@ -1,11 +1,11 @@
 use Rattle.std.proofs.Common.{◌≡◌, ◌+◌, ◌*◌, ◌<◌, ◌≤◌, ◌∙◌, min, ap, ap₂, subst, sym, refl, arith, zero-add}
 use Rattle.iso_defs.specs.Bricks.{brick_count, entries}
 use Rattle.flat_mesh.specs.Lattice.{heights}
-use Rattle.stitch_rows.specs.Named.{Named, asked_among, counts_of_entries, row_cost}
+use Rattle.brick_rows.specs.Named.{Named, asked_among, counts_of_entries, row_cost}
 use Rattle.mesh_rows.specs.declared.counts.Counts.{Counts}
-use Rattle.stitch_rows.proofs.Asked.{asked_more, asked_one}
+use Rattle.brick_rows.proofs.Asked.{asked_more, asked_one}
 use Rattle.stitch.proofs.BrickCounts.{all_counted, asked_grow, brick_centres, brick_triangles, centres_fit, centres_stay, one_more, triangles_fit, triangles_stay}
-use Rattle.stitch_rows.proofs.Uptos.{upto}
+use Rattle.brick_rows.proofs.Uptos.{upto}
 use Rattle.stitch.proofs.counts.count_all.Goals as goal
 
 pub loop-brick-init : goal.loop-brick-init

@@ -1,9 +1,9 @@
 use Rattle.std.proofs.Common.{◌≡◌, ◌+◌, ◌-◌, ◌*◌, ◌<◌, ◌≤◌, true, min}
 use Rattle.iso_defs.specs.Bricks.{brick_count, is_active}
 use Rattle.flat_mesh.specs.Lattice.{heights}
-use Rattle.stitch_rows.specs.Named.{asked_among}
+use Rattle.brick_rows.specs.Named.{asked_among}
 use Rattle.stitch.proofs.BrickCounts.{brick_centres, brick_triangles}
-use Rattle.stitch_rows.proofs.Uptos.{upto}
+use Rattle.brick_rows.proofs.Uptos.{upto}
 use Rattle.stitch.proofs.counts.count_all.Given as goal
 
 abbrev pub invariant-loop-brick : goal.invariant-loop-brick

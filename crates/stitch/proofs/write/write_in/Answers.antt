@@ -6,7 +6,7 @@ use Rattle.byte_streams.specs.Seen.{Puts}
 use Rattle.flat_mesh.specs.Lattice.{Leveled, heights}
 use Rattle.flat_mesh.specs.Mesh.{mesh_of}
 use Rattle.mesh_lines.specs.Lines.{text_of, written_of}
-use Rattle.stitch_rows.specs.Named.{Named, asked_among}
+use Rattle.brick_rows.specs.Named.{Named, asked_among}
 use Rattle.stitch.specs.Kept.{StoreKept}
 use Rattle.stitch.proofs.AskedSums.{rows_cost}
 use Rattle.stitch.proofs.write.write_in.Goals as goal

@@ -12,7 +12,7 @@ asked : (each width count : ℕ) → each ≡ 2 * width → (needed : ℕ) → n
 asked each width count e needed f = rw (e, f) refl
 
 pub loop-place-init : goal.loop-place-init
-loop-place-init g c = ([], begins c.args.kind c.args.big c.args.count c.args.bytes.now, c.in_ok-samples.ensures)
+loop-place-init g c = ([], begins c.args.kind c.args.big_endian c.args.count c.args.bytes.now, c.in_ok-samples.ensures)
 
 pub returns-in_err-value-clause-err : goal.returns-in_err-value-clause-err
 returns-in_err-value-clause-err g c =
@@ -20,7 +20,7 @@ returns-in_err-value-clause-err g c =
     let each : 2 * c.from-each.result ≡ 2 * width_of c.args.kind = ap (λ n. 2 * n) width in
     let p = err_from_is_err_and c.from_residual-in_err-value.result c.from_residual-in_err-value.ensures.1 in
     rw (p.1, p.2) (fails_at c.in_err-value.field-0.0 _ (c.loop-place.invariant.1.read
-    ∙ ends_bad c.args.kind c.args.big c.args.count c.loop-place.invariant.0 c.loop-place.place c.loop-place.rest.now (omega arith) _ _
+    ∙ ends_bad c.args.kind c.args.big_endian c.args.count c.loop-place.invariant.0 c.loop-place.place c.loop-place.rest.now (omega arith) _ _
     (asked _ (width_of c.args.kind) c.args.count each _ (ap (λ n. n * c.args.count) each)) (ap (λ n. n * c.loop-place.place) each) c.in_err-value.field-0.0
     (sym c.in_err-value.ensures.value)))
 
@@ -33,7 +33,7 @@ loop-place-preserved g c =
       done ++ c.in_ok-value.value ∷ [],
       record {
         read = c.loop-place.invariant.1.read
-            ∙ goes_on c.args.kind c.args.big c.args.count done c.loop-place.place c.loop-place.rest.now (omega arith) _ _
+            ∙ goes_on c.args.kind c.args.big_endian c.args.count done c.loop-place.place c.loop-place.rest.now (omega arith) _ _
             (asked _ (width_of c.args.kind) c.args.count each _ (ap (λ n. n * c.args.count) each)) (ap (λ n. n * c.loop-place.place) each) c.in_ok-value.value _
             (sym c.in_ok-value.ensures.value);
         each = All-push (IsOfKind c.args.kind) done c.in_ok-value.value c.loop-place.invariant.1.each c.in_ok-value.ensures.range;
@@ -47,7 +47,7 @@ returns-clause-ok g c =
     record {
       samples = c.loop-place.invariant.0;
       read_is = c.loop-place.invariant.1.read
-          ∙ ends_here c.args.kind c.args.big c.args.count c.loop-place.invariant.0 c.loop-place.place c.loop-place.rest.now (omega arith);
+          ∙ ends_here c.args.kind c.args.big_endian c.args.count c.loop-place.invariant.0 c.loop-place.place c.loop-place.rest.now (omega arith);
       held = c.loop-place.invariant.2;
       each = c.loop-place.invariant.1.each;
       number = omega (arith, c.loop-place.invariant.1.number);

@@ -1,7 +1,7 @@
 use Rattle.std.proofs.Common.{◌≡◌, Ok, subst}
 use Rattle.std.proofs.lemmas.Result.{err_from_is_err_and}
 use Rattle.nrrd_read.specs.Nrrd.{nrrd_of}
-use Rattle.inner_volume.specs.Unpadded.{inner_voxels}
+use Rattle.unpadded_volume.specs.Unpadded.{inner_voxels}
 use Rattle.bench_core.specs.Keeping.{Workbench}
 use Rattle.bench_core.specs.Machine.{State}
 use Rattle.bench_core.specs.Texts.{hex_save}

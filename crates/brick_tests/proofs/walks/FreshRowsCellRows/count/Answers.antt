@@ -1,7 +1,7 @@
 use Rattle.std.proofs.Common.{◌∙◌, ap}
 use Rattle.brick_mesh.specs.Block.{BrickAt}
-use Rattle.stitch_rows.specs.Named.{counts_of_entries}
-use Rattle.kept_mesh.proofs.Counted.{are_cases}
+use Rattle.brick_rows.specs.Named.{counts_of_entries}
+use Rattle.cached_mesh.proofs.Counted.{are_cases}
 use Rattle.brick_tests.proofs.walks.FreshRowsCellRows.count.Goals as goal
 
 pub count_entries-requires-clause-cases : goal.count_entries-requires-clause-cases

@@ -20,17 +20,17 @@ loop-row-init g c =
 pub count_all_edges-count-requires-clause-flags : goal.count_all_edges-count-requires-clause-flags
 count_all_edges-count-requires-clause-flags g c =
     let v = c.args.self.now in
-    subst (All (λ f. f < 8)) (sym c.put_flags.ensures.flags) (all_flags_low v.grid (heights v) (v.grid.nx * c.loop-row.row) v.grid.nx)
+    subst (All (λ f. f < 8)) (sym c.fill_flags.ensures.flags) (all_flags_low v.grid (heights v) (v.grid.nx * c.loop-row.row) v.grid.nx)
 
 pub loop-row-preserved : goal.loop-row-preserved
 loop-row-preserved g c =
     let v = c.args.self.now in
-    let flags = c.put_flags.ensures.flags in
-    let long : length c.put_flags.new.flags ≡ v.grid.nx = ap length flags ∙ length-flags_from v.grid (heights v) (v.grid.nx * c.loop-row.row) v.grid.nx in
+    let flags = c.fill_flags.ensures.flags in
+    let long : length c.fill_flags.new.flags ≡ v.grid.nx = ap length flags ∙ length-flags_from v.grid (heights v) (v.grid.nx * c.loop-row.row) v.grid.nx in
     record {
       count = ap₂ (λ a b. a + b) c.loop-row.invariant.count (c.count_all_edges-count.ensures.value ∙ ap (sum_by edges_in) flags) ∙ sym (rank_of_row v.grid (heights v) c.loop-row.row);
       few = omega (arith, c.loop-row.invariant.few, c.count_all_edges-count.ensures.bound, long);
-      signs = c.put_flags.ensures.signs;
+      signs = c.fill_flags.ensures.signs;
       flags = long;
     }
 

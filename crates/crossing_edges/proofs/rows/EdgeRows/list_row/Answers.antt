@@ -19,25 +19,25 @@ list_edges-count-requires-clause-flags g c =
     let v = c.args.self.now in
     subst (All (λ f. f < 8)) (sym c.requires.flags) (all_flags_low v.grid (heights v) (v.grid.nx * c.args.row) v.grid.nx)
 
-pub shared_ref_as_front-put_places : goal.shared_ref_as_front-put_places
-shared_ref_as_front-put_places g c =
+pub shared_ref_as_front-fill_crossings : goal.shared_ref_as_front-fill_crossings
+shared_ref_as_front-fill_crossings g c =
     let v = c.args.self.now in
     let len = ap length c.requires.flags ∙ length-flags_from v.grid (heights v) (v.grid.nx * c.args.row) v.grid.nx in
     omega (arith, len, c.nx.ensures.grid.x.most, c.list_edges-count.ensures.count)
 
-pub put_places-requires-clause-edges : goal.put_places-requires-clause-edges
-put_places-requires-clause-edges g c =
+pub fill_crossings-requires-clause-edges : goal.fill_crossings-requires-clause-edges
+fill_crossings-requires-clause-edges g c =
     let v = c.args.self.now in
     subst (λ n. AreOffsets v (n * c.args.row) v.grid.nx (take c.list_edges-count.result c.list_edges-count.new.edges)) (sym c.nx.ensures.value)
     (offsets_of v.grid (heights v) (v.grid.nx * c.args.row) c.args.flags.now _ v.grid.nx c.requires.flags c.list_edges-count.ensures.put)
 
-pub put_places-requires-clause-points : goal.put_places-requires-clause-points
-put_places-requires-clause-points g c =
+pub fill_crossings-requires-clause-points : goal.fill_crossings-requires-clause-points
+fill_crossings-requires-clause-points g c =
     let v = c.args.self.now in
     subst (λ n. n * c.args.row + v.grid.nx ≤ point_count v.grid) (sym c.nx.ensures.value) (row_in v.grid c.args.row c.requires.row)
 
-pub put_places-requires-clause-few : goal.put_places-requires-clause-few
-put_places-requires-clause-few g c =
+pub fill_crossings-requires-clause-few : goal.fill_crossings-requires-clause-few
+fill_crossings-requires-clause-few g c =
     let v = c.args.self.now in
     let len = ap length c.requires.flags ∙ length-flags_from v.grid (heights v) (v.grid.nx * c.args.row) v.grid.nx in
     omega (arith, len, c.nx.ensures.grid.x.most, c.list_edges-count.ensures.count, length-take c.list_edges-count.result c.list_edges-count.new.edges)

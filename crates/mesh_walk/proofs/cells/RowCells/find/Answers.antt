@@ -22,4 +22,4 @@ returns-clause-most g c =
     let ny : c.ny.result ≡ v.grid.ny = c.ny.ensures.value ∙ ap (λ (g : Grid). g.ny) c.sizes-sizes.ensures.value in
     let nz : c.nz.result ≡ v.grid.nz = c.nz.ensures.value ∙ ap (λ (g : Grid). g.nz) c.sizes-sizes.ensures.value in
     let same = cost_is v.grid (g.R.MeshRows.row_cost (g.R.MeshRows.kept c.args.rows.now)) c.args.y c.args.z (omega (arith, c.requires.y, c.if-y-ny.false, ny)) (omega (arith, c.requires.z, c.if-z-nz.false, nz)) in
-    subst (λ n. g.R.MeshRows.spent c.turn_to.new.rows ≤ g.R.MeshRows.spent c.args.rows.now + n) (sym same) c.turn_to.ensures.most
+    subst (λ n. g.R.MeshRows.spent c.move_to.new.rows ≤ g.R.MeshRows.spent c.args.rows.now + n) (sym same) c.move_to.ensures.most

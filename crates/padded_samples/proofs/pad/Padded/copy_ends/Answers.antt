@@ -9,8 +9,8 @@ use Rattle.padded_samples.proofs.PadRows.{after_part, before_part, inner_part}
 use Rattle.padded_samples.proofs.Parts.{along_part}
 use Rattle.padded_samples.proofs.pad.Padded.copy_ends.Goals as goal
 
-pub put_pad-requires-clause-fits : goal.put_pad-requires-clause-fits
-put_pad-requires-clause-fits g c = λ some.
+pub fill_pad-requires-clause-fits : goal.fill_pad-requires-clause-fits
+fill_pad-requires-clause-fits g c = λ some.
     let p = c.args.self.now in
     let q = c.args.row in
     let n = length c.args.into.now in
@@ -24,8 +24,8 @@ put_pad-requires-clause-fits g c = λ some.
     c.points_before-first.ensures.first c.points_before-first.ensures.none (omega (arith, c.min-last.ensures, wide)) some in
     subst g.T.Packed.Fits (at ∙ sym (back ∙ ap (λ (r : InPad). r.pad) c.self.view_is)) (c.requires.fits 0 low)
 
-pub put_pad-requires-2-clause-fits : goal.put_pad-requires-2-clause-fits
-put_pad-requires-2-clause-fits g c = λ some.
+pub fill_pad-requires-2-clause-fits : goal.fill_pad-requires-2-clause-fits
+fill_pad-requires-2-clause-fits g c = λ some.
     let p = c.args.self.now in
     let q = c.args.row in
     let n = length c.args.into.now in
@@ -78,8 +78,8 @@ returns-then-first-last g c = λ i low.
     let ends : last ≡ min (p.grid.nx + 1 - x) n = omega (arith, c.min-last.ensures, wide) in
     let pad_is = back ∙ ap (λ (r : InPad). r.pad) c.self.view_is in
     elim (cases_lt i first) [
-      | inl before ↦ c.copy_inside.ensures.others i (inl before) ∙ c.put_pad-2.ensures.others i (inl (omega (arith, before, c.if-first-last.true)))
-          ∙ c.put_pad.ensures.inside i (omega arith) before ∙ pad_is
+      | inl before ↦ c.copy_inside.ensures.others i (inl before) ∙ c.fill_pad-2.ensures.others i (inl (omega (arith, before, c.if-first-last.true)))
+          ∙ c.fill_pad.ensures.inside i (omega arith) before ∙ pad_is
           ∙ sym (before_part p x y z (index_of p.grid q) n first last i is c.requires.row low c.points_before-first.ensures.first c.points_before-first.ensures.none ends before)
       | inr from ↦ elim (cases_lt i last) [
         | inl inside ↦ (
@@ -94,7 +94,7 @@ returns-then-first-last g c = λ i low.
             ∙ ap (λ (r : InPad). sample r.samples (index c.self.inside.sizes (x + first - 1) q.y q.z + k)) c.self.view_is
             ∙ ap (sample p.samples) (sym (along_part p.grid c.self.inside.sizes q x first k same begun.1 some) ∙ ap (λ (j : ℕ). index_of p.grid q + (x + j - 1)) at)
             ∙ sym (inner_part p x y z (index_of p.grid q) n first last i is c.requires.row low c.points_before-first.ensures.first c.points_before-first.ensures.none ends from inside))
-        | inr after ↦ c.copy_inside.ensures.others i (inr (omega (arith, after, c.if-first-last.true))) ∙ c.put_pad-2.ensures.inside i after low ∙ pad_is
+        | inr after ↦ c.copy_inside.ensures.others i (inr (omega (arith, after, c.if-first-last.true))) ∙ c.fill_pad-2.ensures.inside i after low ∙ pad_is
             ∙ sym (after_part p x y z (index_of p.grid q) n first last i is c.requires.row low c.points_before-first.ensures.first c.points_before-first.ensures.none ends after)
       ]
     ]

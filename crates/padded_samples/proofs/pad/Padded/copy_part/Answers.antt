@@ -8,8 +8,8 @@ use Rattle.padded_samples.proofs.PadRows.{inner_part, pad_part}
 use Rattle.padded_samples.proofs.Parts.{along_inner}
 use Rattle.padded_samples.proofs.pad.Padded.copy_part.Goals as goal
 
-pub put_pad-requires-clause-fits : goal.put_pad-requires-clause-fits
-put_pad-requires-clause-fits g c = λ some.
+pub fill_pad-requires-clause-fits : goal.fill_pad-requires-clause-fits
+fill_pad-requires-clause-fits g c = λ some.
     let p = c.args.self.now in
     let same : p.grid ≡ c.self.inside.sizes = sym (ap (λ (q : InPad). q.grid) c.self.view_is) in
     let back : to_z w64 (of_z w64 c.self.inside.pad) ≡ c.self.inside.pad = search (rules, to_z-of_z) in
@@ -23,7 +23,7 @@ returns-in_default g c = λ i low.
     let same : p.grid ≡ c.self.inside.sizes = sym (ap (λ (q : InPad). q.grid) c.self.view_is) in
     let back : to_z w64 (of_z w64 c.self.inside.pad) ≡ c.self.inside.pad = search (rules, to_z-of_z) in
     let is : IsPadRow p (c.args.point.y + (p.grid.ny + 2) * c.args.point.z) = c.inner_row.ensures.none p same c.in_default.is in
-    c.put_pad.ensures.inside i (omega arith) low ∙ back ∙ ap (λ (q : InPad). q.pad) c.self.view_is
+    c.fill_pad.ensures.inside i (omega arith) low ∙ back ∙ ap (λ (q : InPad). q.pad) c.self.view_is
     ∙ sym (pad_part p c.args.point.x c.args.point.y c.args.point.z i is (omega (arith, c.requires.row, low)))
 
 pub copy_inside-requires-clause-point : goal.copy_inside-requires-clause-point

@@ -4,9 +4,9 @@ use Rattle.iso_defs.specs.Contours.{line_from}
 use Rattle.plane_laws.specs.Sides.{slot_name}
 use Rattle.plane_laws.proofs.Squares.{single}
 use Rattle.plane_laws.proofs.Steps.{going_start, going_on, goes, stops_back, stops_end}
-use Rattle.verdict_laws.proofs.Lists.{In}
-use Rattle.verdict_laws.proofs.Counts.{pair_in}
-use Rattle.verdict_laws.proofs.FanWalk.{ends_from}
+use Rattle.triangle_laws.proofs.Lists.{In}
+use Rattle.triangle_laws.proofs.Counts.{pair_in}
+use Rattle.triangle_laws.proofs.FanWalk.{ends_from}
 use Rattle.plane_contour.specs.Planes.{field_of, name_at, pairs_of}
 use Rattle.plane_contour.specs.Points.{point_at}
 use Rattle.plane_contour.proofs.Texts.{near_more}

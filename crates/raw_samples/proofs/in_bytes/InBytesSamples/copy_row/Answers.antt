@@ -11,9 +11,9 @@ pub read_run-requires-clause-room : goal.read_run-requires-clause-room
 read_run-requires-clause-room g c =
     let r = c.self.inside in
     let n = length c.args.into.now in
-    let all : length c.args.self.now ≡ r.count = sym (ap length c.self.view_is) ∙ length_samples g.K.Lies.kind g.K.Lies.big r.bytes.now r.count in
+    let all : length c.args.self.now ≡ r.count = sym (ap length c.self.view_is) ∙ length_samples g.K.SampleFormat.kind g.K.SampleFormat.big_endian r.bytes.now r.count in
     let row : index_of c.args.sizes.now c.args.point + n ≤ point_count c.args.sizes.now = row_in c.args.sizes.now c.args.point c.requires.point n c.requires.row in
-    room_for (width_of g.K.Lies.kind) (c.index.result + n) r.count (length r.bytes.now) (omega (arith, all, row, c.requires.count, c.index.ensures.value)) c.self.invariant.room
+    room_for (width_of g.K.SampleFormat.kind) (c.index.result + n) r.count (length r.bytes.now) (omega (arith, all, row, c.requires.count, c.index.ensures.value)) c.self.invariant.room
 
 pub read_run-requires-clause-few : goal.read_run-requires-clause-few
 read_run-requires-clause-few g c =
@@ -25,10 +25,10 @@ read_run-requires-clause-fits g c =
     let r = c.self.inside in
     let n = length c.args.into.now in
     let i = c.index.result in
-    let all : length c.args.self.now ≡ r.count = sym (ap length c.self.view_is) ∙ length_samples g.K.Lies.kind g.K.Lies.big r.bytes.now r.count in
+    let all : length c.args.self.now ≡ r.count = sym (ap length c.self.view_is) ∙ length_samples g.K.SampleFormat.kind g.K.SampleFormat.big_endian r.bytes.now r.count in
     let row : index_of c.args.sizes.now c.args.point + n ≤ point_count c.args.sizes.now = row_in c.args.sizes.now c.args.point c.requires.point n c.requires.row in
     let P : List ℤ → Type 0 = All g.T.Packed.Fits in
-    subst P (sym (run_at g.K.Lies.kind g.K.Lies.big r.bytes.now r.count i n (omega (arith, all, row, c.requires.count, c.index.ensures.value))
+    subst P (sym (run_at g.K.SampleFormat.kind g.K.SampleFormat.big_endian r.bytes.now r.count i n (omega (arith, all, row, c.requires.count, c.index.ensures.value))
     ∙ ap (λ l. take n (drop i l)) c.self.view_is ∙ ap (λ (i : ℕ). take n (drop i c.args.self.now)) c.index.ensures.value)) c.requires.fits
 
 pub returns : goal.returns
@@ -36,7 +36,7 @@ returns g c =
     let r = c.self.inside in
     let n = length c.args.into.now in
     let i = c.index.result in
-    let all : length c.args.self.now ≡ r.count = sym (ap length c.self.view_is) ∙ length_samples g.K.Lies.kind g.K.Lies.big r.bytes.now r.count in
+    let all : length c.args.self.now ≡ r.count = sym (ap length c.self.view_is) ∙ length_samples g.K.SampleFormat.kind g.K.SampleFormat.big_endian r.bytes.now r.count in
     let row : index_of c.args.sizes.now c.args.point + n ≤ point_count c.args.sizes.now = row_in c.args.sizes.now c.args.point c.requires.point n c.requires.row in
-    c.read_run.ensures ∙ run_at g.K.Lies.kind g.K.Lies.big r.bytes.now r.count i n (omega (arith, all, row, c.requires.count, c.index.ensures.value))
+    c.read_run.ensures ∙ run_at g.K.SampleFormat.kind g.K.SampleFormat.big_endian r.bytes.now r.count i n (omega (arith, all, row, c.requires.count, c.index.ensures.value))
     ∙ ap (λ l. take n (drop i l)) c.self.view_is ∙ ap (λ (i : ℕ). take n (drop i c.args.self.now)) c.index.ensures.value

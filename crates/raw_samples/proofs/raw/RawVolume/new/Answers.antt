@@ -12,7 +12,7 @@ invariant_of-result c =
       room = c.requires;
       voxels = record {
         grid = c.nx.ensures.grid;
-        count = length_samples a.kind a.big a.bytes.now n;
-        each = each_in_kind a.kind a.big a.bytes.now n (samples_in a.kind a.big a.bytes.now n) (λ i. omega (arith, c.type_inv.bytes i)) refl;
+        count = length_samples a.kind a.big_endian a.bytes.now n;
+        each = each_in_kind a.kind a.big_endian a.bytes.now n (samples_in a.kind a.big_endian a.bytes.now n) (λ i. omega (arith, c.type_inv.bytes i)) refl;
       };
     }

@@ -1,8 +1,8 @@
 use Rattle.std.proofs.Common.{sym, subst}
 use Rattle.flat_mesh.specs.Lattice.{heights}
 use Rattle.mesh_rows.specs.Rows.{AreCases}
-use Rattle.stitch_rows.specs.Named.{NamesCases}
-use Rattle.stitch_rows.proofs.NextBricks.{at_row}
+use Rattle.brick_rows.specs.Named.{NamesCases}
+use Rattle.brick_rows.proofs.NextBricks.{at_row}
 use Rattle.stitch.proofs.store.StoreRows.case_cells.Goals as goal
 
 pub invariant_of-self : goal.invariant_of-self

@@ -1,0 +1,20 @@
+use Rattle.std.proofs.Common.{refl}
+use Rattle.arguments.specs.Words.{session_of}
+use Rattle.arguments.proofs.read.session.Goals as goal
+
+pub returns-then-not-only_options-clause-value : goal.returns-then-not-only_options-clause-value
+unfolding session_of
+returns-then-not-only_options-clause-value c = rw (← c.if-not-only_options.ensures) refl
+
+pub returns-clause-value : goal.returns-clause-value
+unfolding session_of
+returns-clause-value c =
+    rw (
+      ← c.if-not-only_options.ensures,
+      c.in-Once.ensures,
+      ← c.in_ok-name.ensures,
+      ← c.in_ok-level.ensures,
+      ← c.in_ok-pad.ensures.value,
+      ← c.in_ok-bricks.ensures.value,
+      ← c.in_ok-pages.ensures.value,
+    ) refl

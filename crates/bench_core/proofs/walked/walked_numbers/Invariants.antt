@@ -1,4 +1,0 @@
-use Rattle.bench_core.proofs.walked.walked_numbers.Given as goal
-
-abbrev pub ghosts-counted_numbers : goal.ghosts-counted_numbers
-ghosts-counted_numbers a = record { name = a.blank.name; parts = a.blank.parts }

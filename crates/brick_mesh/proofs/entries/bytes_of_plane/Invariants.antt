@@ -1,6 +1,0 @@
-use Rattle.std.proofs.Common.{◌*◌}
-use Rattle.brick_mesh.specs.Signs.{ArePlane}
-use Rattle.brick_mesh.proofs.entries.bytes_of_plane.Given as goal
-
-abbrev pub invariant-loop-y : goal.invariant-loop-y
-invariant-loop-y l = record { plane : ArePlane l.block l.z (8 * l.y) l.bytes }

@@ -1,0 +1,16 @@
+use Rattle.std.proofs.Common.{map, of_z, refl, w16}
+use Rattle.iso_base.specs.declared.kind.SampleKind.TheVariants.{I16}
+use Rattle.row_bits.proofs.Lanes.{lanes_from}
+use Rattle.brick_rows.proofs.EightLanes.{at_most, kind_fits, lanes_long, narrowed, of_sixteen, signed_are, signs_fit}
+use Rattle.brick_rows.proofs.lanes.I16Lanes.signs_at.Goals as goal
+
+pub overflow_cast-result : goal.overflow_cast-result
+overflow_cast-result c =
+    let run = c.args.run.now in
+    signs_fit w16 (at_most w16) (of_z w16 c.args.bound) (map (of_z w16) (lanes_from 8 run c.args.at))
+    (lanes_long w16 run c.args.at c.args.bound c.requires.room c.ranges.bound (kind_fits w16 I16 run of_sixteen c.requires.fits))
+
+pub returns : goal.returns
+returns c =
+    let run = c.args.run.now in
+    narrowed _ _ (λ a. refl) (signed_are w16 run c.args.at c.args.bound c.requires.room c.ranges.bound (kind_fits w16 I16 run of_sixteen c.requires.fits))

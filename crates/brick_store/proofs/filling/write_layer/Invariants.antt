@@ -1,6 +1,0 @@
-use Rattle.std.proofs.Common.{◌+◌, ◌*◌}
-use Rattle.brick_store.specs.Gathered.{AreBegun}
-use Rattle.brick_store.proofs.filling.write_layer.Given as goal
-
-abbrev pub invariant-loop-row : goal.invariant-loop-row
-invariant-loop-row g l = AreBegun l.sizes (g.S.Samples.list l.samples) l.fn.brick.0 (81 * l.fn.layer + 9 * l.row) (g.C.PackedList.list l.copies)

@@ -1,0 +1,4 @@
+pub mod Kept
+pub mod Texts
+pub mod Slices
+pub mod Writers

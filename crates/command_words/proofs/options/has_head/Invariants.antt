@@ -1,6 +1,0 @@
-use Rattle.std.proofs.Common.{◌≡◌, map, drop}
-use Rattle.command_words.specs.Options.{has_head}
-use Rattle.command_words.proofs.options.has_head.Given as goal
-
-abbrev pub invariant-loop-head : goal.invariant-loop-head
-invariant-loop-head l = has_head (map (λ h. h.now) (drop l.head-index l.heads)) l.word ≡ has_head (map (λ h. h.now) l.heads) l.word

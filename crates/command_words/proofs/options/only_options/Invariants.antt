@@ -1,7 +1,0 @@
-use Rattle.std.proofs.Common.{◌≡◌, map, drop, string_bytes}
-use Rattle.command_words.specs.Options.{only_options}
-use Rattle.command_words.proofs.options.only_options.Given as goal
-
-abbrev pub invariant-loop-word : goal.invariant-loop-word
-invariant-loop-word l =
-    only_options (map (λ h. h.now) l.heads) (map string_bytes (drop l.word-index l.words)) ≡ only_options (map (λ h. h.now) l.heads) (map string_bytes l.words)

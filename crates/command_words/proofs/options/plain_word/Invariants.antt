@@ -1,6 +1,0 @@
-use Rattle.std.proofs.Common.{map, take, string_bytes}
-use Rattle.command_words.specs.Options.{IsFound, plain_words}
-use Rattle.command_words.proofs.options.plain_word.Given as goal
-
-abbrev pub invariant-loop-word : goal.invariant-loop-word
-invariant-loop-word l = IsFound l.found (plain_words (map string_bytes (take l.word-index l.words)))

@@ -1,6 +1,0 @@
-use Rattle.std.proofs.Common.{map, take, string_bytes}
-use Rattle.command_words.specs.Options.{IsFound, values}
-use Rattle.command_words.proofs.options.value_of.Given as goal
-
-abbrev pub invariant-loop-word : goal.invariant-loop-word
-invariant-loop-word l = IsFound l.found (values l.head (map string_bytes (take l.word-index l.words)))

@@ -1,5 +1,0 @@
-use Rattle.inner_volume.proofs.ReadAgain.{saved_is_read}
-use Rattle.inner_volume.proofs.saved.write_volume.Goals as goal
-
-pub returns-clause-read_again : goal.returns-clause-read_again
-returns-clause-read_again g c = saved_is_read c.args.store.now c.sizes.ensures.volume

@@ -1,4 +1,0 @@
-pub mod Kept
-pub mod Texts
-pub mod Planes
-pub mod Writers

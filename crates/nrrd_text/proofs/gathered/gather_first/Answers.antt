@@ -1,8 +1,0 @@
-use Rattle.std.proofs.lemmas.Result.{err_from_is_err_and}
-use Rattle.byte_streams.proofs.Staging.{stages_first}
-use Rattle.nrrd_text.proofs.gathered.gather_first.Goals as goal
-
-pub returns-in_err-make_room-clause-staged : goal.returns-in_err-make_room-clause-staged
-returns-in_err-make_room-clause-staged g c =
-    let p = err_from_is_err_and c.from_residual.result c.from_residual.ensures.1 in
-    rw p.1 (stages_first _ _ _ _ _ _ _ _ _ c.in_err-make_room.ensures.staged)

@@ -1,0 +1,15 @@
+pub mod QuietCases
+pub mod Numbered
+pub mod SignRows
+pub mod RowPlaces
+pub mod Corners
+pub mod RowCases
+pub mod Counted
+pub mod Ends
+pub mod PointEnds
+pub mod PutCases
+pub mod SameBytes
+pub mod Listed
+pub mod StoredRows
+pub mod Views
+pub mod KeptParts

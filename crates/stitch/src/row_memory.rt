@@ -1,0 +1,280 @@
+//! What is known of the rows of a volume in bricks.
+ghost use Rattle.std.specs.Prelude.{◌≡◌, ◌+◌, ◌*◌, ◌/◌, ◌^◌, ◌<◌, ◌≤◌, ◌++◌, IfSome, drop, length, take};
+ghost use Rattle.mesh_rows.specs.Rows.{AreActive, AreEdges, row_names, row_places};
+ghost use Rattle.brick_rows.specs.Bricks.{AreMarked};
+ghost use Rattle.stitch.specs.Recent.{AreKnown};
+
+use crate::recent::{ListRoom, RecentLists};
+use brick_rows::{ActiveRow, BricksAtLevel, flag_row, place_row};
+use iso_base::{LONGEST_ROW, ROW_EDGES};
+use row_bits::list_edges;
+
+/// Whether a slice of points lies in a slice of bricks of even number.
+#[inline(always)]
+pub fn is_even(z: u32) -> bool {
+    z / 8 % 2 == 0
+}
+
+/// Under which key the crossing edges of a row of points are kept. Under the next one it is where these are crossed, and under the one
+/// behind the active cells of the row of cells.
+#[inline(always)]
+fn edges_key(field: &BricksAtLevel, y: u32, z: u32) -> u32
+    requires y { y < field.now.grid.ny }
+    requires z { z < field.now.grid.nz }
+    ensures value { result ≡ 3 * (y + field.now.grid.ny * z) }
+    ensures low { result + 2 < 2 ^ 23 }
+{
+    3 * (y + field.sizes().ny() * z)
+}
+
+/// Writes a list at the front of a buffer, and says how long it is.
+#[inline(always)]
+fn fill_front(list: &[u16], buffer: &mut [u16; ROW_EDGES]) -> usize
+    requires few { length list.now ≤ 3078 }
+    ensures count { result ≡ length list.now }
+    ensures list { take result buffer.new ≡ list.now }
+{
+    buffer[..list.len()].copy_from_slice(list);
+    list.len()
+}
+
+/// Writes some cells and their cases one behind the other, and says how many numbers these are.
+#[inline(always)]
+fn join_cells(places: &[u16], cases: &[u16], list: &mut [u16; ROW_EDGES]) -> usize
+    requires few { length places.now ≤ 1026 }
+    requires same { length cases.now ≡ length places.now }
+    ensures count { result ≡ 2 * length places.now }
+    ensures list { take result list.new ≡ places.now ++ cases.now }
+{
+    let count = places.len();
+    list[..count].copy_from_slice(places);
+    list[count..2 * count].copy_from_slice(cases);
+    2 * count
+}
+
+/// The reverse, at the front of two buffers.
+#[inline(always)]
+fn part_cells(
+    list: &[u16],
+    places: &mut [u16; LONGEST_ROW],
+    cases: &mut [u16; LONGEST_ROW],
+) -> usize
+    requires few { length list.now ≤ 2052 }
+    ensures count { result ≡ length list.now / 2 }
+    ensures places { take result places.new ≡ take result list.now }
+    ensures cases { take result cases.new ≡ take result (drop result list.now) }
+{
+    let count = list.len() / 2;
+    places[..count].copy_from_slice(&list[..count]);
+    cases[..count].copy_from_slice(&list[count..2 * count]);
+    count
+}
+
+/// Lists the crossing edges that begin in a row of points whose bricks are marked, and says how many there are. `flags` is a buffer.
+fn list_marked(
+    field: &BricksAtLevel,
+    active: &ActiveRow,
+    flags: &mut [u8; LONGEST_ROW],
+    edges: &mut [u16; ROW_EDGES],
+) -> usize
+    requires active { AreMarked field.now active.now }
+    requires y { active.now.y < field.now.grid.ny }
+    requires z { active.now.z < field.now.grid.nz }
+    ensures few { result ≤ 3 * field.now.grid.nx }
+    ensures edges { AreEdges field.now active.now.y active.now.z (take result edges.new) }
+{
+    if active.is_still(field) {
+        return 0;
+    }
+    let nx = field.sizes().nx() as usize;
+    flag_row(field, active, &mut flags[..nx]);
+    list_edges(&flags[..nx], edges)
+}
+
+/// What is known of the rows of a volume: the lists of those that were asked for last, buffers for the flags and the crossing edges of
+/// one, and the bricks that hold those rows, in slices of bricks of even and of odd number: a traversal goes to and fro between two slices
+/// of points.
+#[derive(Drop)]
+pub struct KnownRows<'a> {
+    pub even: ActiveRow,
+    pub odd: ActiveRow,
+    pub recent: RecentLists<'a>,
+    flags: [u8; LONGEST_ROW],
+    list: [u16; ROW_EDGES],
+}
+
+impl<'a> KnownRows<'a> {
+    /// Nothing is known.
+    pub fn new(field: &BricksAtLevel, room: ListRoom<'a>) -> KnownRows<'a>
+        ensures { AreKnown field.now result }
+    {
+        // Reading the sizes brings in what is true of every volume at a level.
+        let _ = field.sizes();
+        KnownRows {
+            even: ActiveRow::new(),
+            odd: ActiveRow::new(),
+            recent: RecentLists::new(room),
+            flags: [0; LONGEST_ROW],
+            list: [0; ROW_EDGES],
+        }
+    }
+
+    /// Lists the crossing edges of a row of points, and says how many there are.
+    fn list_anew(&mut self, field: &BricksAtLevel, y: u32, z: u32) -> usize
+        requires y { y < field.now.grid.ny }
+        requires z { z < field.now.grid.nz }
+        requires known { AreKnown field.now self.old }
+        ensures few { result ≤ 3 * field.now.grid.nx }
+        ensures edges { AreEdges field.now y z (take result self.new.list) }
+        ensures known { AreKnown field.now self.new }
+    {
+        if is_even(z) {
+            self.even.mark(field, y, z);
+            list_marked(field, &self.even, &mut self.flags, &mut self.list)
+        } else {
+            self.odd.mark(field, y, z);
+            list_marked(field, &self.odd, &mut self.flags, &mut self.list)
+        }
+    }
+
+    /// Lists the crossing edges of a row of points, keeps them under their key, and says how many there are.
+    fn keep_edges(&mut self, field: &BricksAtLevel, y: u32, z: u32, key: u32) -> usize
+        requires y { y < field.now.grid.ny }
+        requires z { z < field.now.grid.nz }
+        requires known { AreKnown field.now self.old }
+        requires key { key ≡ 3 * (y + field.now.grid.ny * z) }
+        requires low { key < 2 ^ 23 }
+        ensures few { result ≤ 3 * field.now.grid.nx }
+        ensures edges { AreEdges field.now y z (take result self.new.list) }
+        ensures known { AreKnown field.now self.new }
+    {
+        // Reading the sizes brings in what is true of every volume at a level.
+        let _ = field.sizes();
+        let count = self.list_anew(field, y, z);
+        if count == 0 {
+            // A walk does not come back to a row without crossing edges.
+            return count;
+        }
+        self.recent.put(key, &self.list[..count]);
+        count
+    }
+
+    /// How many crossing edges begin in a row of points.
+    pub fn count_edges(&mut self, field: &BricksAtLevel, y: u32, z: u32) -> u32
+        requires y { y < field.now.grid.ny }
+        requires z { z < field.now.grid.nz }
+        requires known { AreKnown field.now self.old }
+        ensures count { result ≡ length (row_names field.now y z) }
+        ensures known { AreKnown field.now self.new }
+    {
+        // Reading the sizes brings in what is true of every volume at a level.
+        let _ = field.sizes();
+        let key = edges_key(field, y, z);
+        if self.recent.has(key) {
+            return self.recent.list(key).len() as u32;
+        }
+        let count = self.keep_edges(field, y, z, key);
+        self.list[..count].len() as u32
+    }
+
+    /// Lists the crossing edges of a row of points, and says how many there are.
+    pub fn list_edges(
+        &mut self,
+        field: &BricksAtLevel,
+        y: u32,
+        z: u32,
+        edges: &mut [u16; ROW_EDGES],
+    ) -> usize
+        requires y { y < field.now.grid.ny }
+        requires z { z < field.now.grid.nz }
+        requires known { AreKnown field.now self.old }
+        ensures few { result ≤ 3 * field.now.grid.nx }
+        ensures edges { AreEdges field.now y z (take result edges.new) }
+        ensures known { AreKnown field.now self.new }
+    {
+        // Reading the sizes brings in what is true of every volume at a level.
+        let _ = field.sizes();
+        let key = edges_key(field, y, z);
+        if self.recent.has(key) {
+            return fill_front(self.recent.list(key), edges);
+        }
+        let count = self.keep_edges(field, y, z, key);
+        fill_front(&self.list[..count], edges)
+    }
+
+    /// Fills in where the crossing edges of a row are crossed.
+    pub fn fill_places(
+        &mut self,
+        field: &BricksAtLevel,
+        y: u32,
+        z: u32,
+        edges: &[u16],
+        places: &mut [u16],
+    )
+        requires y { y < field.now.grid.ny }
+        requires z { z < field.now.grid.nz }
+        requires known { AreKnown field.now self.old }
+        requires edges { AreEdges field.now y z edges.now }
+        requires count { length places.old ≡ length edges.now }
+        ensures places { places.new ≡ row_places field.now y z }
+        ensures known { AreKnown field.now self.new }
+    {
+        // Reading the sizes brings in what is true of every volume at a level.
+        let _ = field.sizes();
+        let key = edges_key(field, y, z) + 1;
+        if self.recent.has(key) {
+            places.copy_from_slice(self.recent.list(key));
+            return;
+        }
+        place_row(field, y, z, edges, places);
+        self.recent.put(key, places);
+    }
+
+    /// Lists the active cells of a row with their cases, and says how many there are, if that is known.
+    #[inline(always)]
+    pub fn find_cells(
+        &self,
+        field: &BricksAtLevel,
+        y: u32,
+        z: u32,
+        places: &mut [u16; LONGEST_ROW],
+        cases: &mut [u16; LONGEST_ROW],
+    ) -> Option<usize>
+        requires y { y < field.now.grid.ny }
+        requires z { z < field.now.grid.nz }
+        requires known { AreKnown field.now self.now }
+        ensures cells { IfSome result (λ n. AreActive field.now y z (take n places.new) (take n cases.new)) }
+        ensures few { IfSome result (λ n. n < field.now.grid.nx) }
+    {
+        // Reading the sizes brings in what is true of every volume at a level.
+        let _ = field.sizes();
+        let key = edges_key(field, y, z) + 2;
+        if self.recent.has(key) {
+            return Some(part_cells(self.recent.list(key), places, cases));
+        }
+        None
+    }
+
+    /// Keeps the active cells of a row with their cases.
+    pub fn keep_cells(
+        &mut self,
+        field: &BricksAtLevel,
+        y: u32,
+        z: u32,
+        places: &[u16],
+        cases: &[u16],
+    )
+        requires y { y < field.now.grid.ny }
+        requires z { z < field.now.grid.nz }
+        requires known { AreKnown field.now self.old }
+        requires few { length places.now < field.now.grid.nx }
+        requires cells { AreActive field.now y z places.now cases.now }
+        ensures known { AreKnown field.now self.new }
+    {
+        // Reading the sizes brings in what is true of every volume at a level.
+        let _ = field.sizes();
+        let key = edges_key(field, y, z) + 2;
+        let count = join_cells(places, cases, &mut self.list);
+        self.recent.put(key, &self.list[..count]);
+    }
+}
