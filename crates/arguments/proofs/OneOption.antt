@@ -5,8 +5,7 @@ use Rattle.std.proofs.lemmas.Bool.{and_parts, true≢false}
 use Rattle.std.proofs.lemmas.List.{take-append-drop}
 use Rattle.std.proofs.lemmas.Slice.Eq.{bytes_eq-Decides}
 use Rattle.text_lines.proofs.Places.{decide}
-use Rattle.arguments.specs.Options.{after_prefix, has_head, is_option, only_options, plain_words, values}
-use Rattle.arguments.specs.Words.{is_empty, level_in, level_option, level_value, points_of, the_only}
+use Rattle.arguments.specs.Words.{after_prefix, has_head, is_option, only_options, plain_words, values, is_empty, level_in, level_option, level_value, points_of, the_only}
 use Rattle.arguments.specs.declared.request.Request.{Request}
 use Rattle.arguments.specs.declared.request.Request.TheVariants.{Points}
 use Rattle.arguments.proofs.Prefixes.{after_prefix-none}

@@ -2,8 +2,7 @@
 use Rattle.std.proofs.Common.{◌≡◌, ℕ, Bool, true, false, cond, List, [], ◌∷◌, Option, Some, None, option_map, refl}
 use Rattle.text_lines.specs.Parts.{◌>>=◌}
 use Rattle.text_lines.specs.Numbers.{whole_of}
-use Rattle.arguments.specs.Options.{plain_words}
-use Rattle.arguments.specs.Words.{bricks_in, check_of, extract_of, format_in, format_value, gen_by, gen_of, level_in, name_value, pad_in, pages_in, session_of, sizes_in, soak_of, the_only}
+use Rattle.arguments.specs.Words.{plain_words, bricks_in, check_of, extract_of, format_in, format_value, gen_by, gen_of, level_in, name_value, pad_in, pages_in, session_of, sizes_in, soak_of, the_only}
 use Rattle.arguments.specs.declared.request.Request.{Request}
 use Rattle.arguments.specs.declared.request.Request.TheVariants.{Check, Points, Soak}
 

@@ -2,7 +2,7 @@
 use Rattle.std.proofs.Common.{◌≡◌, ℕ, Bool, true, false, cond, eqb, List, [], ◌∷◌, ◌++◌, Some, None, MatchOption, refl, sym, ap, ◌∙◌, Bor}
 use Rattle.std.specs.Prelude.{Option, option_map}
 use Rattle.std.proofs.lemmas.Bool.{eqb-true, eq-eqb}
-use Rattle.arguments.specs.Options.{after_prefix}
+use Rattle.arguments.specs.Words.{after_prefix}
 
 step_none : (b : Bool) (x y : ℕ) (prefix text : List ℕ) → eqb x y ≡ b → ((rest : List ℕ) → y ∷ text ≡ x ∷ (prefix ++ rest) → ⊥) → (((rest : List ℕ) → text ≡ prefix ++ rest → ⊥) → None ≡ after_prefix prefix text) → None ≡ cond b (after_prefix prefix text) None
 step_none true x y prefix text e h more = more (λ rest same. let heads : x ≡ y = eqb-true x y e in h rest cc)

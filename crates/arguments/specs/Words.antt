@@ -1,22 +1,54 @@
 -- What the words of a command line ask for.
-use Rattle.std.specs.Prelude.{◌&&◌, ◌≤◌, nat_le, nat_lt, int_le, if◌then◌else◌, ℕ, Bool, true, false, List, [], ◌∷◌, codes, bytes_eq, Option, Some, None, Result, Ok, Err, ℤ, pos, negsuc, unsigned_abs, IfSome}
+use Rattle.std.specs.Prelude.{◌≡◌, ◌==◌, ◌||◌, not, Bool, false, if◌then◌else◌, ℕ, ◌≤◌, List, [], ◌∷◌, length, filter, Option, Some, None, is_some, ◌&&◌, nat_le, nat_lt, int_le, true, codes, bytes_eq, Result, Ok, Err, ℤ, pos, negsuc, unsigned_abs, IfSome}
+use Rattle.std.specs.List.{filter_map, list_any, list_all}
+use Rattle.iso_defs.specs.Bytes.{minus}
+use Rattle.arguments.specs.declared.options.Found.{Found}
+use Rattle.arguments.specs.declared.options.Found.TheVariants.{Nothing, Once, Again}
 use Rattle.std.specs.Option.{option_map, option_and_then}
-use Rattle.text_lines.specs.Numbers.{number_of, whole_of}
-use Rattle.text_lines.specs.Levels.{level_number_of}
+use Rattle.text_lines.specs.Numbers.{number_of, whole_of, level_number_of}
 use Rattle.text_lines.specs.Parts.{◌>>=◌}
-use Rattle.script.specs.Counts.{count_of}
-use Rattle.script.specs.Names.{is_name}
+use Rattle.script.specs.Names.{count_of, is_name}
 use Rattle.iso_defs.specs.Grid.{Grid}
-use Rattle.iso_base.specs.Samples.{IsSample}
-use Rattle.iso_base.specs.Shifted.{level_limit}
-use Rattle.iso_base.specs.Sizing.{sized}
+use Rattle.iso_base.specs.Volume.{IsSample, level_limit, sized}
 use Rattle.iso_base.specs.declared.sizes.SizeFault.{SizeFault}
 use Rattle.program.specs.Questions.{asks_help, asks_version}
-use Rattle.arguments.specs.Options.{only_options, plain_words, values}
 use Rattle.mesh_text.specs.declared.format.TwoWayFormat.{TwoWayFormat}
 use Rattle.mesh_text.specs.declared.format.TwoWayFormat.TheVariants.{Ply, Obj}
 use Rattle.arguments.specs.declared.request.Request.{Request}
 use Rattle.arguments.specs.declared.request.Request.TheVariants.{Points, Extract, Session, Check, Gen, Soak, Help, Version}
+
+-- an option is a word that begins with `-`
+abbrev pub is_option : List ℕ → Bool
+is_option [] = false
+is_option (b ∷ bs) = b == minus
+
+-- what follows a prefix
+abbrev pub after_prefix : List ℕ → List ℕ → Option (List ℕ)
+after_prefix [] text = Some text
+after_prefix (x ∷ prefix) [] = None
+after_prefix (x ∷ prefix) (y ∷ text) = if x == y then after_prefix prefix text else None
+
+-- the plain words, in their order
+unfoldable pub plain_words : List (List ℕ) → List (List ℕ)
+plain_words words = filter (λ w. not (is_option w)) words
+
+-- the values of an option, in their order: what follows its head `--name=`
+unfoldable pub values : List ℕ → List (List ℕ) → List (List ℕ)
+values head words = filter_map (after_prefix head) words
+
+-- whether a word begins with one of these heads
+abbrev pub has_head : List (List ℕ) → List ℕ → Bool
+has_head heads word = list_any (λ head. is_some (after_prefix head word)) heads
+
+-- whether each option begins with one of these heads
+unfoldable pub only_options : List (List ℕ) → List (List ℕ) → Bool
+only_options heads words = list_all (λ w. not (is_option w) || has_head heads w) words
+
+-- what is found of a list that may hold one text at most
+abbrev pub IsFound : Found → List (List ℕ) → Type 0
+IsFound Nothing texts = texts ≡ []
+IsFound (Once text) texts = texts ≡ text.now ∷ []
+IsFound Again texts = 2 ≤ length texts
 
 -- ---- values
 

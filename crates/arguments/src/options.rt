@@ -1,7 +1,7 @@
 //! Which of some words are options, and which plain words.
 
 ghost use Rattle.std.specs.Prelude.{◌≡◌, ◌++◌, ◌∷◌, [], ℕ, List, map, option_map, string_bytes};
-ghost use Rattle.arguments.specs.Options.{IsFound, after_prefix, has_head, is_option, only_options, plain_words, values};
+ghost use Rattle.arguments.specs.Words.{IsFound, after_prefix, has_head, is_option, only_options, plain_words, values};
 
 /// What is found among words that may hold it once at most.
 #[derive(Clone, Copy)]
@@ -51,7 +51,7 @@ fn has_head(word: &[u8], heads: &[&[u8]]) -> bool
 }
 
 /// Whether each option has one of the heads `--name=`.
-#[tactic(auto, unfolding(crate::specs::Options::only_options))]
+#[tactic(auto, unfolding(crate::specs::Words::only_options))]
 pub fn only_options(words: &[String], heads: &[&[u8]]) -> bool
     ensures { result ≡ only_options (map (λ h. h.now) heads.now) (map string_bytes words.now) }
 {
@@ -64,7 +64,7 @@ pub fn only_options(words: &[String], heads: &[&[u8]]) -> bool
 }
 
 /// The value of the option with this head `--name=`.
-#[tactic(auto, unfolding(crate::specs::Options::values))]
+#[tactic(auto, unfolding(crate::specs::Words::values))]
 pub fn value_of<'a>(words: &'a [String], head: &[u8]) -> Found<'a>
     ensures { IsFound result (values head.now (map string_bytes words.now)) }
 {
@@ -78,7 +78,7 @@ pub fn value_of<'a>(words: &'a [String], head: &[u8]) -> Found<'a>
 }
 
 /// The plain word.
-#[tactic(auto, unfolding(crate::specs::Options::plain_words))]
+#[tactic(auto, unfolding(crate::specs::Words::plain_words))]
 pub fn plain_word(words: &[String]) -> Found<'_>
     ensures { IsFound result (plain_words (map string_bytes words.now)) }
 {

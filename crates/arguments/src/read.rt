@@ -1,10 +1,8 @@
 //! Which request the words are.
 
 ghost use Rattle.std.specs.Prelude.{◌≡◌, ◌≤◌, map, string_bytes, IfSome};
-ghost use Rattle.iso_base.specs.Samples.{IsSample};
-ghost use Rattle.arguments.specs.Words.{level_value, pad_value, format_value, count_value, sizes_value};
-ghost use Rattle.arguments.specs.Words.{level_in, pad_in, format_in, bricks_in, pages_in, sizes_in};
-ghost use Rattle.arguments.specs.Words.{points_of, extract_of, session_of, check_of, gen_of, soak_of, command_of, request_of, HasSamplePad, HasCapacity};
+ghost use Rattle.iso_base.specs.Volume.{IsSample};
+ghost use Rattle.arguments.specs.Words.{level_value, pad_value, format_value, count_value, sizes_value, level_in, pad_in, format_in, bricks_in, pages_in, sizes_in, points_of, extract_of, session_of, check_of, gen_of, soak_of, command_of, request_of, HasSamplePad, HasCapacity};
 
 use crate::options::{Found, only_options, plain_word, value_of};
 use crate::request::Request;

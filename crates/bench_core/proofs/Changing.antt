@@ -4,15 +4,14 @@ use Rattle.std.specs.Prelude.{Some, slice_set}
 use Rattle.iso_defs.specs.Grid.{point_count}
 use Rattle.iso_defs.proofs.Points.{index_of_point}
 use Rattle.iso_base.specs.Points.{index_of, point_at}
-use Rattle.iso_base.specs.Samples.{IsOfKind}
-use Rattle.iso_base.specs.Volume.{Volume, IsVolume, IsInner, sample}
+use Rattle.iso_base.specs.Volume.{IsOfKind, Volume, IsVolume, IsInner, sample}
 use Rattle.iso_base.specs.declared.point.Point.{Point}
 use Rattle.voxel_list.specs.Areas.{Area, between}
 use Rattle.edit_log.specs.declared.change.Change.TheVariants as changes
-use Rattle.edit_log.specs.Boxes.{IsBox, IsInnerArea, area_samples, filled, restored}
+use Rattle.edit_log.specs.Log.{IsBox, IsInnerArea, area_samples, filled, restored}
 use Rattle.edit_log.specs.Changes.{moment, with_samples}
 use Rattle.edit_log.proofs.Inverses.{set_back, restored-filled, length-area_samples, area_samples_are}
-use Rattle.unpadded_volume.specs.Places.{IsInside}
+use Rattle.unpadded_volume.specs.Unpadded.{IsInside}
 use Rattle.bench_core.specs.Machine.{with_sample}
 use Rattle.bench_core.specs.History.{Leads}
 use Rattle.unpadded_volume.proofs.Insides.{inside_is_inner, inside_area}

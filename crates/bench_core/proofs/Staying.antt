@@ -28,7 +28,7 @@ use Rattle.mesh_cache.proofs.Points.{right_stays}
 use Rattle.cached_mesh.proofs.Waits.{fewer_wait}
 use Rattle.edit_log.specs.declared.change.Change.{Change}
 use Rattle.edit_log.specs.declared.change.Change.TheVariants as changes
-use Rattle.edit_log.specs.Boxes.{area_place, replaced}
+use Rattle.edit_log.specs.Log.{area_place, replaced}
 use Rattle.edit_log.specs.Changes.{Moment, after, area_of, before, moment}
 use Rattle.brick_store.proofs.Replacing.{sample-replaced}
 use Rattle.bench_core.specs.Machine.{State}

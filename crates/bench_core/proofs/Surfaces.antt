@@ -5,17 +5,14 @@ use Rattle.std.specs.List.{AllByRecursion}
 use Rattle.std.proofs.lemmas.Bool.{cases_lt}
 use Rattle.std.proofs.lemmas.List.{length-map}
 use Rattle.iso_defs.specs.Cell.{Triangle}
-use Rattle.iso_defs.specs.Grid.{Grid}
-use Rattle.iso_defs.specs.Manifold.{times_run}
-use Rattle.iso_defs.specs.Outside.{IsBelowOutside}
+use Rattle.iso_defs.specs.Grid.{Grid, IsBelowOutside}
+use Rattle.iso_defs.specs.Manifold.{times_run, RunsMatch}
 use Rattle.iso_defs.specs.Place.{Position}
 use Rattle.iso_defs.specs.Scratch.{triangles, vertex_names, vertices}
-use Rattle.iso_defs.specs.Surface.{RunsMatch}
-use Rattle.iso_defs.specs.Verdict.{IsOrientedSurface, on_border}
+use Rattle.iso_defs.specs.Verdict.{IsOrientedSurface, in_outer_plane}
 use Rattle.iso_base.proofs.VolumeLaws.{grid_is_solid, grid_is_thick, pad_is_below}
-use Rattle.iso_base.specs.Shifted.{field}
+use Rattle.iso_base.specs.Volume.{field, Volume, IsVolume}
 use Rattle.iso_base.specs.Triangles.{IsBelow}
-use Rattle.iso_base.specs.Volume.{Volume, IsVolume}
 use Rattle.fan_laws.proofs.Ranks.{place_is_number}
 use Rattle.mesh_laws.proofs.OneVertex.{one_vertex_per_crossing}
 use Rattle.mesh_laws.proofs.Padded.{run_off_border}
@@ -59,7 +56,7 @@ watertight_of v level is above = record {
   crossings = λ n low. one_vertex_per_crossing g s n low;
   used = λ i low. surface.used i (subst (λ n. i < n) names low);
   corners = surface.manifold.corners;
-  sides = sides_of (on_border g s) (triangles g s) surface.matched;
+  sides = sides_of (in_outer_plane g s) (triangles g s) surface.matched;
   fans = surface.manifold.fans;
   closed = by_pad v.pad refl;
 }
@@ -81,5 +78,5 @@ watertight_of v level is above = record {
     by_pad None e = tt
     by_pad (Some pad) e =
         let below : IsBelowOutside g s = pad_is_below v level pad is e (subst (λ o. IsAbovePad o level) e above) in
-        both_ways (on_border g s) (triangles g s) surface.matched
+        both_ways (in_outer_plane g s) (triangles g s) surface.matched
         (λ a b run. run_off_border g s a b (grid_is_solid is.grid) below run)

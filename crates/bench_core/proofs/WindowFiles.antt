@@ -3,8 +3,7 @@ use Rattle.std.proofs.Common.{◌≡◌, ℕ, List, Result, Ok, Err, inr, refl, 
 use Rattle.std.specs.Prelude.{Option, Some, None, IsSomeAnd, OnOk}
 use Rattle.iso_defs.specs.Grid.{Grid}
 use Rattle.iso_base.specs.Points.{IsPoint}
-use Rattle.iso_base.specs.Shifted.{field}
-use Rattle.iso_base.specs.Volume.{Volume}
+use Rattle.iso_base.specs.Volume.{field, Volume}
 use Rattle.iso_base.specs.declared.point.Point.{Point}
 use Rattle.iso_base.specs.declared.fault.BenchFault.TheVariants as faults
 use Rattle.iso_base.specs.declared.fault.Written.{Written}
@@ -22,7 +21,7 @@ use Rattle.mesh_lines.specs.Lines.{text_of, written_of}
 use Rattle.mesh_lines.specs.declared.style.Origin.TheVariants.{Window}
 use Rattle.mesh_lines.specs.declared.style.Style.{Style}
 use Rattle.mesh_lines.proofs.Texts as lines
-use Rattle.unpadded_volume.specs.Places.{IsInside}
+use Rattle.unpadded_volume.specs.Unpadded.{IsInside}
 use Rattle.bench_core.specs.Windows.{WritesWindow, inner_corner, mesh_in, numbers_with, text_at, thin_fault, window_fault, window_text, window_written}
 
 -- a point off the pad's layer is one of the grid

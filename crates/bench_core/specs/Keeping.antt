@@ -11,7 +11,7 @@ use Rattle.brick_store.specs.Holding.{brick_at}
 use Rattle.span_tree.specs.Spans.{Tree, IsRightFor}
 use Rattle.mesh_cache.specs.Cache.{Cache, Limits, empty_cache, with_items}
 use Rattle.mesh_cache.specs.Economy.{IsRight, Refresh, waiting}
-use Rattle.unpadded_volume.specs.Places.{place_of}
+use Rattle.unpadded_volume.specs.Unpadded.{place_of}
 use Rattle.bench_core.specs.Machine.{Entry, State, area_by}
 
 -- what contracts see of a bench: the machine's state, and what is kept of its mesh

@@ -1,8 +1,7 @@
 -- Windows: boxes of points of a volume, each meshed as a volume of its own.
 use Rattle.std.specs.Prelude.{◌≡◌, ◌⊎◌, ℕ, ◌-◌, ◌≤◌, List, [], length, Option, Some, None, Result, Ok, Err, IfOk, IfErr, OnOk, ℤ}
 use Rattle.iso_defs.specs.Grid.{Grid, size}
-use Rattle.iso_base.specs.Shifted.{field}
-use Rattle.iso_base.specs.Volume.{Volume, layer}
+use Rattle.iso_base.specs.Volume.{field, Volume, layer}
 use Rattle.iso_base.specs.declared.fault.BenchFault.{BenchFault}
 use Rattle.iso_base.specs.declared.fault.BenchFault.TheVariants.{Outside, WindowThin}
 use Rattle.iso_base.specs.declared.fault.Written.{Written}
@@ -14,7 +13,7 @@ use Rattle.flat_mesh.specs.Mesh.{mesh_of}
 use Rattle.mesh_more.specs.Texts.{moved_text}
 use Rattle.window_laws.specs.Windows.{thin_axis}
 use Rattle.window_mesh.specs.Crops.{cropped, window_of}
-use Rattle.unpadded_volume.specs.Places.{place_of}
+use Rattle.unpadded_volume.specs.Unpadded.{place_of}
 use Rattle.bench_core.specs.Machine.{State, area_by, three_from}
 use Rattle.bench_core.specs.Texts.{FailsToWrite}
 

@@ -1,9 +1,9 @@
 //! The workbench: its calls, each a step of the machine or a question to it.
 
 ghost use Rattle.std.specs.Prelude.{◌≡◌, ◌⊎◌, ◌+◌, ◌*◌, ◌<◌, ◌≤◌, take, length, is_some, IfSome, IfNone, IsSomeAnd, None, Some, Ok, IfOk, IfErr, OnOk, IsErrOf, All};
-ghost use Rattle.iso_base.specs.Samples.{IsSample, least_of, greatest_of};
+ghost use Rattle.iso_base.specs.Volume.{IsSample, least_of, greatest_of};
 ghost use Rattle.mesh_cache.specs.Cache.{IsCache};
-ghost use Rattle.unpadded_volume.specs.Places.{IsInside, place_of, plane_of};
+ghost use Rattle.unpadded_volume.specs.Unpadded.{IsInside, place_of, plane_of, inner_voxels};
 ghost use Rattle.measure.specs.Measures.{HasNoArea};
 ghost use Rattle.part_laws.specs.Printed.{HasNoBorder, HasOneVolumeIn};
 ghost use Rattle.bench_core.specs.Surface.{IsCutOfMesh, IsWatertight};
@@ -14,7 +14,6 @@ ghost use Rattle.bench_core.specs.Machine.{IsAbovePad, IsState, IsStep, IsSureSt
 ghost use Rattle.bench_core.specs.Keeping.{IsRightBench, Keeps, Refreshes, fill_area, first_area, first_bench, set_area, turn_steps, waiting_bricks, without_points, write_steps};
 ghost use Rattle.bench_core.specs.Windows.{WritesWindow, window_area};
 ghost use Rattle.window_mesh.specs.Crops.{IsWindowOfMesh};
-ghost use Rattle.unpadded_volume.specs.Unpadded.{inner_voxels};
 ghost use Rattle.nrrd_read.specs.Nrrd.{nrrd_of};
 
 use crate::contour::plane_contours;

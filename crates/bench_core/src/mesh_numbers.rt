@@ -2,7 +2,7 @@
 
 ghost use Rattle.std.specs.Prelude.{◌≡◌, ◌<◌, All, IfOk, length};
 ghost use Rattle.iso_defs.specs.Scratch.{triangles, vertices};
-ghost use Rattle.iso_base.specs.Shifted.{field};
+ghost use Rattle.iso_base.specs.Volume.{field};
 ghost use Rattle.fan_laws.specs.Padded.{HasPadBelow};
 ghost use Rattle.measure.specs.Measures.{HasNoArea};
 ghost use Rattle.mesh_cache.specs.Economy.{IsRight};

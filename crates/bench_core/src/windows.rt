@@ -3,7 +3,7 @@
 ghost use Rattle.std.specs.Prelude.{◌≡◌, OnOk, Some};
 ghost use Rattle.voxel_list.specs.Areas.{IsArea};
 ghost use Rattle.window_mesh.specs.Crops.{IsWindowOfMesh};
-ghost use Rattle.unpadded_volume.specs.Places.{IsInside};
+ghost use Rattle.unpadded_volume.specs.Unpadded.{IsInside};
 ghost use Rattle.bench_core.specs.Windows.{WritesWindow, inner_corner};
 
 use brick_store::BrickStore;

@@ -3,7 +3,7 @@
 ghost use Rattle.std.specs.Prelude.{◌≡◌, ◌^◌, ◌<◌, ◌↔◌, IsTrue, length};
 ghost use Rattle.iso_defs.specs.Manifold.{HasThreeCorners};
 ghost use Rattle.iso_base.specs.Triangles.{triangle_of};
-ghost use Rattle.measure.specs.Positions.{IsWithin, vector_of};
+ghost use Rattle.measure.specs.Measures.{IsWithin, vector_of};
 
 use flat_mesh::{Mesh, extract_flat};
 use iso_base::{Level, Memory, PAD_SHIFT, TriangleList};

@@ -2,7 +2,7 @@
 
 ghost use Rattle.std.specs.Prelude.{◌≡◌, ◌<◌, IfOk, length};
 ghost use Rattle.iso_defs.specs.Scratch.{triangles, vertices};
-ghost use Rattle.iso_base.specs.Shifted.{field};
+ghost use Rattle.iso_base.specs.Volume.{field};
 ghost use Rattle.iso_base.specs.Triangles.{triangles_of};
 
 use crate::calls::begin;

@@ -2,9 +2,7 @@
 use Rattle.std.proofs.Common.{◌≡◌, ◌∙◌, ℕ, ◌+◌, ◌*◌, ◌/◌, ◌%◌, ◌<◌, ℤ, List, refl, sym, ap, subst, arith, true}
 use Rattle.iso_defs.specs.Bricks.{brick_cell, brick_count, brick_point, in_brick}
 use Rattle.iso_defs.specs.Cell.{cell_values, corner_point}
-use Rattle.iso_base.specs.Samples.{IsSample}
-use Rattle.iso_base.specs.Shifted.{shifted}
-use Rattle.iso_base.specs.Volume.{Volume, IsVolume, sample}
+use Rattle.iso_base.specs.Volume.{IsSample, shifted, Volume, IsVolume, sample}
 use Rattle.iso_base.proofs.VolumeLaws.{sample_in_range}
 use Rattle.brick_store.specs.Copies.{AreCopiesOf}
 use Rattle.brick_store.proofs.Standing.{brick_point_in}

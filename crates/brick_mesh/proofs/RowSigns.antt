@@ -1,7 +1,6 @@
 -- The signs of the rows of a brick.
 use Rattle.std.proofs.Common.{◌≡◌, ◌∙◌, ℕ, ◌+◌, ◌*◌, ◌/◌, ◌%◌, ◌<◌, ◌≤◌, ℤ, List, [], length, map, pos, ext_get_or, get_or, set, replicate, take, drop, sym, ap, ap₂, subst, arith, All, below_more, get_or-set_same, get_or-set_other, ◌≢◌, true}
-use Rattle.iso_base.specs.Volume.{sample}
-use Rattle.iso_base.specs.Shifted.{is_above_level, shifted}
+use Rattle.iso_base.specs.Volume.{sample, is_above_level, shifted}
 use Rattle.std.specs.Prelude.{Bool, false, if◌then◌else◌}
 use Rattle.std.proofs.lemmas.List.{get_or_default, get_or-drop, get_or-map, get_or-replicate, get_or-take, length-drop, length-map, length-take-le}
 use Rattle.brick_mesh.specs.Block.{BrickAt, HasPoint}

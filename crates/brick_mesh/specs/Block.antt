@@ -3,8 +3,7 @@ use Rattle.std.specs.Prelude.{ℕ, ◌+◌, ◌*◌, ◌/◌, ◌%◌, ◌<◌, 
 use Rattle.iso_defs.specs.Lists.{below}
 use Rattle.iso_defs.specs.Grid.{Grid}
 use Rattle.iso_defs.specs.Bricks.{brick_count, brick_point, has_cell, in_brick}
-use Rattle.iso_base.specs.Shifted.{field, shifted}
-use Rattle.iso_base.specs.Volume.{Volume, sample}
+use Rattle.iso_base.specs.Volume.{field, shifted, Volume, sample}
 use Rattle.brick_store.specs.Holding.{points_along}
 
 -- a brick of a grid with samples, and a level

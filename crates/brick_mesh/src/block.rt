@@ -2,9 +2,7 @@
 ghost use Rattle.std.specs.Prelude.{◌≡◌, ℕ, ◌+◌, ◌-◌, ◌/◌, ◌%◌, ◌<◌, ◌≤◌, ◌^◌, All, length, map, unsigned_abs};
 ghost use Rattle.iso_defs.specs.Bricks.{brick_cell, brick_count, has_cell, in_brick};
 ghost use Rattle.iso_defs.specs.Cell.{cell_values};
-ghost use Rattle.iso_base.specs.Samples.{IsSample};
-ghost use Rattle.iso_base.specs.Shifted.{shifted};
-ghost use Rattle.iso_base.specs.Volume.{sample};
+ghost use Rattle.iso_base.specs.Volume.{IsSample, shifted, sample};
 ghost use Rattle.brick_mesh.specs.Block.{IsCell, block_of, corner_place, corner_values, heights};
 ghost use Rattle.brick_store.specs.Copies.{AreCopiesOf};
 ghost use Rattle.brick_store.specs.Holding.{points_along};

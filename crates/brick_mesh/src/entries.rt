@@ -4,7 +4,7 @@ ghost use Rattle.arrayvec.specs.ArrayVec.{array_vec_len};
 ghost use Rattle.iso_defs.specs.Bricks.{bits_of, brick_cell, brick_count, entries as entries_of, in_brick, row_cases};
 ghost use Rattle.iso_defs.specs.Cell.{cell_joined, cell_signs};
 ghost use Rattle.case_table.specs.Cases.{are_ambiguous};
-ghost use Rattle.iso_base.specs.Shifted.{field};
+ghost use Rattle.iso_base.specs.Volume.{field};
 ghost use Rattle.brick_mesh.specs.Block.{HasPoint, IsCell, IsCellRow, heights};
 ghost use Rattle.brick_mesh.specs.Entries.{IsPlain, case_of, entries_from, first_cases};
 ghost use Rattle.brick_mesh.specs.Signs.{AreBytes, AreSlice, AreRows};

@@ -1,7 +1,7 @@
 -- Each brick is asked for at most 64 rows.
 use Rattle.std.proofs.Common.{◌≡◌, ℕ, zero, suc, ◌+◌, ◌-◌, ◌*◌, ◌/◌, ◌<◌, ◌≤◌, sym, ◌∙◌, ap, arith}
 use Rattle.iso_defs.specs.Bricks.{brick_count, bricks_along}
-use Rattle.iso_base.specs.Sizing.{IsGrid}
+use Rattle.iso_base.specs.Volume.{IsGrid}
 use Rattle.flat_mesh.specs.Lattice.{Leveled, heights}
 use Rattle.brick_rows.specs.Bricks.{brick_at}
 use Rattle.brick_rows.specs.Named.{Named, asked_along, asked_among}

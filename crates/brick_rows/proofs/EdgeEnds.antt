@@ -5,15 +5,11 @@ use Rattle.std.proofs.lemmas.Bool.{ltb-true}
 use Rattle.std.proofs.lemmas.List.{ext_get_or, get_or-drop, get_or-map, get_or-take, length-map}
 use Rattle.std.proofs.lemmas.List.Elements.{All-filter, filter_passes}
 use Rattle.std.proofs.lemmas.List.FromFn.{get_or-range_with_len, length-range_with_len}
-use Rattle.iso_defs.specs.Grid.{Grid, index, stride}
+use Rattle.iso_defs.specs.Grid.{Grid, index, stride, differ, is_above, is_crossing}
 use Rattle.iso_defs.specs.Bricks.{brick_count, bricks_along, in_brick}
 use Rattle.iso_defs.specs.Place.{place}
-use Rattle.iso_defs.specs.Signs.{differ, is_above, is_crossing}
 use Rattle.iso_defs.proofs.Points.{index_in, x_index, y_index, z_index}
-use Rattle.iso_base.specs.Samples.{IsSample}
-use Rattle.iso_base.specs.Shifted.{shifted}
-use Rattle.iso_base.specs.Sizing.{IsGrid}
-use Rattle.iso_base.specs.Volume.{sample}
+use Rattle.iso_base.specs.Volume.{IsSample, shifted, IsGrid, sample}
 use Rattle.brick_store.specs.Copies.{AreAllCopies}
 use Rattle.crossing_edges.specs.Flags.{edge_place, names_in, places_in}
 use Rattle.crossing_edges.proofs.NextPoints.{Ends, ends, place_at}

@@ -10,8 +10,7 @@ use Rattle.std.proofs.lemmas.Simd.{Each1-from_get_or, get_or-replicate, get_or-s
 use Rattle.row_bits.proofs.Lanes.{apart_by, lane_sum, lanes_from, lanes_from_are, lanes_from_long, sum_is}
 use Rattle.iso_base.specs.declared.kind.SampleKind.{SampleKind}
 use Rattle.iso_base.specs.declared.kind.SampleKind.TheVariants.{I16, I32}
-use Rattle.iso_base.specs.Samples.{IsOfKind}
-use Rattle.iso_base.specs.Volume.{sample}
+use Rattle.iso_base.specs.Volume.{IsOfKind, sample}
 use Rattle.corner_signs.specs.Rows.{bit_from}
 use Rattle.crossing_edges.specs.Signs.{flag_of}
 use Rattle.brick_rows.specs.Rows.{AreEight, run_flags}

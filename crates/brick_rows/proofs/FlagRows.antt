@@ -20,8 +20,7 @@ use Rattle.brick_rows.specs.Rows.{HasMoreFlags, bit_right, run_flags}
 use Rattle.mesh_rows.specs.Rows.{AreFlags, AreFlagsTo}
 use Rattle.brick_rows.specs.Runs.{IsRun}
 use Rattle.corner_signs.specs.Rows.{bit_from}
-use Rattle.iso_base.specs.Shifted.{is_above_level}
-use Rattle.iso_base.specs.Volume.{sample}
+use Rattle.iso_base.specs.Volume.{is_above_level, sample}
 
 -- flags by index are the list of flags
 pub flags_list : (v : Leveled) (y z : ℕ) (flags : List ℕ) → length flags ≡ v.grid.nx → AreFlags v y z flags → flags ≡ flags_from v.grid (heights v) (row_start v.grid y z) v.grid.nx

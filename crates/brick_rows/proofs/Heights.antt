@@ -6,9 +6,7 @@ use Rattle.iso_defs.specs.Grid.{Grid, index}
 use Rattle.iso_defs.specs.Cell.{corner_point}
 use Rattle.iso_defs.specs.Bricks.{brick_count, in_brick}
 use Rattle.iso_defs.proofs.Points.{index_in}
-use Rattle.iso_base.specs.Samples.{IsSample}
-use Rattle.iso_base.specs.Shifted.{shifted}
-use Rattle.iso_base.specs.Volume.{IsVolume, Volume, sample}
+use Rattle.iso_base.specs.Volume.{IsSample, shifted, IsVolume, Volume, sample}
 use Rattle.iso_base.proofs.VolumeLaws.{sample_in_range}
 use Rattle.brick_store.specs.Copies.{AreAllCopies}
 use Rattle.flat_mesh.specs.Cases.{values_at}

@@ -5,9 +5,7 @@ use Rattle.std.proofs.lemmas.List.{get_or-set_other, get_or-set_same}
 use Rattle.std.proofs.Math.Nat.{mul-le-mul_left, mul-le-mul_right}
 use Rattle.iso_defs.specs.Grid.{Grid}
 use Rattle.iso_defs.specs.Bricks.{brick_count, bricks_along, is_active}
-use Rattle.iso_base.specs.Shifted.{field}
-use Rattle.iso_base.specs.Sizing.{IsGrid}
-use Rattle.iso_base.specs.Volume.{Volume}
+use Rattle.iso_base.specs.Volume.{field, IsGrid, Volume}
 use Rattle.flat_mesh.specs.Lattice.{Leveled, heights}
 use Rattle.brick_store.specs.Next.{IsFirst}
 use Rattle.brick_rows.specs.declared.active.ActiveSlice.{ActiveSlice}

@@ -3,7 +3,7 @@ use Rattle.std.proofs.Common.{◌≡◌, ℕ, ◌+◌, ◌-◌, ◌*◌, ◌/◌
 use Rattle.std.proofs.lemmas.Bool.{cases_lt}
 use Rattle.iso_defs.specs.Grid.{index}
 use Rattle.iso_defs.specs.Bricks.{brick_count, bricks_along}
-use Rattle.iso_base.specs.Sizing.{IsGrid}
+use Rattle.iso_base.specs.Volume.{IsGrid}
 use Rattle.flat_mesh.specs.Lattice.{Leveled, heights}
 use Rattle.brick_rows.specs.declared.active.ActiveRow.{ActiveRow}
 use Rattle.brick_rows.specs.declared.bricks.BrickRow.{BrickRow}

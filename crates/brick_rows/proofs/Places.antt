@@ -6,7 +6,7 @@ use Rattle.std.proofs.Math.Nat.{div-div-eq-div-mul, mul-le-mul_right}
 use Rattle.iso_defs.specs.Grid.{Grid, index}
 use Rattle.iso_defs.specs.Bricks.{brick_count, brick_point, brick_start, bricks_along, in_brick}
 use Rattle.iso_defs.proofs.Points.{index_in}
-use Rattle.iso_base.specs.Sizing.{IsGrid}
+use Rattle.iso_base.specs.Volume.{IsGrid}
 use Rattle.brick_rows.specs.declared.bricks.BrickRow.{BrickRow}
 use Rattle.brick_rows.specs.Bricks.{HoldRow, brick_at, first_brick}
 use Rattle.brick_rows.specs.Named.{IsCellRow}

@@ -3,8 +3,7 @@ use Rattle.std.proofs.Common.{◌≡◌, ℕ, zero, suc, ◌+◌, ◌*◌, ◌/�
 use Rattle.std.specs.List.{list_any}
 use Rattle.std.proofs.lemmas.Bool.{cases_Bool}
 use Rattle.iso_defs.specs.Lists.{below}
-use Rattle.iso_defs.specs.Grid.{Grid}
-use Rattle.iso_defs.specs.Signs.{differ, is_above}
+use Rattle.iso_defs.specs.Grid.{Grid, differ, is_above}
 use Rattle.iso_defs.specs.Face.{holds_at}
 use Rattle.iso_defs.specs.Cell.{case_loops, cell_joined, cell_signs, corner_point}
 use Rattle.iso_defs.specs.Bricks.{brick_cell, brick_point, has_cell, in_brick, is_active, is_active_cell, is_mixed}

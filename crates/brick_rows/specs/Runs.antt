@@ -1,8 +1,7 @@
 -- The samples of points of a row that a brick holds.
 use Rattle.std.specs.Prelude.{◌≡◌, ℕ, ◌+◌, ◌-◌, ◌<◌, ℤ, List, All, length, min, pos, slice_index_or}
 use Rattle.iso_defs.specs.Grid.{index}
-use Rattle.iso_base.specs.Samples.{IsSample}
-use Rattle.iso_base.specs.Volume.{sample}
+use Rattle.iso_base.specs.Volume.{IsSample, sample}
 use Rattle.flat_mesh.specs.Lattice.{Leveled}
 
 -- those from x on: nine, or fewer where the row ends

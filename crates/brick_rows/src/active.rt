@@ -1,7 +1,7 @@
 //! Which bricks of a row of bricks are active.
 ghost use Rattle.std.specs.Prelude.{◌≡◌, ℕ, ◌+◌, ◌-◌, ◌*◌, ◌<◌, ◌≤◌, ◌^◌, IsTrue, length, not, slice_index};
 ghost use Rattle.iso_defs.specs.Bricks.{bricks_along};
-ghost use Rattle.iso_base.specs.Sizing.{IsGrid};
+ghost use Rattle.iso_base.specs.Volume.{IsGrid};
 ghost use Rattle.flat_mesh.specs.Lattice.{Leveled, heights};
 ghost use Rattle.brick_rows.specs.Bricks.{AreMarked, AreNextTo, IsMarkedSlice, IsNextFrom, first_brick, is_active_row};
 ghost use Rattle.brick_rows.specs.Rows.{AreStill};

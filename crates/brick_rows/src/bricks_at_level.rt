@@ -2,9 +2,7 @@
 ghost use Rattle.std.specs.Prelude.{◌≡◌, ◌+◌, ◌*◌, ◌<◌, ◌≤◌, ◌^◌, All, ℤ, int_le, length, map, unsigned_abs};
 ghost use Rattle.iso_defs.specs.Bricks.{brick_count};
 ghost use Rattle.iso_defs.specs.Grid.{index};
-ghost use Rattle.iso_base.specs.Samples.{IsSample};
-ghost use Rattle.iso_base.specs.Shifted.{is_above_level, shifted};
-ghost use Rattle.iso_base.specs.Volume.{IsVolume, sample};
+ghost use Rattle.iso_base.specs.Volume.{IsSample, is_above_level, shifted, IsVolume, sample};
 ghost use Rattle.brick_store.specs.Copies.{AreAllCopies};
 ghost use Rattle.packed_samples.specs.Runs.{samples_in};
 ghost use Rattle.flat_mesh.specs.Cases.{values_at};
@@ -54,7 +52,7 @@ pub struct BricksAtLevel<'a> {
 
 impl<'a> Model for BricksAtLevel<'a> {
     ghost use Rattle.std.specs.Prelude.{◌≡◌, ℤ, int_le};
-    ghost use Rattle.iso_base.specs.Shifted.{is_above_level};
+    ghost use Rattle.iso_base.specs.Volume.{is_above_level};
     ghost use Rattle.flat_mesh.specs.Lattice.{Leveled};
     ghost use Rattle.span_tree.specs.Spans.{IsRightFor};
     ghost use Rattle.brick_rows.specs.Rows.{at_level};

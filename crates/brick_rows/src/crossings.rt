@@ -1,7 +1,7 @@
 //! Where the crossing edges of a row of points are crossed.
 ghost use Rattle.std.specs.Prelude.{◌≡◌, ◌+◌, ◌*◌, ◌<◌, length, map, true};
 ghost use Rattle.iso_defs.specs.Bricks.{bricks_along};
-ghost use Rattle.iso_defs.specs.Signs.{is_crossing};
+ghost use Rattle.iso_defs.specs.Grid.{is_crossing};
 ghost use Rattle.brick_store.specs.Copies.{AreAllCopies};
 ghost use Rattle.crossing_edges.specs.Flags.{edge_place};
 ghost use Rattle.flat_mesh.specs.Lattice.{heights};

@@ -3,10 +3,8 @@ use Rattle.std.proofs.Common.{◌≡◌, ℕ, ◌<◌, true, false, Bool, cond, 
 use Rattle.std.specs.Prelude.{Option, Some, None, IfSome, MatchOption, not}
 use Rattle.std.proofs.lemmas.Bool.{cases_Bool}
 use Rattle.std.proofs.lemmas.List.Elements.{All-get_or}
-use Rattle.iso_defs.specs.Grid.{point_count}
-use Rattle.iso_defs.specs.Outside.{is_outer}
-use Rattle.iso_base.specs.Samples.{IsOfKind}
-use Rattle.iso_base.specs.Volume.{Volume, IsVolume, HoldsPad, sample}
+use Rattle.iso_defs.specs.Grid.{point_count, is_outer}
+use Rattle.iso_base.specs.Volume.{IsOfKind, Volume, IsVolume, HoldsPad, sample}
 use Rattle.voxel_list.specs.Areas.{Area, is_in_area}
 use Rattle.brick_store.specs.declared.boxes.Values.{Values}
 use Rattle.brick_store.specs.declared.boxes.Values.TheVariants.{One, Each}

@@ -4,10 +4,9 @@ use Rattle.std.proofs.lemmas.Bool.{cases_Bool, le-leb}
 use Rattle.iso_defs.specs.Grid.{Grid, index, point_count}
 use Rattle.iso_defs.specs.Bricks.{bricks_along, brick_start, brick_point}
 use Rattle.iso_defs.proofs.Points.{x_index, y_index, z_index, index_in}
-use Rattle.iso_base.specs.Sizing.{IsGrid}
+use Rattle.iso_base.specs.Volume.{IsGrid, sample}
 use Rattle.iso_base.specs.declared.point.Point.{Point}
 use Rattle.iso_base.specs.Stored.{StandsFor}
-use Rattle.iso_base.specs.Volume.{sample}
 use Rattle.voxel_list.specs.Areas.{Area, IsArea, area_count, is_in_area}
 use Rattle.brick_store.specs.declared.boxes.Part.{Part}
 use Rattle.brick_store.specs.declared.boxes.Values.{Values}

@@ -3,11 +3,9 @@ use Rattle.std.proofs.Common.{◌≡◌, ◌∙◌, ℕ, ◌<◌, true, All, Lis
 use Rattle.std.specs.Prelude.{Option, Some, None, IfSome, MatchOption, not}
 use Rattle.std.proofs.lemmas.Bool.{cases_Bool}
 use Rattle.std.proofs.lemmas.List.Elements.{All-from_get_or}
-use Rattle.iso_defs.specs.Outside.{is_outer}
-use Rattle.iso_defs.specs.Grid.{point_count}
-use Rattle.iso_base.specs.Samples.{IsOfKind}
+use Rattle.iso_defs.specs.Grid.{is_outer, point_count}
+use Rattle.iso_base.specs.Volume.{IsOfKind, Volume, IsVolume, IsInner, HoldsPad, sample}
 use Rattle.iso_base.specs.declared.kind.SampleKind.{SampleKind}
-use Rattle.iso_base.specs.Volume.{Volume, IsVolume, IsInner, HoldsPad, sample}
 use Rattle.packed_samples.specs.Widths.{HasRoom, width_of}
 use Rattle.packed_samples.specs.declared.width.Width.{Width}
 use Rattle.brick_store.specs.Boxes.{AreFitting, AreOfKind}

@@ -3,10 +3,8 @@ use Rattle.std.proofs.Common.{◌≡◌, ℕ, ◌+◌, ◌-◌, ◌<◌, ◌≤�
 use Rattle.std.specs.Prelude.{Option, Some, None, IfSome, MatchOption, not}
 use Rattle.std.proofs.lemmas.Bool.{cases_lt}
 use Rattle.std.proofs.lemmas.List.Elements.{All-get_or}
-use Rattle.iso_defs.specs.Grid.{point_count}
-use Rattle.iso_defs.specs.Outside.{is_outer}
-use Rattle.iso_base.specs.Samples.{IsOfKind}
-use Rattle.iso_base.specs.Volume.{Volume, IsVolume, HoldsPad, IsInner}
+use Rattle.iso_defs.specs.Grid.{point_count, is_outer}
+use Rattle.iso_base.specs.Volume.{IsOfKind, Volume, IsVolume, HoldsPad, IsInner}
 use Rattle.packed_samples.specs.Runs.{row_set}
 use Rattle.brick_store.proofs.RowWriting.{length-row_set, row_set_before, row_set_within, row_set_behind}
 

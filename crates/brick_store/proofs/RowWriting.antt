@@ -5,11 +5,10 @@ use Rattle.std.proofs.lemmas.List.{get_or-append_right, get_or_append_left, get_
 use Rattle.iso_defs.specs.Grid.{Grid, coordinate, index, point_count}
 use Rattle.iso_defs.specs.Bricks.{bricks_along, brick_count, brick_start, brick_point}
 use Rattle.iso_defs.proofs.Points.{x_index, y_index, z_index}
-use Rattle.iso_base.specs.Sizing.{IsGrid}
+use Rattle.iso_base.specs.Volume.{IsGrid, sample}
 use Rattle.iso_base.specs.Points.{IsPoint, index_of}
 use Rattle.iso_base.specs.declared.point.Point.{Point}
 use Rattle.iso_base.specs.Stored.{StandsFor}
-use Rattle.iso_base.specs.Volume.{sample}
 use Rattle.brick_store.specs.Holding.{brick_at}
 use Rattle.brick_store.specs.Copies.{AreCopies, copy_at, copy_place, samples_of}
 use Rattle.brick_store.specs.Rows.{AreOffsets, AreRowWritten, InZone, IsOfRow, Zone, row_zone}

@@ -7,10 +7,9 @@ use Rattle.iso_defs.specs.Lists.{below}
 use Rattle.iso_defs.specs.Grid.{Grid}
 use Rattle.iso_defs.specs.Bricks.{bricks_along, brick_count, brick_start}
 use Rattle.iso_defs.proofs.Points.{index_in}
-use Rattle.iso_base.specs.Sizing.{IsGrid}
+use Rattle.iso_base.specs.Volume.{IsGrid, sample}
 use Rattle.iso_base.specs.Points.{IsPoint, index_of}
 use Rattle.iso_base.specs.declared.point.Point.{Point}
-use Rattle.iso_base.specs.Volume.{sample}
 use Rattle.brick_store.specs.Holding.{brick_at}
 use Rattle.brick_store.specs.Copies.{AreCopies, copy_place, first_brick_along, first_copy_place, row_rest, samples_of}
 use Rattle.packed_samples.specs.Runs.{row_set}

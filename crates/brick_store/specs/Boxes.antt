@@ -4,9 +4,8 @@ use Rattle.iso_defs.specs.Lists.{below}
 use Rattle.iso_defs.specs.Grid.{Grid, coordinate, index, point_count}
 use Rattle.iso_defs.specs.Bricks.{brick_point, brick_start}
 use Rattle.iso_base.specs.Points.{IsPoint}
-use Rattle.iso_base.specs.Samples.{IsOfKind}
+use Rattle.iso_base.specs.Volume.{IsOfKind, Volume, IsInner, sample}
 use Rattle.iso_base.specs.declared.kind.SampleKind.{SampleKind}
-use Rattle.iso_base.specs.Volume.{Volume, IsInner, sample}
 use Rattle.voxel_list.specs.Areas.{Area, IsArea, area_count, is_in_area}
 use Rattle.brick_store.specs.declared.boxes.Values.{Values}
 use Rattle.brick_store.specs.declared.boxes.Values.TheVariants.{One, Each}

@@ -6,7 +6,7 @@ ghost use Rattle.iso_defs.specs.Lists.{below};
 ghost use Rattle.iso_defs.specs.Grid.{is_cell, point_count};
 ghost use Rattle.iso_defs.specs.Bricks.{bricks_along, brick_count, brick_start};
 ghost use Rattle.iso_base.specs.Points.{IsPoint};
-ghost use Rattle.iso_base.specs.Sizing.{IsGrid};
+ghost use Rattle.iso_base.specs.Volume.{IsGrid};
 ghost use Rattle.brick_store.specs.Copies.{first_brick_along};
 ghost use Rattle.brick_store.specs.Rows.{reach_end};
 ghost use Rattle.brick_store.specs.Holding.{IsCellOf, brick_at, brick_of, first_holding, local_of, points_along, reaches};

@@ -5,13 +5,11 @@
 ghost use Rattle.std.specs.Prelude.{◌≡◌, ℕ, ◌+◌, ◌<◌, ◌≤◌, All, IfOk, IfSome, length, map, slice_set, true};
 ghost use Rattle.std.specs.List.{filter};
 ghost use Rattle.iso_defs.specs.Lists.{below};
-ghost use Rattle.iso_defs.specs.Grid.{is_cell, point_count};
-ghost use Rattle.iso_defs.specs.Outside.{is_outer};
+ghost use Rattle.iso_defs.specs.Grid.{is_cell, point_count, is_outer};
 ghost use Rattle.iso_defs.specs.Cell.{cell_values};
 ghost use Rattle.iso_defs.specs.Bricks.{brick_count, brick_start};
 ghost use Rattle.iso_base.specs.Points.{IsPoint, index_of};
-ghost use Rattle.iso_base.specs.Samples.{IsOfKind, IsSample};
-ghost use Rattle.iso_base.specs.Volume.{IsInner, IsVolume, Volume, sample};
+ghost use Rattle.iso_base.specs.Volume.{IsOfKind, IsSample, IsInner, IsVolume, Volume, sample};
 ghost use Rattle.brick_store.specs.Holding.{IsCellOf, brick_of, holds_point, local_of, points_along};
 ghost use Rattle.brick_store.specs.Copies.{AreAllCopies, AreCopiesOf};
 ghost use Rattle.packed_samples.specs.Runs.{row_set, run_width, samples_in};

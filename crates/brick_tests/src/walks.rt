@@ -2,8 +2,7 @@
 ghost use Rattle.std.specs.Prelude.{◌≡◌, All, false, length};
 ghost use Rattle.iso_defs.specs.Bricks.{entries, row_cases};
 ghost use Rattle.iso_defs.specs.Grid.{point_count};
-ghost use Rattle.iso_base.specs.Samples.{IsSample};
-ghost use Rattle.iso_base.specs.Shifted.{field};
+ghost use Rattle.iso_base.specs.Volume.{IsSample, field};
 ghost use Rattle.span_tree.specs.Spans.{IsRightFor};
 ghost use Rattle.brick_rows.specs.Named.{counts_of_entries};
 

@@ -1,4 +1,3 @@
 pub mod Causes
-pub mod Files
 pub mod Seen
 pub mod Memory

@@ -1,8 +1,7 @@
 -- Sources and sinks in memory.
 use Rattle.std.specs.Prelude.{◌⊎◌, ℕ, ◌+◌, ◌<◌, List, [], length, take, Option, None, Some, Contains}
 use Rattle.byte_streams.specs.Causes.{one_more}
-use Rattle.byte_streams.specs.Files.{no_files}
-use Rattle.byte_streams.specs.Seen.{Feed, Tape}
+use Rattle.byte_streams.specs.Seen.{no_files, Feed, Tape}
 
 -- the bytes still to come, the most that a read gives, the calls that fail, and how many calls there were, how many that
 -- took nothing, how many of those after the last that took a byte, and how many faults

@@ -1,9 +1,21 @@
 -- What is known of a source and of a sink, and what a call does to it.
-use Rattle.std.specs.Prelude.{◌≡◌, ℕ, ◌+◌, ◌<◌, ◌≤◌, List, [], ◌++◌, length, take, min, Option, Some, None, Result, Ok, Err, MatchResult, IfOk, IfSome}
+use Rattle.std.specs.Prelude.{ℕ, List, ◌≡◌, ◌+◌, ◌<◌, ◌≤◌, [], ◌++◌, length, take, min, Option, Some, None, Result, Ok, Err, MatchResult, IfOk, IfSome}
+use Rattle.std.specs.FinMap.{FinMap, empty, from_entries}
+use Rattle.std.specs.Ordering.{nat_cmp}
+use Rattle.std.specs.Cmp.Lexicographic.{slice_cmp}
 use Rattle.std.specs.Io.KnownBytes.{Appends, Consumes, ReadConsumes, IsAtEnd}
 use Rattle.std.specs.Borrow.{GName}
 use Rattle.byte_streams.specs.Causes.{HasCause, one_more}
-use Rattle.byte_streams.specs.Files.{Files, no_files}
+
+abbrev pub Files : Type 0
+Files = FinMap (slice_cmp nat_cmp) (List ℕ)
+
+abbrev pub no_files : Files
+no_files = empty
+
+-- the files of names with their bytes
+abbrev pub files_of : List (List ℕ × List ℕ) → Files
+files_of entries = from_entries entries
 
 -- a source: the bytes still to come, where they are told, how often it was read, how many of these reads took nothing,
 -- how many of those came after the last read that took a byte, and how often it failed

@@ -5,8 +5,7 @@ use Rattle.std.proofs.lemmas.List.FromFn.{get_or-map-range_with_len, length-map-
 use Rattle.iso_defs.specs.Grid.{Grid}
 use Rattle.iso_defs.specs.Cell.{cell_signs}
 use Rattle.iso_defs.specs.Bricks.{brick_cell, brick_point, cells_along, entries, in_brick, is_mixed}
-use Rattle.iso_base.specs.Shifted.{field}
-use Rattle.iso_base.specs.Volume.{Volume}
+use Rattle.iso_base.specs.Volume.{field, Volume}
 use Rattle.brick_store.specs.Holding.{points_along}
 use Rattle.brick_mesh.specs.Block.{BrickAt, IsCell, heights}
 use Rattle.brick_mesh.specs.Entries.{case_of}

@@ -2,7 +2,7 @@
 use Rattle.std.proofs.Common.{◌≡◌, ℕ, ◌⊎◌, Bool, true, false, cond, refl, inl, inr}
 use Rattle.iso_defs.specs.Cell.{cell_signs}
 use Rattle.iso_defs.specs.Bricks.{cell_case, is_mixed, row_cases}
-use Rattle.iso_base.specs.Shifted.{field}
+use Rattle.iso_base.specs.Volume.{field}
 use Rattle.flat_mesh.specs.Lattice.{Leveled, heights}
 use Rattle.mesh_cache.specs.Economy.{is_fresh}
 use Rattle.brick_rows.specs.Named.{HaveLoops, NamesCases}

@@ -7,7 +7,7 @@ use Rattle.std.specs.List.{filter}
 use Rattle.std.proofs.lemmas.List.Sums.{length-filter}
 use Rattle.iso_defs.specs.Lists.{below}
 use Rattle.iso_defs.specs.Bricks.{brick_count, is_active}
-use Rattle.iso_base.specs.Shifted.{field}
+use Rattle.iso_base.specs.Volume.{field}
 use Rattle.mesh_cache.specs.Cache.{Cache, kept_at}
 use Rattle.mesh_cache.specs.Economy.{Refresh, is_fresh, is_waiting, waiting}
 use Rattle.mesh_cache.proofs.Refreshing.{refresh_keeps}

@@ -4,8 +4,7 @@ use Rattle.iso_defs.specs.Lists.{below}
 use Rattle.iso_defs.specs.Grid.{Grid}
 use Rattle.iso_defs.specs.Cell.{cell_signs}
 use Rattle.iso_defs.specs.Bricks.{brick_point, cell_case, cells_along, entries, is_mixed, row_cases}
-use Rattle.iso_base.specs.Shifted.{field}
-use Rattle.iso_base.specs.Volume.{Volume}
+use Rattle.iso_base.specs.Volume.{field, Volume}
 use Rattle.mesh_cache.specs.Cache.{Cache}
 use Rattle.mesh_cache.specs.Economy.{is_fresh}
 use Rattle.brick_rows.specs.Named.{Named, counts_of_entries}

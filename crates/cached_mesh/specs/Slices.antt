@@ -1,7 +1,6 @@
 -- The cases of the cells of a brick that lie in some slices.
 use Rattle.std.specs.Prelude.{◌≡◌, ℕ, ◌+◌, ◌*◌, ◌%◌, ◌<◌, ◌≤◌, ℤ, List, drop, slice_index_or, take, true}
-use Rattle.iso_base.specs.Shifted.{field}
-use Rattle.iso_base.specs.Volume.{Volume}
+use Rattle.iso_base.specs.Volume.{field, Volume}
 use Rattle.mesh_cache.specs.Cache.{Item}
 use Rattle.mesh_cache.specs.Economy.{is_fresh}
 use Rattle.brick_rows.specs.Named.{IsCellRow}

@@ -1,8 +1,7 @@
 -- The texts of the mesh of a volume at a level.
 use Rattle.std.specs.Prelude.{ℕ, List, is_some, ℤ}
 use Rattle.iso_defs.specs.Texts.{scratch_ply}
-use Rattle.iso_base.specs.Shifted.{field}
-use Rattle.iso_base.specs.Volume.{Volume}
+use Rattle.iso_base.specs.Volume.{field, Volume}
 use Rattle.mesh_lines.specs.Padded.{scratch_obj}
 use Rattle.mesh_text.specs.declared.format.TwoWayFormat.{TwoWayFormat}
 use Rattle.mesh_text.specs.declared.format.TwoWayFormat.TheVariants.{Ply, Obj}

@@ -1,7 +1,6 @@
 -- The text of the mesh of a volume in bricks, and what is lent to write it.
 use Rattle.std.specs.Prelude.{◌≡◌, ℕ, ◌+◌, ◌*◌, ◌≤◌, List, is_some, length}
-use Rattle.iso_base.specs.Shifted.{field}
-use Rattle.iso_base.specs.Volume.{Volume}
+use Rattle.iso_base.specs.Volume.{field, Volume}
 use Rattle.iso_base.specs.declared.fault.Written.{Written}
 use Rattle.flat_mesh.specs.Mesh.{mesh_of}
 use Rattle.mesh_lines.specs.Padded.{two_way_written}

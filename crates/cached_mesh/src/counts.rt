@@ -2,7 +2,7 @@
 
 ghost use Rattle.std.specs.Prelude.{◌≡◌, ◌+◌, ◌%◌, ◌^◌, ◌<◌, ◌≤◌, All, length};
 ghost use Rattle.iso_defs.specs.Bricks.{brick_count, entries as entries_of_brick};
-ghost use Rattle.iso_base.specs.Shifted.{field};
+ghost use Rattle.iso_base.specs.Volume.{field};
 ghost use Rattle.cell_loops.specs.Loops.{row_centres, row_triangles};
 ghost use Rattle.brick_rows.specs.Named.{centres_of_entries, counts_of_entries, triangles_of_entries};
 

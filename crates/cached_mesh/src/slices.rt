@@ -7,7 +7,7 @@
 
 ghost use Rattle.std.specs.Prelude.{◌≡◌, ℕ, ◌+◌, ◌*◌, ◌/◌, ◌<◌, ◌≤◌, All, List, slice_index, true};
 ghost use Rattle.iso_defs.specs.Bricks.{brick_count, entries as entries_of_brick, in_brick};
-ghost use Rattle.iso_base.specs.Shifted.{field};
+ghost use Rattle.iso_base.specs.Volume.{field};
 ghost use Rattle.mesh_cache.specs.Cache.{Item};
 ghost use Rattle.mesh_cache.specs.Economy.{is_fresh};
 ghost use Rattle.cached_mesh.specs.Slices.{AreNone, AreSlices};

@@ -6,7 +6,7 @@ use Rattle.std.proofs.lemmas.Bool.{and_parts, ltb-true}
 use Rattle.std.proofs.lemmas.Int.{to_z-of_z, fits_signed_from_abs}
 use Rattle.std.proofs.lemmas.List.{get_or-map}
 use Rattle.iso_defs.specs.Lists.{below}
-use Rattle.iso_defs.specs.Signs.{is_above}
+use Rattle.iso_defs.specs.Grid.{is_above}
 use Rattle.iso_defs.specs.Face.{holds_at, is_ambiguous}
 use Rattle.iso_defs.specs.Cell.{face_corners, face_is_joined, face_signs, signs_of}
 use Rattle.iso_defs.specs.Bricks.{bits_of}

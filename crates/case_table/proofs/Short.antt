@@ -7,7 +7,7 @@ use Rattle.std.proofs.lemmas.Nat.{le_or_l, le_or_r, or_lt}
 use Rattle.std.proofs.lemmas.List.Folds.{list_all_more}
 use Rattle.std.proofs.lemmas.List.Sums.{AllPass-from_list_all}
 use Rattle.std.proofs.lemmas.Int.{to_z-of_z, fits_signed_from_abs, fits_signed_mul}
-use Rattle.iso_defs.specs.Signs.{is_above}
+use Rattle.iso_defs.specs.Grid.{is_above}
 use Rattle.face_decider.specs.Cycle.{cycle_joined}
 
 narrow : (z : ℤ) → unsigned_abs z < 2 ^ 31 → to_z w64 (of_z w64 z) ≡ z

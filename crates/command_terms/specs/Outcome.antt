@@ -1,15 +1,19 @@
 -- What a command does to its input and its output, and by which answer it ends.
-use Rattle.std.specs.Prelude.{◌≡◌, ◌⊎◌, ℕ, ◌<◌, ◌≤◌, List, length, Result, Ok, Err, IfSome}
+use Rattle.std.specs.Prelude.{ℕ, ◌≤◌, List, length, ◌≡◌, ◌⊎◌, ◌<◌, Result, Ok, Err, IfSome}
+use Rattle.byte_streams.specs.Seen.{Feed, ReadsAll, Tape, AppendsFront}
 use Rattle.std.specs.Io.KnownBytes.{Appends, IsAtEnd}
 use Rattle.byte_streams.specs.Causes.{Rose}
-use Rattle.byte_streams.specs.Seen.{Feed, Tape, AppendsFront}
-use Rattle.command_terms.specs.Inputs.{HasRead}
 use Rattle.command_terms.specs.Volumes.{volume_limit}
 use Rattle.program.specs.declared.answer.VolumeFault.{VolumeFault}
 use Rattle.program.specs.declared.answer.Answer.{Answer}
-use Rattle.program.specs.declared.answer.Answer.TheVariants as answers
 use Rattle.program.specs.declared.answer.Status.{Status}
+use Rattle.program.specs.declared.answer.Answer.TheVariants as answers
 use Rattle.program.specs.declared.answer.Status.TheVariants as statuses
+
+-- these are its bytes, no more than this many
+pub record HasRead (limit : ℕ) (old new : Feed) (bytes : List ℕ) : Type 0 where
+  pub all : ReadsAll old new bytes
+  pub within : length bytes ≤ limit
 
 -- what the input and the output are seen as before a call and after it
 pub record Streams : Type 0 where

@@ -2,13 +2,10 @@
 use Rattle.std.specs.Prelude.{◌≡◌, ℕ, ◌<◌, ◌≤◌, List, length, Option, Some, None, Result, Ok, Err, IfSome, ℤ, if◌then◌else◌}
 use Rattle.std.specs.Io.KnownBytes.{IsAtEnd}
 use Rattle.iso_defs.specs.Grid.{Grid}
-use Rattle.iso_base.specs.Volume.{Voxels, Volume, unpadded}
-use Rattle.iso_base.specs.Shifted.{is_above_pad}
-use Rattle.iso_base.specs.Sizing.{sized}
+use Rattle.iso_base.specs.Volume.{Voxels, Volume, unpadded, is_above_pad, sized, grown, padded_volume}
 use Rattle.iso_base.specs.declared.sizes.SizeFault.{SizeFault}
 use Rattle.byte_streams.specs.Causes.{Rose}
 use Rattle.byte_streams.specs.Seen.{Feed}
-use Rattle.iso_base.specs.Padding.{grown, padded_volume}
 use Rattle.nrrd_read.specs.Nrrd.{nrrd_of}
 use Rattle.refusals.specs.declared.nrrd.NrrdFault.{NrrdFault}
 use Rattle.refusals.specs.declared.nrrd.NrrdFault.TheVariants as faults

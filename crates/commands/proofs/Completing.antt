@@ -5,7 +5,7 @@ use Rattle.std.specs.FinMap.{get}
 use Rattle.iso_base.specs.Triangles.{Mesh}
 use Rattle.iso_base.specs.Volume.{Volume}
 use Rattle.byte_streams.specs.Causes.{Rose}
-use Rattle.byte_streams.specs.Files.{Files}
+use Rattle.byte_streams.specs.Seen.{Files}
 use Rattle.iso_io.specs.Shelves.{Lacks, content}
 use Rattle.session.specs.Sessions.{Course, EndsAfter, script_limit}
 use Rattle.session.specs.declared.ending.Ending.{Ending}
@@ -15,9 +15,8 @@ use Rattle.iso_defs.specs.Grid.{Grid}
 use Rattle.commands.specs.Generating.{WritesGenerated}
 use Rattle.commands.specs.Checks.{Checks, mesh_in, mesh_limit}
 use Rattle.point_command.specs.Meaning.{points_given}
-use Rattle.commands.specs.Meaning.{mesh_given}
-use Rattle.command_terms.specs.Outcome.{IsDoneOrWanting}
-use Rattle.command_terms.specs.Outcome.{Streams}
+use Rattle.commands.specs.Headline.{mesh_given}
+use Rattle.command_terms.specs.Outcome.{IsDoneOrWanting, Streams}
 use Rattle.commands.specs.Outcome.{Call, Rejects}
 use Rattle.commands.specs.Serving.{CanServe, IsCarriedOut, Serves, asked_for}
 use Rattle.commands.specs.Sessions.{Asked, RunsSession, StaysShut, answer_of}

@@ -1,7 +1,7 @@
 -- What each line that asked for a mesh did, among lines that were run.
 use Rattle.std.proofs.Common.{◌≡◌, ◌⊎◌, ℕ, List, [], ◌∷◌, ◌++◌, true, false, Ok, Some, refl, sym, ap, ◌∙◌, subst, inl, inr, append_assoc}
 use Rattle.std.specs.Prelude.{Option}
-use Rattle.byte_streams.specs.Files.{Files}
+use Rattle.byte_streams.specs.Seen.{Files}
 use Rattle.bench_core.specs.Machine.{IsState, State}
 use Rattle.session.proofs.Running.{kept_followed}
 use Rattle.session.proofs.Surfaces.{followed_mesh}

@@ -2,8 +2,7 @@
 use Rattle.std.proofs.Common.{◌≡◌, ℕ, ◌≤◌, List, subst, arith, inr}
 use Rattle.std.specs.Prelude.{Option, Some}
 use Rattle.iso_base.specs.Volume.{Volume}
-use Rattle.byte_streams.specs.Files.{Files}
-use Rattle.byte_streams.specs.Seen.{Feed}
+use Rattle.byte_streams.specs.Seen.{Files, Feed}
 use Rattle.iso_io.specs.Shelves.{Store}
 use Rattle.bench_core.specs.Keeping.{Workbench, first_bench}
 use Rattle.bench_core.specs.Machine.{IsState}

@@ -1,7 +1,7 @@
 -- The cause of each status, from the outcome.
 use Rattle.std.proofs.Common.{◌≡◌, ℕ, ◌<◌, ◌≤◌, List, length, true, Some, None, MatchOption, IfSome, refl, sym, ap, ◌∙◌, subst, inl, inr, ℤ}
 use Rattle.std.specs.Prelude.{Option}
-use Rattle.byte_streams.specs.Files.{Files}
+use Rattle.byte_streams.specs.Seen.{Files}
 use Rattle.iso_io.specs.Shelves.{content}
 use Rattle.bench_core.specs.Keeping.{Workbench}
 use Rattle.std.specs.FinMap.{get}

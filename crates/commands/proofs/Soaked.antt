@@ -3,8 +3,7 @@ use Rattle.std.proofs.Common.{◌≡◌, ℕ, ◌+◌, ◌≤◌, Bool, true, fa
 use Rattle.std.specs.Prelude.{Option, Some, None, if◌then◌else◌}
 use Rattle.std.specs.Io.KnownBytes.{Appends}
 use Rattle.std.proofs.lemmas.List.{append-nil}
-use Rattle.byte_streams.specs.Files.{Files}
-use Rattle.byte_streams.specs.Seen.{Tape}
+use Rattle.byte_streams.specs.Seen.{Files, Tape}
 use Rattle.byte_streams.proofs.Known.{Appends-nil, Appends-trans}
 use Rattle.bench_core.specs.Machine.{State}
 use Rattle.iso_defs.specs.Texts.{line}

@@ -1,27 +1,21 @@
 -- Volumes that were read, taken in their pad.
 use Rattle.std.proofs.Common.{◌≡◌, ℕ, ◌<◌, ◌≤◌, Bool, ltb, Some, None, Ok, Err, true, false, refl, sym, ap, subst, ◌∙◌, ℤ, pos, List, length, get_or, inl, inr, rules}
 use Rattle.std.specs.Prelude.{if◌then◌else◌, Option, Result, IfOk, IfErr, IfSome, All}
-use Rattle.iso_defs.specs.Grid.{Grid, point_count}
-use Rattle.iso_base.specs.Samples.{IsSample}
-use Rattle.iso_base.specs.Shifted.{is_above_pad}
-use Rattle.iso_base.specs.Sizing.{IsGrid, sized}
-use Rattle.iso_base.specs.Volume.{IsVolume, Volume, sample}
+use Rattle.iso_defs.specs.Grid.{Grid, point_count, is_outer}
+use Rattle.iso_base.specs.Volume.{IsSample, is_above_pad, IsGrid, sized, IsVolume, Volume, sample, first_padded, grown, inner_point, padded_sample, padded_volume}
 use Rattle.iso_base.specs.declared.sizes.SizeFault.{SizeFault}
 use Rattle.iso_base.specs.declared.sizes.SizeFault.TheVariants.{TooThin, AxisTooLong, TooMany}
 use Rattle.std.proofs.lemmas.Bool.{ltb-false}
 use Rattle.voxel_list.proofs.Volumes.{padded_is}
-use Rattle.iso_base.specs.Padding.{first_padded, grown, inner_point, padded_sample, padded_volume}
 use Rattle.iso_defs.specs.Lists.{below}
 use Rattle.padded_samples.specs.Pads.{InPad, padded_list}
-use Rattle.iso_defs.specs.Outside.{is_outer}
 use Rattle.std.proofs.lemmas.Bool.{cases_lt}
 use Rattle.std.proofs.lemmas.List.Elements.{All-from_get_or, All-get_or, All-map}
 use Rattle.std.proofs.Math.ListN.{get_or-eq_default}
-use Rattle.command_terms.specs.Volumes.{text_by}
+use Rattle.command_terms.specs.Volumes.{text_by, IsNoVolume, raised, volume_of, with_pad}
 use Rattle.bench_core.specs.Machine.{IsAbovePad}
 use Rattle.bench_core.specs.Surface.{IsWatertight}
 use Rattle.bench_core.proofs.Surfaces.{watertight_of}
-use Rattle.command_terms.specs.Volumes.{IsNoVolume, raised, volume_of, with_pad}
 use Rattle.nrrd_read.specs.Files.{IsRead}
 use Rattle.command_terms.specs.declared.reasons.NoVolume.{NoVolume}
 use Rattle.command_terms.specs.declared.reasons.NoVolume.TheVariants as reasons

@@ -2,15 +2,14 @@
 use Rattle.std.proofs.Common.{◌≡◌, ◌∙◌, ℕ, List, ℤ, true, false, refl, subst, is_some}
 use Rattle.std.specs.Prelude.{Result, Bool}
 use Rattle.iso_defs.specs.Texts as files
-use Rattle.iso_base.specs.Volume.{Volume}
-use Rattle.iso_base.specs.Shifted.{field}
+use Rattle.iso_base.specs.Volume.{Volume, field}
 use Rattle.byte_streams.specs.Seen.{Tape, Puts}
 use Rattle.iso_defs.specs.MeshLists.{FlatMesh}
 use Rattle.flat_mesh.specs.Mesh.{mesh_of}
 use Rattle.mesh_lines.specs.Lines.{text_of}
 use Rattle.mesh_lines.proofs.Texts.{pad_obj, pad_ply, volume_obj, volume_ply}
 use Rattle.bench_core.specs.Texts.{obj_text, ply_text}
-use Rattle.commands.specs.Meaning.{style_of, text_of_volume}
+use Rattle.commands.specs.Headline.{style_of, text_of_volume}
 use Rattle.mesh_text.specs.declared.format.TwoWayFormat.{TwoWayFormat}
 use Rattle.mesh_text.specs.declared.format.TwoWayFormat.TheVariants.{Ply, Obj}
 

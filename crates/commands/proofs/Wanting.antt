@@ -7,13 +7,13 @@ use Rattle.iso_base.specs.declared.fault.BenchFault.TheVariants as faults
 use Rattle.iso_defs.specs.Texts.{line}
 use Rattle.iso_defs.specs.Grid.{Grid}
 use Rattle.iso_base.specs.declared.point.Point.{Point}
-use Rattle.byte_streams.specs.Files.{Files}
+use Rattle.byte_streams.specs.Seen.{Files}
 use Rattle.mesh_cache.specs.Cache.{Cache}
 use Rattle.voxel_list.specs.Areas.{Area}
 use Rattle.bench_core.specs.Keeping.{without_points}
 use Rattle.bench_core.specs.Machine.{Entry, State, checked_level, level_by, pad_fault, redo_by, set_at, undo_by, unless_fault, value_fault}
 use Rattle.bench_core.specs.Texts.{contour_of}
-use Rattle.unpadded_volume.specs.Places.{place_of}
+use Rattle.unpadded_volume.specs.Unpadded.{place_of}
 use Rattle.script.specs.declared.command.Command.{Command}
 use Rattle.script.specs.declared.command.Command.TheVariants.{Set, Fill, Level, Undo, Redo, Contour, Report, Measure, Window}
 use Rattle.script.specs.declared.command.LineFault.{LineFault}

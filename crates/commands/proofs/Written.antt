@@ -2,20 +2,16 @@
 use Rattle.std.proofs.Common.{◌≡◌, ℕ, ◌≤◌, List, length, None, Ok, Err, refl, sym, ap, subst, ℤ}
 use Rattle.std.specs.Prelude.{IfSome, Option, Result}
 use Rattle.std.specs.Io.KnownBytes.{Appends}
-use Rattle.iso_base.specs.Volume.{IsVolume, Volume}
+use Rattle.iso_base.specs.Volume.{IsVolume, Volume, IsSample}
 use Rattle.byte_streams.specs.Seen.{Tape}
 use Rattle.mesh_text.specs.declared.format.TwoWayFormat.{TwoWayFormat}
-use Rattle.command_terms.specs.Volumes.{text_by}
-use Rattle.commands.specs.Headline.{IsMeshWatertight, ShowsMesh}
-use Rattle.commands.specs.Meaning.{mesh_given, mesh_in, text_of_volume}
+use Rattle.command_terms.specs.Volumes.{text_by, HoldsNone, IsNoVolume, volume_answer, volume_limit, volume_of, with_pad}
+use Rattle.commands.specs.Headline.{IsMeshWatertight, ShowsMesh, mesh_given, mesh_in, text_of_volume}
 use Rattle.commands.specs.Volumes.{IsNotTaken}
 use Rattle.commands.proofs.Taken.{given_of, taken_watertight}
-use Rattle.iso_base.specs.Samples.{IsSample}
 use Rattle.nrrd_read.specs.Files.{IsRead}
 use Rattle.command_terms.proofs.ReadVolumes.{read_volume}
-use Rattle.command_terms.specs.Inputs.{HasRead}
-use Rattle.command_terms.specs.Outcome.{Converts, ReadWhole, Streams, WritesGiven}
-use Rattle.command_terms.specs.Volumes.{HoldsNone, IsNoVolume, volume_answer, volume_limit, volume_of, with_pad}
+use Rattle.command_terms.specs.Outcome.{HasRead, Converts, ReadWhole, Streams, WritesGiven}
 use Rattle.command_terms.specs.declared.reasons.NoVolume.{NoVolume}
 use Rattle.command_terms.specs.declared.reasons.NoVolume.TheVariants as reasons
 use Rattle.command_terms.proofs.Told.{if_told, of_whole}

@@ -12,8 +12,7 @@ use Rattle.mesh_read.specs.Obj.{obj_of}
 use Rattle.refusals.specs.declared.mesh.MeshFault.{MeshFault}
 use Rattle.mesh_check.specs.Said.{said}
 use Rattle.program.specs.Verdicts.{verdict_text}
-use Rattle.command_terms.specs.Inputs.{HasRead}
-use Rattle.command_terms.specs.Outcome.{NothingWritten, ReadWhole, Streams, Writes, WritesFront}
+use Rattle.command_terms.specs.Outcome.{HasRead, NothingWritten, ReadWhole, Streams, Writes, WritesFront}
 use Rattle.mesh_text.specs.declared.format.TwoWayFormat.{TwoWayFormat}
 use Rattle.mesh_text.specs.declared.format.TwoWayFormat.TheVariants.{Ply, Obj}
 use Rattle.program.specs.declared.answer.Answer.{Answer}

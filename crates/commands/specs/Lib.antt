@@ -1,5 +1,4 @@
 pub mod Volumes
-pub mod Meaning
 pub mod Outcome
 pub mod Sessions
 pub mod Checks

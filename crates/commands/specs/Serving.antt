@@ -3,14 +3,13 @@ use Rattle.std.specs.Prelude.{◌≡◌, ◌⊎◌, ℕ, ◌≤◌, List, length
 use Rattle.iso_base.specs.Volume.{Volume}
 use Rattle.iso_base.specs.Triangles.{Mesh}
 use Rattle.byte_streams.specs.Causes.{Rose}
-use Rattle.byte_streams.specs.Files.{Files}
+use Rattle.byte_streams.specs.Seen.{Files}
 use Rattle.std.specs.FinMap.{get}
 use Rattle.session.specs.Sessions.{script_limit}
 use Rattle.commands.specs.Checks.{Checks, mesh_in, mesh_limit}
 use Rattle.commands.specs.Generating.{Generates}
-use Rattle.commands.specs.Headline.{ShowsMesh}
+use Rattle.commands.specs.Headline.{ShowsMesh, mesh_given}
 use Rattle.point_command.specs.Meaning.{points_given}
-use Rattle.commands.specs.Meaning.{mesh_given}
 use Rattle.command_terms.specs.Outcome.{Converts, Tells}
 use Rattle.commands.specs.Outcome.{Call, LeavesShelf, Rejects}
 use Rattle.commands.specs.Sessions.{Asked, RunsSession}

@@ -2,8 +2,7 @@
 use Rattle.std.specs.Prelude.{◌≡◌, ◌⊎◌, ℕ, List, ◌∷◌, ◌++◌, true, Option, Some, Ok, IfSome}
 use Rattle.std.specs.Io.KnownBytes.{Appends}
 use Rattle.iso_base.specs.Volume.{Volume}
-use Rattle.byte_streams.specs.Files.{Files}
-use Rattle.byte_streams.specs.Seen.{AppendsFront, Tape}
+use Rattle.byte_streams.specs.Seen.{Files, AppendsFront, Tape}
 use Rattle.iso_io.specs.Shelves.{with_file}
 use Rattle.bench_core.specs.Keeping.{Workbench}
 use Rattle.bench_core.specs.Machine.{State}

@@ -2,11 +2,9 @@
 
 ghost use Rattle.std.specs.Prelude.{◌≡◌, ℤ, is_some, length, Ok, All, IfSome};
 ghost use Rattle.iso_defs.specs.Grid.{point_count};
-ghost use Rattle.iso_base.specs.Volume.{IsVoxels, Volume, unpadded};
-ghost use Rattle.iso_base.specs.Samples.{IsSample};
+ghost use Rattle.iso_base.specs.Volume.{IsVoxels, Volume, unpadded, IsSample};
 ghost use Rattle.byte_streams.specs.Seen.{Puts, ReadsWithin};
-ghost use Rattle.commands.specs.Meaning.{mesh_given, mesh_in, style_of, text_of_volume};
-ghost use Rattle.commands.specs.Headline.{IsMeshWatertight, ShowsMesh};
+ghost use Rattle.commands.specs.Headline.{mesh_given, mesh_in, style_of, text_of_volume, IsMeshWatertight, ShowsMesh};
 ghost use Rattle.program.specs.declared.answer.Answer.TheVariants as answers;
 ghost use Rattle.command_terms.specs.Outcome.{Converts, WritesGiven, streams_between};
 ghost use Rattle.command_terms.specs.Volumes.{volume_limit};

@@ -1,6 +1,6 @@
 //! Sessions: a script on the volume of a file.
 ghost use Rattle.std.specs.Prelude.{◌≡◌, None, IfSome};
-ghost use Rattle.iso_base.specs.Samples.{IsSample};
+ghost use Rattle.iso_base.specs.Volume.{IsSample};
 ghost use Rattle.byte_streams.specs.Seen.{ReadsWithin};
 ghost use Rattle.session.specs.Sessions.{script_limit};
 ghost use Rattle.commands.specs.Outcome.{call_between};

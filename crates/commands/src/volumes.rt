@@ -1,10 +1,7 @@
 //! Volumes of files, opened for a command.
 ghost use Rattle.std.specs.Prelude.{◌≡◌, ◌≤◌, ℤ, None, Option, Some, Ok, IfOk, IfErr, IfSome, length, true};
 ghost use Rattle.iso_defs.specs.Grid.{point_count};
-ghost use Rattle.iso_base.specs.Samples.{IsSample};
-ghost use Rattle.iso_base.specs.Shifted.{is_above_pad};
-ghost use Rattle.iso_base.specs.Volume.{IsVoxels, Volume, unpadded};
-ghost use Rattle.iso_base.specs.Padding.{padded_volume};
+ghost use Rattle.iso_base.specs.Volume.{IsSample, is_above_pad, IsVoxels, Volume, unpadded, padded_volume};
 ghost use Rattle.bench_core.specs.Machine.{begin_fault};
 ghost use Rattle.command_terms.specs.Volumes.{IsNoVolume, volume_of, with_pad};
 ghost use Rattle.commands.specs.Volumes.{FileIs, IsNotTaken, LacksVolume};

@@ -6,7 +6,7 @@ use Rattle.std.proofs.lemmas.Int.{ints}
 use Rattle.std.proofs.lemmas.List.{get_or-set_other, get_or-set_same, length-set}
 use Rattle.std.proofs.lemmas.List.Sums.{sum_by-le-sum_by, sum_by_push}
 use Rattle.iso_defs.specs.Lists.{below}
-use Rattle.measure_laws.specs.Totals.{total}
+use Rattle.measure_laws.specs.Vectors.{total}
 use Rattle.measure_laws.proofs.Totals.{total-append}
 use Rattle.mesh_report.proofs.NumberLaws.{range_more}
 use Rattle.component_walk.specs.Begun.{AreAdded, AreFew, IsEmpty}

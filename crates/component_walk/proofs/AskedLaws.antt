@@ -7,7 +7,7 @@ use Rattle.std.proofs.lemmas.List.Sums.{sum_by-append, sum_by-cons}
 use Rattle.iso_defs.proofs.Ranges.{range_append}
 use Rattle.iso_defs.specs.Bricks.{brick_count}
 use Rattle.iso_defs.specs.Lists.{below}
-use Rattle.iso_base.specs.Sizing.{IsGrid}
+use Rattle.iso_base.specs.Volume.{IsGrid}
 use Rattle.flat_mesh.specs.Lattice.{Leveled, heights}
 use Rattle.brick_rows.specs.Named.{Named, asked_along, asked_among}
 use Rattle.brick_rows.proofs.AskedAll.{rows_asked}

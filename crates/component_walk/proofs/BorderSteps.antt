@@ -6,7 +6,7 @@ use Rattle.std.proofs.lemmas.List.{at_drop_more, at_drop_all}
 use Rattle.iso_defs.specs.Grid.{Grid, cells, coordinate, name_bound, size}
 use Rattle.iso_defs.specs.Cell.{cell_edge, edge_corner}
 use Rattle.iso_defs.specs.Lists.{around, below, closing}
-use Rattle.iso_defs.specs.Surface.{is_border, lies_in_plane}
+use Rattle.iso_defs.specs.Manifold.{share_outer_plane, lies_in_plane}
 use Rattle.iso_defs.proofs.Points.{index_in, x_index, y_index, z_index}
 use Rattle.triangle_laws.proofs.Lists.{In}
 use Rattle.triangle_laws.proofs.Counts.{count-cons, count_none, count-map}
@@ -64,7 +64,7 @@ module _ (g : Grid) (cell : Cell) (at : IsCellAt g cell) where
     abbrev side : ℕ → Bool
     side n = (lies_in_plane g n 0 A && lies_in_plane g n 0 B) || (lies_in_plane g n (size g n - 1) A && lies_in_plane g n (size g n - 1) B)
 
-    here : is_border g A B ≡ list_any side (below 3)
+    here : share_outer_plane g A B ≡ list_any side (below 3)
     here =
         ap (λ t. t && (ltb B (name_bound g) && list_any side (below 3))) (lt-ltb A (name_bound g) (edge_in g cell.index a in_cells ha))
         ∙ ap (λ t. t && list_any side (below 3)) (lt-ltb B (name_bound g) (edge_in g cell.index b in_cells hb))
@@ -99,7 +99,7 @@ module _ (g : Grid) (cell : Cell) (at : IsCellAt g cell) where
     three = ap (λ t. side 0 || (side 1 || t)) (none_more (side 2))
 
     -- whether a step lies in the border
-    pub border_is : is_border g A B ≡ (share_side 0 g.nx X a b || (share_side 1 g.ny Y a b || share_side 2 g.nz Z a b))
+    pub border_is : share_outer_plane g A B ≡ (share_side 0 g.nx X a b || (share_side 1 g.ny Y a b || share_side 2 g.nz Z a b))
     border_is =
         here ∙ (three ∙ (ap (λ t. t || (side 1 || side 2)) (side_is 0 X at_x)
         ∙ (ap (λ t. share_side 0 g.nx X a b || (t || side 2)) (side_is 1 Y at_y) ∙ ap (λ t. share_side 0 g.nx X a b || (share_side 1 g.ny Y a b || t)) (side_is 2 Z at_z))))
@@ -118,7 +118,7 @@ no_side true u size from o p ho low high room =
 -- no step of a cell that does not touch the border lies in it
 pub inner_is : (g : Grid) (cell : Cell) (at : IsCellAt g cell) (a b : ℕ) → a < 12 → b < 12
     → (cell.low.x ≡ 0 → ⊥) → (cell.low.y ≡ 0 → ⊥) → (cell.low.z ≡ 0 → ⊥) → (cell.low.x + 2 ≡ g.nx → ⊥) → (cell.low.y + 2 ≡ g.ny → ⊥) → (cell.low.z + 2 ≡ g.nz → ⊥)
-    → is_border g (cell_edge g cell.index a) (cell_edge g cell.index b) ≡ false
+    → share_outer_plane g (cell_edge g cell.index a) (cell_edge g cell.index b) ≡ false
 inner_is g cell at a b ha hb x0 y0 z0 x1 y1 z1 =
     let c : edge_corner a < 8 = corner_below a ha in
     let sx : share_side 0 g.nx cell.low.x a b ≡ false
@@ -169,7 +169,7 @@ module _ (P : ℕ × ℕ → Bool) (es : List ℕ) where
 -- the same of the steps round a loop of a cell
 module _ (g : Grid) (q : ℕ) (es : List ℕ) where
   abbrev P : ℕ × ℕ → Bool
-  P p = is_border g (cell_edge g q p.0) (cell_edge g q p.1)
+  P p = share_outer_plane g (cell_edge g q p.0) (cell_edge g q p.1)
 
   pub steps_start : 0 < length es → 0 + left P es 1 ≡ steps_on g q es
   unfolding steps_on
@@ -183,13 +183,13 @@ module _ (g : Grid) (q : ℕ) (es : List ℕ) where
       → outer + left P es at ≡ steps_on g q es → outer + one ≡ steps_on g q es
   steps_end outer at one e o h = let s : left P es at ≡ cond (P (get_or es (length es - 1) 0, get_or es 0 0)) 1 0 = ap (left P es) e ∙ round_end P es in omega (arith, s, o, h)
 
-  pub steps_none : ((a b : ℕ) → a < 12 → b < 12 → is_border g (cell_edge g q a) (cell_edge g q b) ≡ false) → ((e : ℕ) → In e es → e < 12) → 0 ≡ steps_on g q es
+  pub steps_none : ((a b : ℕ) → a < 12 → b < 12 → share_outer_plane g (cell_edge g q a) (cell_edge g q b) ≡ false) → ((e : ℕ) → In e es → e < 12) → 0 ≡ steps_on g q es
   unfolding steps_on
   steps_none none low = sym (count_none P (around es) (λ p i t. let ends : In p.0 es × In p.1 es = step_ends es p i in both_ways (P p) (none p.0 p.1 (low p.0 ends.0) (low p.1 ends.1)) t))
 
   -- and by names
-  pub steps_named : steps_on g q es ≡ count_by (λ (p : ℕ × ℕ). is_border g p.0 p.1) (around (map (cell_edge g q) es))
+  pub steps_named : steps_on g q es ≡ count_by (λ (p : ℕ × ℕ). share_outer_plane g p.0 p.1) (around (map (cell_edge g q) es))
   unfolding steps_on
   steps_named =
-      sym (ap (count_by (λ (p : ℕ × ℕ). is_border g p.0 p.1)) (sym (around_map (cell_edge g q) es))
-      ∙ count-map (λ (p : ℕ × ℕ). is_border g p.0 p.1) (on_pair (cell_edge g q)) (around es))
+      sym (ap (count_by (λ (p : ℕ × ℕ). share_outer_plane g p.0 p.1)) (sym (around_map (cell_edge g q) es))
+      ∙ count-map (λ (p : ℕ × ℕ). share_outer_plane g p.0 p.1) (on_pair (cell_edge g q)) (around es))

@@ -11,7 +11,7 @@ use Rattle.iso_defs.specs.Cell.{case_loops, cell_edge, cell_joined, cell_signs}
 use Rattle.iso_defs.specs.Grid.{Grid, is_cell}
 use Rattle.iso_defs.specs.Lists.{below}
 use Rattle.iso_defs.specs.Scratch.{cell_loops, centre_name}
-use Rattle.iso_base.specs.Sizing.{IsGrid}
+use Rattle.iso_base.specs.Volume.{IsGrid}
 use Rattle.triangle_laws.proofs.FanWalk.{no_longer}
 use Rattle.mesh_laws.proofs.Cells.{cell_in, range_in}
 use Rattle.flat_mesh.specs.Centres.{IsCellAt}

@@ -5,11 +5,10 @@ use Rattle.std.proofs.lemmas.Bool.{cases_eq, eq-eqb, ne_eqb}
 use Rattle.std.proofs.lemmas.List.{get_or-map, length-map}
 use Rattle.std.proofs.lemmas.List.FromFn.{length-range_with_len}
 use Rattle.std.proofs.lemmas.List.Sums.{count_by-le-length}
-use Rattle.iso_base.specs.Sizing.{IsGrid}
-use Rattle.iso_defs.specs.Grid.{name_bound}
+use Rattle.iso_base.specs.Volume.{IsGrid}
+use Rattle.iso_defs.specs.Grid.{name_bound, is_crossing}
 use Rattle.iso_defs.specs.Lists.{below}
 use Rattle.iso_defs.specs.Scratch.{number_of}
-use Rattle.iso_defs.specs.Signs.{is_crossing}
 use Rattle.crossing_edges.specs.Flags.{rank}
 use Rattle.flat_mesh.specs.Lattice.{Leveled, heights}
 use Rattle.flat_mesh.specs.Rows.{row_start}
@@ -18,7 +17,7 @@ use Rattle.component_labels.specs.Walks.{IsLeast}
 use Rattle.component_labels.specs.Fronts.{none, row_name}
 use Rattle.component_labels.specs.Labelling.{Known}
 use Rattle.mesh_report.proofs.PlaceLaws.{in_place}
-use Rattle.measure_laws.specs.Totals.{total}
+use Rattle.measure_laws.specs.Vectors.{total}
 use Rattle.mesh_laws.proofs.Cells.{range_at_least}
 use Rattle.mesh_report.proofs.Sums.{sum_agree}
 use Rattle.part_laws.specs.ByLabels.{firsts}

@@ -5,7 +5,7 @@ use Rattle.std.proofs.lemmas.List.{length-map}
 use Rattle.std.specs.List.{count_by}
 use Rattle.iso_defs.specs.Cell.{cell_edge}
 use Rattle.iso_defs.specs.Lists.{around}
-use Rattle.iso_defs.specs.Surface.{is_border}
+use Rattle.iso_defs.specs.Manifold.{share_outer_plane}
 use Rattle.iso_defs.specs.Scratch.{has_centre}
 use Rattle.flat_mesh.specs.Lattice.{Leveled}
 use Rattle.part_laws.specs.Loops.{Loop}
@@ -21,8 +21,8 @@ module _ (v : Leveled) (q : ℕ) (es : List ℕ) (l : Loop) (h : IsLoopIn v q es
   long : length l.1 ≡ length es
   long = ap (λ (k : Loop). length k.1) h.is ∙ length-map es (cell_edge v.grid q)
 
-  outer : steps_on v.grid q es ≡ count_by (λ (p : ℕ × ℕ). is_border v.grid p.0 p.1) (around l.1)
-  outer = steps_named v.grid q es ∙ ap (λ (k : Loop). count_by (λ (p : ℕ × ℕ). is_border v.grid p.0 p.1) (around k.1)) (sym h.is)
+  outer : steps_on v.grid q es ≡ count_by (λ (p : ℕ × ℕ). share_outer_plane v.grid p.0 p.1) (around l.1)
+  outer = steps_named v.grid q es ∙ ap (λ (k : Loop). count_by (λ (p : ℕ × ℕ). share_outer_plane v.grid p.0 p.1) (around k.1)) (sym h.is)
 
   plus_is : (a b n : ℕ) → a ≡ b + n → pos a ≡ pos b +ℤ pos n
   plus_is a b n e = omega (arith, ints, e)
@@ -37,5 +37,5 @@ module _ (v : Leveled) (q : ℕ) (es : List ℕ) (l : Loop) (h : IsLoopIn v q es
       plus_is new.spokes old.spokes (cond (has_centre l) (length l.1) 0)
       (spokes ∙ (ap (λ b. old.spokes + cond b (length es) 0) (sym (ap (ltb 3) long ∙ e)) ∙ ap (λ n. old.spokes + cond (has_centre l) n 0) (sym long)))
   counts_more old new t e threes centres spokes border (suc (suc (suc zero))) =
-      plus_is new.border old.border (count_by (λ (p : ℕ × ℕ). is_border v.grid p.0 p.1) (around l.1)) (border ∙ ap (λ n. old.border + n) outer)
+      plus_is new.border old.border (count_by (λ (p : ℕ × ℕ). share_outer_plane v.grid p.0 p.1) (around l.1)) (border ∙ ap (λ n. old.border + n) outer)
   counts_more old new t e threes centres spokes border (suc (suc (suc (suc i)))) = plus_is 0 0 0 (omega arith)

@@ -5,10 +5,10 @@ use Rattle.std.proofs.lemmas.List.Sums.{sum_by-cons}
 use Rattle.std.specs.List.{count_by, sum_by}
 use Rattle.iso_defs.specs.Lists.{around}
 use Rattle.iso_defs.specs.Scratch.{has_centre}
-use Rattle.iso_defs.specs.Surface.{is_border}
+use Rattle.iso_defs.specs.Manifold.{share_outer_plane}
 use Rattle.triangle_laws.proofs.Counts.{count-cons}
 use Rattle.triangle_laws.proofs.Lists.{In}
-use Rattle.measure_laws.specs.Totals.{total}
+use Rattle.measure_laws.specs.Vectors.{total}
 use Rattle.mesh_report.proofs.Sums.{sum_add, sum_agree}
 use Rattle.mesh_report.specs.declared.part.Part.{Part}
 use Rattle.flat_mesh.specs.Lattice.{Leveled}
@@ -45,8 +45,8 @@ module _ (v : Leveled) (ls : List Loop) (long : (l : Loop) → In l ls → 3 ≤
   spokes_are : c.spokes ≡ spokes ls
   spokes_are = pos_same _ _ (h 2 ∙ total_pos (λ (l : Loop). cond (has_centre l) (length l.1) 0) ls)
 
-  border_is : c.border ≡ rims_where (is_border v.grid) ls
-  border_is = pos_same _ _ (h 3 ∙ total_pos (λ (l : Loop). count_by (λ (p : ℕ × ℕ). is_border v.grid p.0 p.1) (around l.1)) ls)
+  border_is : c.border ≡ rims_where (share_outer_plane v.grid) ls
+  border_is = pos_same _ _ (h 3 ∙ total_pos (λ (l : Loop). count_by (λ (p : ℕ × ℕ). share_outer_plane v.grid p.0 p.1) (around l.1)) ls)
 
   faces_are : c.threes + c.spokes ≡ faces ls
   faces_are =
@@ -63,14 +63,14 @@ module _ (v : Leveled) (ls : List Loop) (long : (l : Loop) → In l ls → 3 ≤
   rims_are : 3 * c.threes + c.spokes ≡ rims ls
   rims_are = omega (arith, faces_are, spokes_are, sides_round ls long)
 
-  pub part_is : (least crossings : ℕ) → part_with least crossings c ≡ part_by (is_border v.grid) least crossings ls
+  pub part_is : (least crossings : ℕ) → part_with least crossings c ≡ part_by (share_outer_plane v.grid) least crossings ls
   part_is least crossings =
-      let steps : 3 * c.threes + c.spokes + c.border ≡ rims ls + rims_where (is_border v.grid) ls = omega (arith, rims_are, border_is) in
+      let steps : 3 * c.threes + c.spokes + c.border ≡ rims ls + rims_where (share_outer_plane v.grid) ls = omega (arith, rims_are, border_is) in
       ap (λ n. part_of_numbers least (crossings + n) ((3 * c.threes + c.spokes + c.border) / 2 + c.spokes) (c.threes + c.spokes) c.border) centres_are
       ∙ (ap (λ n. part_of_numbers least (crossings + centres ls) (n / 2 + c.spokes) (c.threes + c.spokes) c.border) steps
-      ∙ (ap (λ n. part_of_numbers least (crossings + centres ls) ((rims ls + rims_where (is_border v.grid) ls) / 2 + n) (c.threes + c.spokes) c.border) spokes_are
-      ∙ (ap (λ n. part_of_numbers least (crossings + centres ls) ((rims ls + rims_where (is_border v.grid) ls) / 2 + spokes ls) n c.border) faces_are
-      ∙ ap (λ n. part_of_numbers least (crossings + centres ls) ((rims ls + rims_where (is_border v.grid) ls) / 2 + spokes ls) (faces ls) n) border_is)))
+      ∙ (ap (λ n. part_of_numbers least (crossings + centres ls) ((rims ls + rims_where (share_outer_plane v.grid) ls) / 2 + n) (c.threes + c.spokes) c.border) spokes_are
+      ∙ (ap (λ n. part_of_numbers least (crossings + centres ls) ((rims ls + rims_where (share_outer_plane v.grid) ls) / 2 + spokes ls) n c.border) faces_are
+      ∙ ap (λ n. part_of_numbers least (crossings + centres ls) ((rims ls + rims_where (share_outer_plane v.grid) ls) / 2 + spokes ls) (faces ls) n) border_is)))
 
   pub few_are : (crossings : ℕ) → crossings + centres ls < 4294967296 → faces ls < 4294967296 → AreFew crossings c
   few_are crossings vertices triangles = record {

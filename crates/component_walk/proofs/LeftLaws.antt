@@ -7,7 +7,7 @@ use Rattle.std.proofs.lemmas.List.Elements.{filter-append}
 use Rattle.std.proofs.lemmas.List.Sums.{count_by-le-length, length-filter}
 use Rattle.std.proofs.Math.Nat.{add-mod-mod, mod-add-div, mod-eq_of_lt, mul-add, mul-le-mul_left}
 use Rattle.iso_defs.specs.Lists.{below}
-use Rattle.iso_defs.specs.Signs.{is_crossing}
+use Rattle.iso_defs.specs.Grid.{is_crossing}
 use Rattle.triangle_laws.proofs.Counts.{count-append, count-cons}
 use Rattle.crossing_edges.specs.Flags.{rank}
 use Rattle.flat_mesh.specs.Lattice.{Leveled, heights}

@@ -10,10 +10,9 @@ use Rattle.iso_defs.specs.Lists.{around}
 use Rattle.iso_defs.specs.Place.{Position, centre_position, edge_coordinate, edge_position, mean, place}
 use Rattle.iso_defs.specs.Scratch.{centre_name}
 use Rattle.triangle_laws.proofs.Lists.{In}
-use Rattle.measure_laws.specs.Vectors.{Vector, cross, dot, minus}
-use Rattle.measure_laws.specs.Totals.{total}
-use Rattle.measure.specs.Positions.{vector_of}
-use Rattle.iso_defs.specs.Surface.{is_border}
+use Rattle.measure_laws.specs.Vectors.{Vector, cross, dot, minus, total}
+use Rattle.measure.specs.Measures.{vector_of}
+use Rattle.iso_defs.specs.Manifold.{share_outer_plane}
 use Rattle.measure_laws.proofs.Totals.{total-map}
 use Rattle.mesh_laws.proofs.AllFans.{around_map}
 use Rattle.mesh_laws.proofs.Apart.{by_twelve}
@@ -198,5 +197,5 @@ module _ (v : Leveled) (cell : Cell) (h : IsCellAt v.grid cell) where
     measured_is s six area border (suc (suc zero)) = ap (λ (u : Vector). u.1) area
     measured_is s six area border (suc (suc (suc zero))) = ap (λ (u : Vector). u.2) area
     measured_is s six area border (suc (suc (suc (suc zero)))) =
-        ap pos (border ∙ (steps_named v.grid q es ∙ ap (λ (k : Loop). count_by (λ (p : ℕ × ℕ). is_border v.grid p.0 p.1) (around k.1)) (sym is.is)))
+        ap pos (border ∙ (steps_named v.grid q es ∙ ap (λ (k : Loop). count_by (λ (p : ℕ × ℕ). share_outer_plane v.grid p.0 p.1) (around k.1)) (sym is.is)))
     measured_is s six area border (suc (suc (suc (suc (suc i))))) = refl

@@ -1,19 +1,17 @@
 -- The shares of the components are the measures of the mesh.
 use Rattle.std.proofs.Common.{◌≡◌, ℕ, suc, ◌*◌, ◌<◌, ◌≤◌, ◌^◌, ℤ, Bool, cond, is_some, List, [], ◌∷◌, map, length, get_or, refl, sym, ◌∙◌, ap, ap₂, arith, unsigned_abs, All}
 use Rattle.std.specs.List.{count_by}
-use Rattle.iso_base.specs.Sizing.{IsGrid}
-use Rattle.iso_base.specs.Volume.{Volume}
-use Rattle.iso_defs.specs.Grid.{point_count}
+use Rattle.iso_base.specs.Volume.{IsGrid, Volume}
+use Rattle.iso_defs.specs.Grid.{point_count, IsThick}
 use Rattle.iso_defs.specs.Lists.{around}
-use Rattle.iso_defs.specs.Outside.{IsThick}
 use Rattle.iso_defs.specs.Scratch.{number_of}
-use Rattle.iso_defs.specs.Surface.{is_border}
+use Rattle.iso_defs.specs.Manifold.{share_outer_plane}
 use Rattle.triangle_laws.proofs.Lists.{In, In-filter}
 use Rattle.flat_mesh.specs.Lattice.{Leveled, heights}
 use Rattle.brick_rows.specs.Rows.{at_level}
 use Rattle.measure_laws.specs.Vectors.{Vector}
 use Rattle.measure.specs.declared.share.Share.{Share}
-use Rattle.measure.specs.Positions.{coordinates, vector_of}
+use Rattle.measure.specs.Measures.{coordinates, vector_of}
 use Rattle.part_laws.specs.Printed.{measures_at, position_in}
 use Rattle.part_laws.specs.Classes.{is_of_class}
 use Rattle.part_laws.specs.Loops.{Loop, mesh_loops, rims, rims_where}
@@ -54,10 +52,10 @@ module _ (v : Leveled) where
     area_is : vector_of c.tally.area ≡ area_round (named_position v) ours
     area_is = let x = is.values 1 in let y = is.values 2 in let z = is.values 3 in λ i. (x i, y i, z i)
 
-    border_is : c.tally.border ≡ rims_where (is_border v.grid) ours
-    border_is = ap unsigned_abs (is.values 4 ∙ total_natural (λ (l : Loop). count_by (λ (p : ℕ × ℕ). is_border v.grid p.0 p.1) (around l.1)) ours)
+    border_is : c.tally.border ≡ rims_where (share_outer_plane v.grid) ours
+    border_is = ap unsigned_abs (is.values 4 ∙ total_natural (λ (l : Loop). count_by (λ (p : ℕ × ℕ). share_outer_plane v.grid p.0 p.1) (around l.1)) ours)
 
-    component_share : (padded : Bool) → share_at padded c ≡ share_round (is_border v.grid) (placed v padded) (number_of v.grid (heights v) k) ours
+    component_share : (padded : Bool) → share_at padded c ≡ share_round (share_outer_plane v.grid) (placed v padded) (number_of v.grid (heights v) k) ours
     component_share padded =
         same _ _ _ _ _ _ _ _ is.least
         (ap₂ (λ z a. cond padded (off_layer z a) z) (is.values 0) area_is ∙ sym (sixes_placed v padded ours ours_known))
@@ -83,9 +81,9 @@ module _ (v : Leveled) where
     pub components_move : IsGrid v.grid → All CanMove cs
     components_move grid i d low = component_moves (get_or (classes (edges_of v) (loops_of v)) i 0) (get_or cs i d) (are.each i d low) grid
 
-    pub shares_are : (padded : Bool) → map (share_at padded) cs ≡ map (λ k. share_round (is_border v.grid) (placed v padded) (number_of v.grid (heights v) k) (class_loops (loops_of v) k)) (classes (edges_of v) (loops_of v))
+    pub shares_are : (padded : Bool) → map (share_at padded) cs ≡ map (λ k. share_round (share_outer_plane v.grid) (placed v padded) (number_of v.grid (heights v) k) (class_loops (loops_of v) k)) (classes (edges_of v) (loops_of v))
     shares_are padded =
-        maps_agree (share_at padded) (λ k. share_round (is_border v.grid) (placed v padded) (number_of v.grid (heights v) k) (class_loops (loops_of v) k)) cs (classes (edges_of v) (loops_of v)) are.count
+        maps_agree (share_at padded) (λ k. share_round (share_outer_plane v.grid) (placed v padded) (number_of v.grid (heights v) k) (class_loops (loops_of v) k)) cs (classes (edges_of v) (loops_of v)) are.count
         (λ i d low. component_share (get_or (classes (edges_of v) (loops_of v)) i 0) (get_or cs i d) (are.each i d low) padded)
 
 -- those of a volume at a level

@@ -4,14 +4,11 @@ use Rattle.std.proofs.lemmas.List.{get_or-map, length-map, same_lists}
 use Rattle.std.proofs.lemmas.List.FromFn.{length-range_with_len}
 use Rattle.std.proofs.lemmas.List.Sums.{count_by-le-length, length-filter, sum_by-cons}
 use Rattle.std.specs.List.{count_by, filter, list_any, range_with_len, sum_by}
-use Rattle.iso_defs.specs.Grid.{name_bound}
+use Rattle.iso_defs.specs.Grid.{name_bound, IsThick, is_crossing}
 use Rattle.iso_defs.specs.Lists.{below}
-use Rattle.iso_defs.specs.Manifold.{uses}
-use Rattle.iso_defs.specs.Outside.{IsThick}
+use Rattle.iso_defs.specs.Manifold.{uses, share_outer_plane}
 use Rattle.iso_defs.specs.Scratch.{has_centre, number_of, triangles, vertex_names, vertices}
-use Rattle.iso_defs.specs.Signs.{is_crossing}
-use Rattle.iso_defs.specs.Surface.{is_border}
-use Rattle.iso_base.specs.Sizing.{IsGrid}
+use Rattle.iso_base.specs.Volume.{IsGrid}
 use Rattle.triangle_laws.proofs.Counts.{count-cons}
 use Rattle.triangle_laws.proofs.Lists.{In, In-filter}
 use Rattle.mesh_laws.proofs.Numbers.{count_less}
@@ -25,7 +22,7 @@ use Rattle.mesh_report.specs.Report.{Summary, components, part_of, total_of, use
 use Rattle.mesh_report.specs.declared.part.Part.{Part}
 use Rattle.mesh_report.proofs.NumberLaws.{filter_all}
 use Rattle.mesh_report.proofs.PlaceLaws.{in_place}
-use Rattle.measure_laws.specs.Totals.{total}
+use Rattle.measure_laws.specs.Vectors.{total}
 use Rattle.component_labels.specs.Fronts.{row_name}
 use Rattle.component_labels.specs.Labelling.{Known}
 use Rattle.part_laws.specs.Classes.{class_of, is_of_class}
@@ -81,7 +78,7 @@ module _ (v : Leveled) (grid : IsGrid v.grid) where
   thick = record { x = grid.x.least; y = grid.y.least; z = grid.z.least }
 
   abbrev sum_of_all : Part
-  sum_of_all = part_by (is_border v.grid) 0 (length (edges_of v)) (loops_of v)
+  sum_of_all = part_by (share_outer_plane v.grid) 0 (length (edges_of v)) (loops_of v)
 
   total_is : total_of (length (vertices v.grid (heights v))) (triangles v.grid (heights v)) ≡ sum_of_all
   total_is = ap (λ (s : Summary). s.total) (summary_is v.grid (heights v) thick)
@@ -107,7 +104,7 @@ module _ (v : Leveled) (grid : IsGrid v.grid) where
   -- the whole
   module _ (c : LoopCounts) (h : (i : ℕ) → number c i ≡ total (counted v i) (loops_of v)) (crossings : ℕ) (all : crossings ≡ length (edges_of v)) where
     pub whole_is : part_with 0 crossings c ≡ total_of (length (vertices v.grid (heights v))) (triangles v.grid (heights v))
-    whole_is = part_is v (loops_of v) long c h 0 crossings ∙ (ap (λ n. part_by (is_border v.grid) 0 n (loops_of v)) all ∙ sym total_is)
+    whole_is = part_is v (loops_of v) long c h 0 crossings ∙ (ap (λ n. part_by (share_outer_plane v.grid) 0 n (loops_of v)) all ∙ sym total_is)
 
     pub whole_few : AreFew crossings c
     whole_few = few_are v (loops_of v) long c h crossings (omega (arith, all, few_corners)) (omega (arith, few_faces))
@@ -138,7 +135,7 @@ module _ (v : Leveled) (grid : IsGrid v.grid) where
         = count_less (vertex_names v.grid (heights v)) (class_at i) (class_at j) (crossing_known v.grid (heights v) (class_at i) known) less in
         omega (arith, rises, (h.each i d (omega (arith, l, m))).least, (h.each j d m).least)
 
-    pub parts_are : map (λ (c : Component LoopCounts). part_with c.least c.crossings c.tally) cs ≡ map (class_part (number_of v.grid (heights v)) (edges_of v) (is_border v.grid) (loops_of v)) (classes (edges_of v) (loops_of v))
+    pub parts_are : map (λ (c : Component LoopCounts). part_with c.least c.crossings c.tally) cs ≡ map (class_part (number_of v.grid (heights v)) (edges_of v) (share_outer_plane v.grid) (loops_of v)) (classes (edges_of v) (loops_of v))
     parts_are =
         same_lists _ _ (length-map cs part ∙ (h.count ∙ sym (length-map (classes (edges_of v) (loops_of v)) of_class)))
         (λ i d l.
@@ -147,14 +144,14 @@ module _ (v : Leveled) (grid : IsGrid v.grid) where
         let k : ℕ = class_at i in
         get_or-map part cs i none d inside
         ∙ (part_is v (class_loops (loops_of v) k) (class_long k) c.tally (h.each i none inside).values c.least c.crossings
-        ∙ (ap₂ (λ m n. part_by (is_border v.grid) m n (class_loops (loops_of v) k)) (h.each i none inside).least (h.each i none inside).crossings
+        ∙ (ap₂ (λ m n. part_by (share_outer_plane v.grid) m n (class_loops (loops_of v) k)) (h.each i none inside).least (h.each i none inside).crossings
         ∙ sym (get_or-map of_class (classes (edges_of v) (loops_of v)) i 0 d (omega (arith, inside, h.count))))))
       where
         part : Component LoopCounts → Part
         part c = part_with c.least c.crossings c.tally
 
         of_class : ℕ → Part
-        of_class = class_part (number_of v.grid (heights v)) (edges_of v) (is_border v.grid) (loops_of v)
+        of_class = class_part (number_of v.grid (heights v)) (edges_of v) (share_outer_plane v.grid) (loops_of v)
 
         none : Component LoopCounts
         none = record { least = 0; crossings = 0; tally = record { threes = 0; centres = 0; spokes = 0; border = 0 } }

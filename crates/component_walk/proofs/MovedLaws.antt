@@ -6,8 +6,7 @@ use Rattle.std.proofs.lemmas.List.Sums.{sum_by-cons}
 use Rattle.iso_defs.specs.Lists.{around}
 use Rattle.triangle_laws.proofs.Lists.{In}
 use Rattle.flat_mesh.specs.Lattice.{Leveled, heights}
-use Rattle.measure_laws.specs.Totals.{total}
-use Rattle.measure_laws.specs.Vectors.{Vector, cross, dot}
+use Rattle.measure_laws.specs.Vectors.{total, Vector, cross, dot}
 use Rattle.measure_laws.proofs.Totals.{total_add, total_less, total_times}
 use Rattle.part_laws.specs.Loops.{Loop, mesh_loops}
 use Rattle.part_laws.specs.Swept.{area_round, six_of, swept}

@@ -5,11 +5,10 @@ use Rattle.std.proofs.lemmas.Bool.{cases_Bool, le-ltb, lt-ltb, ltb-true}
 use Rattle.std.proofs.lemmas.Int.{ints}
 use Rattle.std.proofs.lemmas.List.{get_or-map, length-map}
 use Rattle.iso_defs.specs.Cell.{case_loops, cell_edge, cell_joined, cell_signs}
-use Rattle.iso_defs.specs.Grid.{cells, name_bound}
+use Rattle.iso_defs.specs.Grid.{cells, name_bound, is_crossing}
 use Rattle.iso_defs.specs.Lists.{below}
 use Rattle.iso_defs.specs.Place.{Position, centre_position, edge_position}
 use Rattle.iso_defs.specs.Scratch.{cell_centres, cell_loops, centre_name, crossing_edges, has_centre, number_of, vertices}
-use Rattle.iso_defs.specs.Signs.{is_crossing}
 use Rattle.triangle_laws.proofs.Counts.{count-cons, count_none}
 use Rattle.triangle_laws.proofs.Lists.{In, In-filter, In-flat_map, In-left, In-map, In-right, in_filter, in_flat_map, in_map}
 use Rattle.mesh_laws.proofs.Cells.{range_at_least}
@@ -17,7 +16,7 @@ use Rattle.mesh_laws.proofs.Oriented.{Ascending, vertices_ascend}
 use Rattle.flat_mesh.specs.Faces.{loops_at}
 use Rattle.flat_mesh.specs.Lattice.{Leveled, heights}
 use Rattle.measure_laws.specs.Vectors.{Vector, minus}
-use Rattle.measure.specs.Positions.{position, vector_of}
+use Rattle.measure.specs.Measures.{position, vector_of}
 use Rattle.part_laws.specs.Printed.{printed_position, printed_positions}
 use Rattle.part_laws.specs.Loops.{Loop, loops_in, mesh_loops}
 use Rattle.part_laws.specs.Swept.{tip}

@@ -6,8 +6,7 @@ use Rattle.std.proofs.lemmas.List.{at_drop_more, at_drop_all, length-map}
 use Rattle.std.proofs.lemmas.List.Sums.{sum-map, sum_by_more}
 use Rattle.iso_defs.specs.Lists.{closing}
 use Rattle.iso_defs.specs.Place.{Position, mean}
-use Rattle.measure_laws.specs.Vectors.{Vector, cross, plus}
-use Rattle.measure_laws.specs.Totals.{total}
+use Rattle.measure_laws.specs.Vectors.{Vector, cross, plus, total}
 use Rattle.part_laws.specs.Swept.{swept}
 use Rattle.component_walk.specs.Local.{IsNear, lanes_of, listed, local_tip, moved, position_sum, rounded}
 

@@ -4,14 +4,13 @@ use Rattle.std.specs.List.{filter, flat_map}
 use Rattle.std.proofs.lemmas.Bool.{both_ways, cases_Bool, cases_lt, eq-eqb, le-ltb, lt-ltb, ne_eqb}
 use Rattle.std.proofs.lemmas.List.{drop_all, take_all}
 use Rattle.std.proofs.Math.Nat.{mul-add, mul-le-mul_left}
-use Rattle.iso_base.specs.Sizing.{IsGrid}
+use Rattle.iso_base.specs.Volume.{IsGrid}
 use Rattle.iso_base.proofs.VolumeLaws.{grid_is_thick}
 use Rattle.iso_defs.specs.Bricks.{bricks_along}
 use Rattle.iso_defs.specs.Cell.{cell_edge}
-use Rattle.iso_defs.specs.Grid.{Grid, cells, coordinate, index, is_cell, name_bound, point_count}
+use Rattle.iso_defs.specs.Grid.{Grid, cells, coordinate, index, is_cell, name_bound, point_count, is_crossing}
 use Rattle.iso_defs.specs.Lists.{below}
 use Rattle.iso_defs.specs.Scratch.{cell_loops, centre_name, crossing_edges}
-use Rattle.iso_defs.specs.Signs.{is_crossing}
 use Rattle.iso_defs.proofs.Points.{index_of_point, x_index, y_index, z_index}
 use Rattle.triangle_laws.proofs.Lists.{In, In-filter, In-flat_map, In-map, in_filter, in_flat_map, in_map}
 use Rattle.mesh_laws.proofs.Cells.{cell_in, range_at_least, range_in}

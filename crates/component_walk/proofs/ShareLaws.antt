@@ -3,7 +3,7 @@ use Rattle.std.proofs.Common.{◌≡◌, ◌+◌, ◌*◌, ◌<◌, ◌≤◌, �
 use Rattle.std.specs.Int.{w128}
 use Rattle.std.proofs.lemmas.Int.{ints, fits_signed_from_abs}
 use Rattle.measure_laws.specs.Vectors.{Vector}
-use Rattle.measure.specs.Positions.{IsWithin}
+use Rattle.measure.specs.Measures.{IsWithin}
 use Rattle.measure.proofs.Exact.{abs_sum, abs_times, kept, kept_is}
 use Rattle.component_walk.specs.Shares.{off_layer}
 

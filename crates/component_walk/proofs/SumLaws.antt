@@ -5,7 +5,7 @@ use Rattle.std.proofs.lemmas.List.{map-append, take_more}
 use Rattle.std.proofs.lemmas.List.Sums.{sum_by-append, sum_by_push}
 use Rattle.std.specs.List.{range_with_len, sum_by}
 use Rattle.iso_defs.specs.Lists.{below}
-use Rattle.measure_laws.specs.Totals.{total}
+use Rattle.measure_laws.specs.Vectors.{total}
 use Rattle.measure_laws.proofs.Totals.{total-append}
 use Rattle.mesh_report.proofs.NumberLaws.{range_more}
 use Rattle.part_laws.proofs.Counted.{range_join}

@@ -7,18 +7,17 @@ use Rattle.std.proofs.lemmas.List.{get_or-map, get_or-set_other, get_or-set_same
 use Rattle.std.proofs.lemmas.List.Sums.{sum_by-cons, sum_by_push}
 use Rattle.std.proofs.Math.Nat.{mod-lt, mul-le-mul_left}
 use Rattle.iso_defs.specs.Cell.{cell_edge, edge_corner}
-use Rattle.iso_defs.specs.Grid.{Grid}
+use Rattle.iso_defs.specs.Grid.{Grid, is_crossing}
 use Rattle.iso_defs.specs.Lists.{below, is_in}
-use Rattle.iso_defs.specs.Signs.{is_crossing}
 use Rattle.triangle_laws.proofs.Lists.{In, In-filter, In-map}
 use Rattle.triangle_laws.proofs.Counts.{count_agree, count_none}
 use Rattle.triangle_laws.proofs.Fans.{in_is_in}
 use Rattle.mesh_laws.proofs.Cells.{range_at_least}
 use Rattle.mesh_laws.proofs.TwoCells.{corner_below}
-use Rattle.measure_laws.specs.Totals.{total}
+use Rattle.measure_laws.specs.Vectors.{total}
 use Rattle.measure_laws.proofs.Totals.{total-append}
 use Rattle.cell_loops.specs.Loops.{IsLoop}
-use Rattle.iso_base.specs.Sizing.{IsGrid}
+use Rattle.iso_base.specs.Volume.{IsGrid}
 use Rattle.crossing_edges.specs.Flags.{rank}
 use Rattle.flat_mesh.specs.Centres.{IsCellAt}
 use Rattle.flat_mesh.specs.Lattice.{Leveled, heights}

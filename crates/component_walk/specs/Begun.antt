@@ -3,7 +3,7 @@ use Rattle.std.specs.Prelude.{◌≡◌, ◌≢◌, ℕ, ◌<◌, ◌==◌, ℤ,
 use Rattle.std.specs.List.{sum_by}
 use Rattle.iso_defs.specs.Lists.{below}
 use Rattle.component_labels.specs.Fronts.{none}
-use Rattle.measure_laws.specs.Totals.{total}
+use Rattle.measure_laws.specs.Vectors.{total}
 use Rattle.part_laws.specs.ByLabels.{firsts}
 use Rattle.component_walk.specs.declared.components.Component.{Component}
 

@@ -1,11 +1,11 @@
 -- The components of a mesh, and what is added up of their loops.
 use Rattle.std.specs.Prelude.{◌≡◌, ℕ, ◌*◌, ◌<◌, ◌==◌, ℤ, List, length, slice_index_or}
 use Rattle.std.specs.List.{count_by}
-use Rattle.iso_defs.specs.Outside.{IsThick}
+use Rattle.iso_defs.specs.Grid.{IsThick}
 use Rattle.iso_defs.specs.Scratch.{crossing_edges, number_of}
 use Rattle.flat_mesh.specs.Lattice.{Leveled, heights}
 use Rattle.component_labels.specs.Labelling.{Known}
-use Rattle.measure_laws.specs.Totals.{total}
+use Rattle.measure_laws.specs.Vectors.{total}
 use Rattle.part_laws.specs.Classes.{class_of}
 use Rattle.part_laws.specs.Loops.{Loop, mesh_loops, rims}
 use Rattle.part_laws.specs.Parts.{class_loops, classes}

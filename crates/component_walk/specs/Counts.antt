@@ -3,7 +3,7 @@ use Rattle.std.specs.Prelude.{ℕ, zero, suc, ◌+◌, ◌*◌, ◌/◌, ◌<◌
 use Rattle.std.specs.List.{count_by}
 use Rattle.iso_defs.specs.Lists.{around}
 use Rattle.iso_defs.specs.Scratch.{has_centre}
-use Rattle.iso_defs.specs.Surface.{is_border}
+use Rattle.iso_defs.specs.Manifold.{share_outer_plane}
 use Rattle.flat_mesh.specs.Lattice.{Leveled}
 use Rattle.mesh_report.specs.declared.part.Part.{Part}
 use Rattle.part_laws.specs.Loops.{Loop}
@@ -22,7 +22,7 @@ abbrev pub counted : Leveled → ℕ → Loop → ℤ
 counted v zero l = pos (if has_centre l then 0 else 1)
 counted v (suc zero) l = pos (if has_centre l then 1 else 0)
 counted v (suc (suc zero)) l = pos (if has_centre l then length l.1 else 0)
-counted v (suc (suc (suc zero))) l = pos (count_by (λ (p : ℕ × ℕ). is_border v.grid p.0 p.1) (around l.1))
+counted v (suc (suc (suc zero))) l = pos (count_by (λ (p : ℕ × ℕ). share_outer_plane v.grid p.0 p.1) (around l.1))
 counted v (suc (suc (suc (suc _)))) l = pos 0
 
 -- none is more than the steps round the loops

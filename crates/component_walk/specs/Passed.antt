@@ -2,7 +2,7 @@
 use Rattle.std.specs.Prelude.{◌≡◌, ℕ, ◌+◌, ◌*◌, ◌%◌, ◌<◌, ◌≤◌, ◌==◌, not, List, length, map, slice_index}
 use Rattle.std.specs.List.{AllByRecursion, count_by, filter}
 use Rattle.iso_defs.specs.Lists.{below}
-use Rattle.iso_defs.specs.Signs.{is_crossing}
+use Rattle.iso_defs.specs.Grid.{is_crossing}
 use Rattle.crossing_edges.specs.Flags.{rank}
 use Rattle.flat_mesh.specs.Lattice.{Leveled, heights}
 use Rattle.component_labels.specs.Fronts.{none, room, row_name}

@@ -2,7 +2,7 @@
 use Rattle.std.specs.Prelude.{◌^◌, ◌≤◌, ℤ, pos, ◌+ℤ◌, ◌-ℤ◌, ◌*ℤ◌, Bool, if◌then◌else◌, unsigned_abs}
 use Rattle.measure_laws.specs.Vectors.{Vector}
 use Rattle.measure.specs.declared.share.Share.{Share}
-use Rattle.measure.specs.Positions.{IsWithin, coordinates, vector_of}
+use Rattle.measure.specs.Measures.{IsWithin, coordinates, vector_of}
 use Rattle.component_walk.specs.declared.components.Component.{Component}
 use Rattle.component_walk.specs.declared.sweep.Swept.{Swept}
 

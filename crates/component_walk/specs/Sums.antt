@@ -5,11 +5,11 @@ use Rattle.iso_defs.specs.Cell.{cell_edge, edge_corner}
 use Rattle.iso_defs.specs.Grid.{Grid}
 use Rattle.iso_defs.specs.Lists.{around}
 use Rattle.iso_defs.specs.Scratch.{centre_name}
-use Rattle.iso_defs.specs.Surface.{is_border}
+use Rattle.iso_defs.specs.Manifold.{share_outer_plane}
 use Rattle.edge_points.specs.Points.{corner_offset}
 use Rattle.flat_mesh.specs.Faces.{loops_at}
 use Rattle.flat_mesh.specs.Lattice.{Leveled}
-use Rattle.measure_laws.specs.Totals.{total}
+use Rattle.measure_laws.specs.Vectors.{total}
 use Rattle.part_laws.specs.Loops.{Loop}
 
 -- whether an edge of a cell lies in a plane across an axis, where the cell begins at this coordinate
@@ -24,7 +24,7 @@ share_side axis size from a b =
 
 -- how many steps round a loop of a cell lie in the border
 unfoldable pub steps_on : Grid → ℕ → List ℕ → ℕ
-steps_on g q edges = count_by (λ (p : ℕ × ℕ). is_border g (cell_edge g q p.0) (cell_edge g q p.1)) (around edges)
+steps_on g q edges = count_by (λ (p : ℕ × ℕ). share_outer_plane g (cell_edge g q p.0) (cell_edge g q p.1)) (around edges)
 
 -- a loop of a cell, by the edges of the cell and by names
 pub record IsLoopIn (v : Leveled) (q : ℕ) (edges : List ℕ) (l : Loop) : Type 0 where

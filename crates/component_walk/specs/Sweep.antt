@@ -5,7 +5,7 @@ use Rattle.iso_defs.specs.Cell.{cell_edge}
 use Rattle.iso_defs.specs.Grid.{name_bound}
 use Rattle.iso_defs.specs.Lists.{around}
 use Rattle.iso_defs.specs.Place.{Position, centre_position, edge_position}
-use Rattle.iso_defs.specs.Surface.{is_border}
+use Rattle.iso_defs.specs.Manifold.{share_outer_plane}
 use Rattle.flat_mesh.specs.Faces.{loops_at}
 use Rattle.flat_mesh.specs.Lattice.{Leveled, heights}
 use Rattle.measure_laws.specs.Vectors.{Vector}
@@ -42,7 +42,7 @@ measured_of v zero l = six_of (named_position v) l
 measured_of v (suc zero) l = (swept (named_position v) l.1).0
 measured_of v (suc (suc zero)) l = (swept (named_position v) l.1).1
 measured_of v (suc (suc (suc zero))) l = (swept (named_position v) l.1).2
-measured_of v (suc (suc (suc (suc zero)))) l = pos (count_by (λ (p : ℕ × ℕ). is_border v.grid p.0 p.1) (around l.1))
+measured_of v (suc (suc (suc (suc zero)))) l = pos (count_by (λ (p : ℕ × ℕ). share_outer_plane v.grid p.0 p.1) (around l.1))
 measured_of v (suc (suc (suc (suc (suc _))))) l = pos 0
 
 -- those of loops with so many steps are small

@@ -9,7 +9,7 @@ use Rattle.flat_mesh.specs.Lattice.{Leveled, heights}
 use Rattle.component_labels.specs.Fronts.{room, row_name}
 use Rattle.component_labels.specs.Labelling.{Known}
 use Rattle.component_labels.specs.Walked.{IsLabelled}
-use Rattle.measure_laws.specs.Totals.{total}
+use Rattle.measure_laws.specs.Vectors.{total}
 use Rattle.part_laws.specs.Labels.{labelled, unlabelled}
 use Rattle.part_laws.specs.Loops.{Loop, loops_in, rims}
 use Rattle.component_walk.specs.Passed.{AreEdges, edges_before}

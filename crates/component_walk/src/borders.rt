@@ -6,7 +6,7 @@ ghost use Rattle.edge_points.specs.Points.{corner_offset};
 ghost use Rattle.iso_defs.specs.Cell.{cell_edge, edge_corner};
 ghost use Rattle.iso_defs.specs.Grid.{Grid};
 ghost use Rattle.iso_defs.specs.Lists.{around};
-ghost use Rattle.iso_defs.specs.Surface.{is_border};
+ghost use Rattle.iso_defs.specs.Manifold.{share_outer_plane};
 ghost use Rattle.cell_loops.specs.Loops.{IsLoop};
 ghost use Rattle.flat_mesh.specs.Centres.{IsCellAt};
 ghost use Rattle.component_walk.specs.Sums.{lies_at, share_side, steps_on};
@@ -63,7 +63,8 @@ fn is_outer(sizes: &Sizes, cell: Cell, a: u8, b: u8) -> bool
     requires cell { IsCellAt sizes.now cell }
     requires a { a < 12 }
     requires b { b < 12 }
-    ensures { result ≡ is_border sizes.now (cell_edge sizes.now cell.index a) (cell_edge sizes.now cell.index b) }
+    ensures { let q = cell.index in
+        result ≡ share_outer_plane sizes.now (cell_edge sizes.now q a) (cell_edge sizes.now q b) }
 {
     let low = cell.low;
     let along_x = are_outside(0, sizes.nx(), low.x, a, b);
@@ -78,7 +79,7 @@ fn outer_step(sizes: &Sizes, cell: Cell, a: u8, b: u8) -> u32
     requires cell { IsCellAt sizes.now cell }
     requires a { a < 12 }
     requires b { b < 12 }
-    ensures value { result ≡ cond (is_border sizes.now (cell_edge sizes.now cell.index a)
+    ensures value { result ≡ cond (share_outer_plane sizes.now (cell_edge sizes.now cell.index a)
         (cell_edge sizes.now cell.index b)) 1 0 }
     ensures bound { result ≤ 1 }
 {
@@ -93,7 +94,7 @@ fn outer_step(sizes: &Sizes, cell: Cell, a: u8, b: u8) -> u32
 fn is_inside(sizes: &Sizes, cell: Cell) -> bool
     requires cell { IsCellAt sizes.now cell }
     ensures { IsTrue result → (a b : ℕ) → a < 12 → b < 12 →
-        is_border sizes.now (cell_edge sizes.now cell.index a) (cell_edge sizes.now cell.index b) ≡ false }
+        share_outer_plane sizes.now (cell_edge sizes.now cell.index a) (cell_edge sizes.now cell.index b) ≡ false }
 {
     let low = cell.low;
     if low.x == 0 || low.y == 0 || low.z == 0 {

@@ -4,7 +4,7 @@ ghost use Rattle.std.specs.Prelude.{◌≡◌, ℕ, ◌+◌, ◌*◌, ◌<◌, �
 ghost use Rattle.cell_loops.specs.Loops.{IsLoop};
 ghost use Rattle.iso_defs.specs.Cell.{crosses, signs_of};
 ghost use Rattle.measure_laws.specs.Vectors.{cross, dot, minor as minor_of, plus};
-ghost use Rattle.measure.specs.Positions.{IsWithin, coordinates, vector_of};
+ghost use Rattle.measure.specs.Measures.{IsWithin, coordinates, vector_of};
 ghost use Rattle.part_laws.specs.Swept.{swept as swept_by};
 ghost use Rattle.component_walk.specs.Local.{listed, local_tip, local_vertex, position_of};
 ghost use Rattle.component_walk.specs.Sweep.{vector_at};

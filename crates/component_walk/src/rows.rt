@@ -5,7 +5,7 @@ ghost use Rattle.flat_mesh.specs.Lattice.{heights};
 ghost use Rattle.flat_mesh.specs.Rows.{row_start};
 ghost use Rattle.iso_defs.specs.Bricks.{brick_count, bricks_along};
 ghost use Rattle.span_tree.specs.Spans.{IsRightFor};
-ghost use Rattle.iso_base.specs.Shifted.{field as field_of};
+ghost use Rattle.iso_base.specs.Volume.{field as field_of};
 ghost use Rattle.brick_rows.specs.Bricks.{AreMarked};
 ghost use Rattle.brick_rows.specs.Named.{NamesCases, asked_among};
 ghost use Rattle.brick_rows.specs.Rows.{at_level};

@@ -1,7 +1,7 @@
 //! The shares of components, at the positions that are printed.
 
 ghost use Rattle.std.specs.Prelude.{◌≡◌, ◌≤◌, ◌^◌, All, IfOk, map, unsigned_abs};
-ghost use Rattle.measure.specs.Positions.{IsWithin, coordinates, vector_of};
+ghost use Rattle.measure.specs.Measures.{IsWithin, coordinates, vector_of};
 ghost use Rattle.component_walk.specs.Shares.{CanMove, off_layer as six_off_layer, share_at};
 
 use crate::components::Component;

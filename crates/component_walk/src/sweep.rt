@@ -9,7 +9,7 @@ ghost use Rattle.flat_mesh.specs.Centres.{IsCellAt};
 ghost use Rattle.part_laws.specs.Loops.{Loop};
 ghost use Rattle.component_walk.specs.Sums.{IsLoopIn, IsOneLoop};
 ghost use Rattle.part_laws.specs.Printed.{measures_at};
-ghost use Rattle.iso_base.specs.Shifted.{field as field_of};
+ghost use Rattle.iso_base.specs.Volume.{field as field_of};
 ghost use Rattle.span_tree.specs.Spans.{IsRightFor};
 ghost use Rattle.component_walk.specs.Sweep.{AreSmall, measure_at, measured_of};
 ghost use Rattle.brick_rows.specs.Named.{NamesCases, asked_among};

@@ -6,7 +6,7 @@ ghost use Rattle.iso_defs.specs.Lists.{below};
 ghost use Rattle.cell_loops.specs.Loops.{IsLoop};
 ghost use Rattle.flat_mesh.specs.Centres.{IsCellAt};
 ghost use Rattle.flat_mesh.specs.Lattice.{Leveled};
-ghost use Rattle.measure_laws.specs.Totals.{total};
+ghost use Rattle.measure_laws.specs.Vectors.{total};
 ghost use Rattle.part_laws.specs.Loops.{Loop};
 ghost use Rattle.component_walk.specs.Counts.{counted, fit, number};
 ghost use Rattle.component_walk.specs.Sums.{FitEach, IsLoopIn, IsOneLoop};

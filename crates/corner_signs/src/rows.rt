@@ -2,7 +2,7 @@
 ghost use Rattle.std.specs.Prelude.{◌≡◌, ◌+◌, ◌*◌, ◌≤◌, if◌then◌else◌, map, take, length, FitsSigned};
 ghost use Rattle.std.specs.Int.{w64};
 ghost use Rattle.std.specs.Simd.Lanes.{Each1, chunk, put_chunk};
-ghost use Rattle.iso_base.specs.Shifted.{is_above_level};
+ghost use Rattle.iso_base.specs.Volume.{is_above_level};
 ghost use Rattle.corner_signs.specs.Rows.{bit_from};
 
 use iso_base::Level;

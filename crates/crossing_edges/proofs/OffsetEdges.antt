@@ -4,8 +4,7 @@ use Rattle.std.specs.List.{range_with_len}
 use Rattle.std.proofs.lemmas.Bool.{cases_lt}
 use Rattle.std.proofs.lemmas.List.{ext_get_or, get_or-map, get_or-set_other, get_or-set_same, get_or-take, get_or_default, length-map, length-take-le, map-append}
 use Rattle.std.proofs.lemmas.Simd.{map-map}
-use Rattle.iso_defs.specs.Grid.{Grid}
-use Rattle.iso_defs.specs.Signs.{is_crossing}
+use Rattle.iso_defs.specs.Grid.{Grid, is_crossing}
 use Rattle.triangle_laws.proofs.Lists.{In, In-filter}
 use Rattle.row_bits.specs.Edges.{edges_among, edges_at}
 use Rattle.row_bits.proofs.EdgeLists.{among_more, among_none, among_one}

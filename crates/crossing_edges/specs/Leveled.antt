@@ -1,9 +1,7 @@
 -- A volume at a level.
 use Rattle.std.specs.Prelude.{◌≡◌, ℕ, ℤ, List, All, length}
 use Rattle.iso_defs.specs.Grid.{Grid, point_count}
-use Rattle.iso_base.specs.Sizing.{IsGrid}
-use Rattle.iso_base.specs.Samples.{IsSample}
-use Rattle.iso_base.specs.Shifted.{field}
+use Rattle.iso_base.specs.Volume.{IsGrid, IsSample, field}
 use Rattle.crossing_edges.specs.Flags.{flags_from}
 
 -- a grid with samples and a level

@@ -1,12 +1,9 @@
 //! The crossing edges of the rows of a volume at a level, and where they are crossed.
 ghost use Rattle.std.specs.Prelude.{◌≡◌, ◌+◌, ◌*◌, ◌<◌, ◌≤◌, All, length, map, take, true};
-ghost use Rattle.iso_defs.specs.Grid.{Grid, point_count, stride};
+ghost use Rattle.iso_defs.specs.Grid.{Grid, point_count, stride, is_crossing};
 ghost use Rattle.iso_defs.specs.Rows.{row_count};
 ghost use Rattle.iso_defs.specs.Scratch.{crossing_edges};
-ghost use Rattle.iso_defs.specs.Signs.{is_crossing};
-ghost use Rattle.iso_base.specs.Samples.{IsSample};
-ghost use Rattle.iso_base.specs.Shifted.{field, shifted};
-ghost use Rattle.iso_base.specs.Sizing.{IsGrid};
+ghost use Rattle.iso_base.specs.Volume.{IsSample, field, shifted, IsGrid};
 ghost use Rattle.crossing_edges.specs.Flags.{edge_place, flags_from, names_in, places_in};
 ghost use Rattle.crossing_edges.specs.Leveled.{IsLeveled, heights};
 ghost use Rattle.crossing_edges.specs.Rows.{AreOffsets};

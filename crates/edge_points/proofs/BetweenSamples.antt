@@ -3,8 +3,8 @@ use Rattle.std.proofs.Common.{◌≡◌, ◌∙◌, ℕ, ◌+◌, ◌*◌, ◌/�
 use Rattle.std.proofs.lemmas.Int.{ints}
 use Rattle.std.proofs.Math.Nat.{mul-div-mul_left}
 use Rattle.iso_defs.specs.Place.{place}
-use Rattle.iso_defs.specs.Signs.{differ, is_above}
-use Rattle.iso_base.specs.Shifted.{is_above_level, shifted}
+use Rattle.iso_defs.specs.Grid.{differ, is_above}
+use Rattle.iso_base.specs.Volume.{is_above_level, shifted}
 
 module _ (low high level : ℤ) (apart : differ (is_above_level low level) (is_above_level high level) ≡ true) where
   abbrev part : ℕ

@@ -5,9 +5,8 @@
 //! reciprocal of a table, which the checker tests for each divisor.
 ghost use Rattle.std.specs.Prelude.{◌≡◌, ◌+◌, ◌*◌, ◌/◌, ◌<◌, ◌≤◌, ◌^◌, true};
 ghost use Rattle.iso_defs.specs.Place.{place};
-ghost use Rattle.iso_defs.specs.Signs.{differ};
-ghost use Rattle.iso_base.specs.Samples.{IsSample};
-ghost use Rattle.iso_base.specs.Shifted.{is_above_level, shifted};
+ghost use Rattle.iso_defs.specs.Grid.{differ};
+ghost use Rattle.iso_base.specs.Volume.{IsSample, is_above_level, shifted};
 
 use iso_base::Level;
 

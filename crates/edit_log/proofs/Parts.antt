@@ -9,7 +9,7 @@ use Rattle.iso_base.specs.declared.point.Point.{Point}
 use Rattle.voxel_list.specs.Areas.{Area, area_count, is_in_area}
 use Rattle.packed_samples.specs.Runs.{row_set}
 use Rattle.brick_store.proofs.RowWriting.{length-row_set, row_set_before, row_set_within, row_set_behind}
-use Rattle.edit_log.specs.Boxes.{IsBox, IsInnerArea, area_grid, area_index, area_place, is_in_part, replaced}
+use Rattle.edit_log.specs.Log.{IsBox, IsInnerArea, area_grid, area_index, area_place, is_in_part, replaced}
 use Rattle.brick_store.proofs.BoxPoints.{area_index_in, area_index_is_in, area_place-area_index, area_index-area_place, row_index}
 use Rattle.brick_store.proofs.Replacing.{length-replaced, sample-replaced, replaced_is}
 

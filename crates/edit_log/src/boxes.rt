@@ -5,10 +5,9 @@
 
 ghost use Rattle.std.specs.Prelude.{◌≡◌, ◌+◌, ◌%◌, ◌<◌, ◌≤◌, true, slice_set};
 ghost use Rattle.iso_base.specs.Points.{IsPoint, index_of};
-ghost use Rattle.iso_base.specs.Samples.{IsOfKind};
-ghost use Rattle.iso_base.specs.Volume.{IsInner};
+ghost use Rattle.iso_base.specs.Volume.{IsOfKind, IsInner};
 ghost use Rattle.voxel_list.specs.Areas.{area_count, is_in_area};
-ghost use Rattle.edit_log.specs.Boxes.{IsBox, IsInnerArea, area_grid, area_index, filled};
+ghost use Rattle.edit_log.specs.Log.{IsBox, IsInnerArea, area_grid, area_index, filled};
 
 use brick_store::{BrickStore, Values};
 use iso_base::{Point, Sizes};

@@ -2,8 +2,7 @@
 
 ghost use Rattle.std.specs.Prelude.{◌≡◌, ◌<◌, slice_set};
 ghost use Rattle.iso_defs.specs.Grid.{point_count};
-ghost use Rattle.iso_base.specs.Samples.{IsOfKind};
-ghost use Rattle.iso_base.specs.Volume.{IsInner};
+ghost use Rattle.iso_base.specs.Volume.{IsOfKind, IsInner};
 ghost use Rattle.edit_log.specs.Changes.{Suits, after, area_of, before, moment, value_of};
 
 use crate::boxes::{fill_area, set_sample};

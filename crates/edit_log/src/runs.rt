@@ -5,11 +5,10 @@
 ghost use Rattle.std.specs.Prelude.{◌≡◌, ℕ, ◌+◌, ◌^◌, ◌<◌, ◌≤◌, [], ◌∷◌, ◌++◌, All, IfOk, IfSome, OnOk, drop, length, take};
 ghost use Rattle.std.specs.Bool.{OnTrue};
 ghost use Rattle.iso_base.specs.Points.{IsPoint};
-ghost use Rattle.iso_base.specs.Samples.{IsOfKind};
-ghost use Rattle.iso_base.specs.Volume.{sample};
+ghost use Rattle.iso_base.specs.Volume.{IsOfKind, sample};
 ghost use Rattle.voxel_list.specs.Areas.{area_count};
 ghost use Rattle.brick_store.specs.Boxes.{AreOne};
-ghost use Rattle.edit_log.specs.Boxes.{IsInnerArea, area_samples, restored, row_samples};
+ghost use Rattle.edit_log.specs.Log.{IsInnerArea, area_samples, restored, row_samples};
 ghost use Rattle.edit_log.specs.Runs.{gathered, values_left, values_of};
 
 use crate::boxes::{PIECE_SAMPLES, area_count, area_point, fill_area, piece_of_row};

@@ -5,7 +5,7 @@ use Rattle.std.specs.List.{All}
 use Rattle.std.specs.Int.{w128}
 use Rattle.std.proofs.Math.Dec.{leb-zero}
 use Rattle.std.proofs.lemmas.Int.{to_z-of_z, fits_signed_from_abs, fits_signed_mul}
-use Rattle.iso_defs.specs.Signs.{is_above}
+use Rattle.iso_defs.specs.Grid.{is_above}
 use Rattle.face_decider.specs.Cycle.{cycle_joined}
 
 narrow : (z : ℤ) → unsigned_abs z < 2 ^ 44 → to_z w64 (of_z w64 z) ≡ z

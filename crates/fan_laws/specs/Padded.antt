@@ -1,7 +1,6 @@
 -- Pads against levels.
 use Rattle.std.specs.Prelude.{◌≡◌, ℤ, true, Some}
-use Rattle.iso_base.specs.Shifted.{is_above_pad}
-use Rattle.iso_base.specs.Volume.{Volume}
+use Rattle.iso_base.specs.Volume.{is_above_pad, Volume}
 
 -- the volume has a pad, and it is below the level
 abbrev pub HasPadBelow : Volume → ℤ → Type 0

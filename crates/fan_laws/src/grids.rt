@@ -1,13 +1,11 @@
 //! Laws of a grid, and of every field of shifted values on it.
 
-ghost use Rattle.iso_defs.specs.Grid.{Grid, cells, name_bound, point_count};
+ghost use Rattle.iso_defs.specs.Grid.{Grid, cells, name_bound, point_count, IsThick, is_crossing};
 ghost use Rattle.iso_defs.specs.Contours.{plane_pairs, contours, line_pairs};
 ghost use Rattle.iso_defs.specs.Lists.{below, count_pair};
-ghost use Rattle.iso_defs.specs.Outside.{IsThick};
 ghost use Rattle.iso_defs.specs.PlaneOfMesh.{IsPlaneOfMesh};
 ghost use Rattle.iso_defs.specs.Rows.{row_cells, row_count, row_edges};
 ghost use Rattle.iso_defs.specs.Scratch.{cell_centres, cell_triangles, crossing_edges, named_triangles, number_of, triangles, vertex_names, vertices};
-ghost use Rattle.iso_defs.specs.Signs.{is_crossing};
 ghost use Rattle.fan_laws.specs.Together.{LiesInFace};
 ghost use Rattle.std.specs.List.{count_by, flat_map};
 ghost use Rattle.std.specs.Prelude.{if◌then◌else◌, length, nat_lt, slice_index, ℕ, ℤ, ◌*◌, ◌+◌, ◌<◌, ◌==◌, ◌≡◌, ◌≢◌, ◌≤◌};

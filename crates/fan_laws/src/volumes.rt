@@ -1,14 +1,12 @@
 //! Laws of the mesh of a volume at a level.
 
 ghost use Rattle.fan_laws.specs.Padded.{HasPadBelow};
-ghost use Rattle.iso_base.specs.Shifted.{field};
-ghost use Rattle.iso_base.specs.Volume.{sample};
-ghost use Rattle.iso_defs.specs.Grid.{name_bound};
+ghost use Rattle.iso_base.specs.Volume.{field, sample};
+ghost use Rattle.iso_defs.specs.Grid.{name_bound, is_crossing};
 ghost use Rattle.iso_defs.specs.Manifold.{IsFan, times_run};
 ghost use Rattle.iso_defs.specs.Scratch.{triangles, vertex_names, vertices};
-ghost use Rattle.iso_defs.specs.Signs.{is_crossing};
 ghost use Rattle.iso_defs.specs.Verdict.Verdict.{Closed};
-ghost use Rattle.iso_defs.specs.Verdict.{IsOrientedSurface, IsVerdict, on_border};
+ghost use Rattle.iso_defs.specs.Verdict.{IsOrientedSurface, IsVerdict, in_outer_plane};
 ghost use Rattle.std.specs.List.{count_by};
 ghost use Rattle.std.specs.Prelude.{false, if◌then◌else◌, pos, unsigned_abs, ℕ, ℤ, ◌*ℤ◌, ◌-ℤ◌, ◌<◌, ◌==◌, ◌^◌, ◌≡◌, ◌≤◌};
 
@@ -38,7 +36,7 @@ pub fn one_fan(volume: &VoxelList, level: Level)
 pub fn closed_when_padded(volume: &VoxelList, level: Level)
     requires { HasPadBelow volume.now level }
     ensures inside { (a b : ℕ) → 0 < times_run (triangles volume.now.grid (field volume.now.samples level)) a b →
-        on_border volume.now.grid (field volume.now.samples level) a b ≡ false }
+        in_outer_plane volume.now.grid (field volume.now.samples level) a b ≡ false }
     ensures closed { IsVerdict (triangles volume.now.grid (field volume.now.samples level)) Closed }
 {
     // Reading the sizes brings in what is true of every volume.

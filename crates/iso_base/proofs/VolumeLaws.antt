@@ -3,14 +3,10 @@ use Rattle.std.proofs.Common.{◌≡◌, ℕ, ◌-◌, ◌*◌, ◌<◌, ◌≤�
 use Rattle.std.specs.Prelude.{Option, IfSome, Some, None, MatchOption, not}
 use Rattle.std.proofs.lemmas.Int.{ints}
 use Rattle.std.proofs.lemmas.List.Elements.{All-get_or}
-use Rattle.iso_defs.specs.Grid.{Grid, point_count}
-use Rattle.iso_defs.specs.Outside.{is_outer, IsBelowOutside, IsSolid, IsThick}
-use Rattle.iso_base.specs.Sizing.{IsAxis, IsGrid}
-use Rattle.iso_base.specs.Shifted.{field, is_above_level, is_above_pad}
-use Rattle.iso_base.specs.Samples.{IsOfKind, IsSample}
+use Rattle.iso_defs.specs.Grid.{Grid, point_count, is_outer, IsBelowOutside, IsSolid, IsThick}
+use Rattle.iso_base.specs.Volume.{IsAxis, IsGrid, field, is_above_level, is_above_pad, IsOfKind, IsSample, Voxels, IsVoxels, Volume, IsVolume, HoldsPad, IsInner, inner_grid, unpadded, sample}
 use Rattle.iso_base.specs.declared.kind.SampleKind.{SampleKind}
 use Rattle.iso_base.specs.declared.kind.SampleKind.TheVariants.{I8, U8, I16, U16, I32, U32}
-use Rattle.iso_base.specs.Volume.{Voxels, IsVoxels, Volume, IsVolume, HoldsPad, IsInner, inner_grid, unpadded, sample}
 
 -- a level above a pad has the pad below it
 pub pad_is_not_above : (pad level : ℤ) → is_above_pad level pad ≡ true → is_above_level pad level ≡ false

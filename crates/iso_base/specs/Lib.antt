@@ -1,9 +1,5 @@
-pub mod Padding
 pub mod Points
-pub mod Samples
 pub mod SampleBytes
-pub mod Shifted
-pub mod Sizing
 pub mod Stored
 pub mod Triangles
 pub mod Volume

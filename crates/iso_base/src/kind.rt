@@ -1,7 +1,7 @@
 //! The types of samples.
 
 ghost use Rattle.std.specs.Prelude.{◌≡◌};
-ghost use Rattle.iso_base.specs.Samples.{least_of, greatest_of, width_of};
+ghost use Rattle.iso_base.specs.Volume.{least_of, greatest_of, width_of};
 
 /// The type of the samples of a volume: signed or unsigned, of 8, 16 or 32 bits.
 #[derive(Clone, Copy, Debug, PartialEq, Eq)]

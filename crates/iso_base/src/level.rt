@@ -3,8 +3,7 @@
 //! Why: DECISIONS.md, "One comparison a sample".
 
 ghost use Rattle.std.specs.Prelude.{◌≡◌, ◌<◌, ◌^◌, ◌↔◌, ℤ, int_le, unsigned_abs, IsSome, IfSome};
-ghost use Rattle.iso_base.specs.Samples.{IsSample};
-ghost use Rattle.iso_base.specs.Shifted.{level_limit, shifted, is_above_level, is_above_pad};
+ghost use Rattle.iso_base.specs.Volume.{IsSample, level_limit, shifted, is_above_level, is_above_pad};
 
 use std::marker::Model;
 
@@ -18,7 +17,7 @@ pub struct Level(i64);
 
 impl Model for Level {
     ghost use Rattle.std.specs.Prelude.{ℤ, ◌<◌, unsigned_abs};
-    ghost use Rattle.iso_base.specs.Shifted.{level_limit};
+    ghost use Rattle.iso_base.specs.Volume.{level_limit};
 
     ghost Value = { ℤ };
 

@@ -2,7 +2,7 @@
 
 ghost use Rattle.std.specs.Prelude.{◌≡◌, ◌<◌};
 ghost use Rattle.iso_defs.specs.Grid.{point_count};
-ghost use Rattle.iso_base.specs.Sizing.{IsGrid};
+ghost use Rattle.iso_base.specs.Volume.{IsGrid};
 ghost use Rattle.iso_base.specs.Points.{IsPoint, point_at, index_of, is_point};
 
 use crate::sizes::Sizes;

@@ -2,7 +2,7 @@
 
 ghost use Rattle.std.specs.Prelude.{◌≡◌};
 ghost use Rattle.iso_defs.specs.Grid.{point_count};
-ghost use Rattle.iso_base.specs.Sizing.{IsGrid, sized};
+ghost use Rattle.iso_base.specs.Volume.{IsGrid, sized};
 
 use std::marker::Model;
 use thiserror::Error;
@@ -38,7 +38,7 @@ pub struct Sizes {
 
 impl Model for Sizes {
     ghost use Rattle.iso_defs.specs.Grid.{Grid};
-    ghost use Rattle.iso_base.specs.Sizing.{IsGrid};
+    ghost use Rattle.iso_base.specs.Volume.{IsGrid};
 
     ghost Value = { Grid };
 

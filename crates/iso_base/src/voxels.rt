@@ -2,8 +2,7 @@
 
 ghost use Rattle.std.specs.Prelude.{◌≡◌, length, All};
 ghost use Rattle.iso_defs.specs.Grid.{point_count};
-ghost use Rattle.iso_base.specs.Samples.{IsOfKind};
-ghost use Rattle.iso_base.specs.Volume.{IsVoxels};
+ghost use Rattle.iso_base.specs.Volume.{IsOfKind, IsVoxels};
 
 use crate::kind::SampleKind;
 use crate::sizes::Sizes;

@@ -5,7 +5,7 @@ use Rattle.std.proofs.lemmas.List.{take_more, take-append-drop, set_split, drop_
 use Rattle.std.specs.Ordering.{nat_cmp, eq_by_cmp}
 use Rattle.std.specs.Cmp.Lexicographic.{slice_cmp, nat_list_cmp_total}
 use Rattle.std.specs.FinMap.{find, get, insert, get-insert, get-from_entries, same_map, from_entries_push, slice_cmp-IsAntisymmetric, nat_cmp-IsAntisymmetric}
-use Rattle.byte_streams.specs.Files.{files_of}
+use Rattle.byte_streams.specs.Seen.{files_of}
 use Rattle.iso_io.specs.Places.{IsLacking, IsFound}
 use Rattle.iso_io.proofs.Shelving.{same_name, own_name}
 

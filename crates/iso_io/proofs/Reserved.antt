@@ -5,7 +5,7 @@ use Rattle.std.proofs.lemmas.List.{get_or-map, map-set, map-append, length-map, 
 use Rattle.std.proofs.lemmas.Bool.{ltb-false, le-ltb, lt-ltb}
 use Rattle.std.proofs.Math.Seq.{take-set-lt}
 use Rattle.std.specs.FinMap.{get, insert}
-use Rattle.byte_streams.specs.Files.{files_of}
+use Rattle.byte_streams.specs.Seen.{files_of}
 use Rattle.iso_io.specs.Places.{Place, Places, IsLacking, IsFound, entries_of, places_of, has_place, placed, content_in}
 use Rattle.iso_io.proofs.Placing.{found_file, lacking_file, set_file, push_file}
 

@@ -10,8 +10,7 @@ use Rattle.std.specs.Cmp.{eq_by_cmp_equiv}
 use Rattle.std.specs.FinMap.{get, insert, remove, get-insert, get-remove, same_map, slice_cmp-IsAntisymmetric, nat_cmp-IsAntisymmetric}
 use Rattle.std.specs.Borrow.{GName}
 use Rattle.std.specs.Io.KnownBytes.{Appends}
-use Rattle.byte_streams.specs.Files.{Files}
-use Rattle.byte_streams.specs.Seen.{Side, Writes, Puts, AppendsFront}
+use Rattle.byte_streams.specs.Seen.{Files, Side, Writes, Puts, AppendsFront}
 use Rattle.iso_io.specs.Shelves.{Store, content, with_file, with_appended, FilesCut, Has, Starts, Grows, Stores, file_tape, others_of}
 use Rattle.byte_streams.proofs.Known.{Appends-nil}
 

@@ -1,8 +1,7 @@
 -- A shelf in memory.
-use Rattle.std.specs.Prelude.{◌≡◌, ◌⊎◌, ℕ, ◌+◌, ◌<◌, false, List, length, Some, Contains}
-use Rattle.std.specs.Prelude.{refl}
+use Rattle.std.specs.Prelude.{◌≡◌, ◌⊎◌, ℕ, ◌+◌, ◌<◌, false, List, length, Some, Contains, refl}
 use Rattle.std.specs.Coded.{Coded, code_by, coded×, coded_ℕ, coded_list}
-use Rattle.byte_streams.specs.Files.{no_files}
+use Rattle.byte_streams.specs.Seen.{no_files}
 use Rattle.byte_streams.specs.Causes.{one_more}
 use Rattle.iso_io.specs.Places.{Places, content_in, has_place, placed, placed_behind, fitting, places_code}
 use Rattle.iso_io.specs.Shelves.{Store}

@@ -4,8 +4,7 @@ use Rattle.std.specs.Option.{option_map, option_and_then}
 use Rattle.std.specs.FinMap.{get, insert, remove}
 use Rattle.std.specs.Borrow.{GName}
 use Rattle.byte_streams.specs.Causes.{HasCause}
-use Rattle.byte_streams.specs.Files.{Files}
-use Rattle.byte_streams.specs.Seen.{Tape}
+use Rattle.byte_streams.specs.Seen.{Files, Tape}
 use Rattle.refusals.specs.declared.shelf.ShelfError.{ShelfError}
 use Rattle.refusals.specs.declared.shelf.ShelfError.TheVariants.{Failed}
 

@@ -3,7 +3,7 @@
 ghost use Rattle.std.specs.Prelude.{◌≡◌, ◌⊎◌, ◌*◌, ◌+◌, ◌^◌, ◌<◌, ◌≤◌, length, true, false, IfOk, IsTrue, IsErrOf, IsSome, ◌↔◌, Contains};
 ghost use Rattle.std.specs.FinMap.{get};
 ghost use Rattle.std.specs.Option.{option_map};
-ghost use Rattle.byte_streams.specs.Files.{no_files};
+ghost use Rattle.byte_streams.specs.Seen.{no_files};
 ghost use Rattle.iso_io.specs.Places.{has_place};
 ghost use Rattle.byte_streams.specs.Causes.{one_more};
 ghost use Rattle.iso_io.specs.Memory.{KeptFiles, empty_shelf, stored};

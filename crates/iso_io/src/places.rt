@@ -3,7 +3,7 @@
 ghost use Rattle.std.specs.Prelude.{◌≡◌, ◌⊎◌, ◌+◌, ◌<◌, ◌≤◌, ◌↔◌, ◌++◌, [], length, true, false, OnOk, OnErr, IfOk, IsErr, MatchOption, take};
 ghost use Rattle.std.specs.FinMap.{get};
 ghost use Rattle.std.specs.Option.{option_map};
-ghost use Rattle.byte_streams.specs.Files.{no_files};
+ghost use Rattle.byte_streams.specs.Seen.{no_files};
 ghost use Rattle.iso_io.specs.Places.{IsFound, IsLacking, AllOfRoom, entries_of, content_in, has_place, placed, placed_behind, fitting};
 
 use crate::place::Place;

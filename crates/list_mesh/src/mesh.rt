@@ -1,7 +1,7 @@
 //! The mesh of a volume at a level, from which its text is written.
 ghost use Rattle.std.specs.Prelude.{◌≡◌, All, IfOk, length};
 ghost use Rattle.iso_defs.specs.Grid.{point_count};
-ghost use Rattle.iso_base.specs.Samples.{IsSample};
+ghost use Rattle.iso_base.specs.Volume.{IsSample};
 ghost use Rattle.byte_streams.specs.Seen.{Puts};
 ghost use Rattle.flat_mesh.specs.Lattice.{heights};
 ghost use Rattle.flat_mesh.specs.Mesh.{mesh_of};

@@ -1,15 +1,29 @@
 -- What is measured of each component of a mesh.
-use Rattle.std.specs.Prelude.{◌≡◌, ℕ, pos, ◌+ℤ◌, Bool, ◌==◌, List, [], ◌∷◌, map, length, All}
+use Rattle.std.specs.Prelude.{ℕ, ◌≤◌, ℤ, pos, List, [], ◌∷◌, slice_index_or, unsigned_abs, ◌≡◌, ◌+ℤ◌, Bool, ◌==◌, map, length, All}
+use Rattle.measure_laws.specs.Vectors.{Vector, minus, plus, det, normal, det_of, total, area_of}
 use Rattle.std.specs.List.{filter}
 use Rattle.iso_defs.specs.Cell.{Triangle}
 use Rattle.iso_defs.specs.Manifold.{IsManifold}
 use Rattle.iso_base.specs.Triangles.{Mesh, triangles_of}
-use Rattle.measure_laws.specs.Vectors.{Vector, minus, plus, det, normal, det_of}
-use Rattle.measure_laws.specs.Totals.{total, area_of}
 use Rattle.mesh_report.specs.declared.part.Part.{Part}
 use Rattle.mesh_report.specs.Report.{component, components, edges, has_one_side}
 use Rattle.measure.specs.declared.share.Share.{Share}
-use Rattle.measure.specs.Positions.{coordinates, vector_of}
+
+-- the vector of three numbers
+abbrev pub vector_of : List ℤ → Vector
+vector_of p = (slice_index_or p 0 (pos 0), slice_index_or p 1 (pos 0), slice_index_or p 2 (pos 0))
+
+-- and the three numbers of a vector
+abbrev pub coordinates : Vector → List ℤ
+coordinates u = u.0 ∷ u.1 ∷ u.2 ∷ []
+
+-- the position of a vertex
+abbrev pub position : List (List ℤ) → ℕ → Vector
+position at v = vector_of (slice_index_or at v [])
+
+-- no coordinate is greater than the bound
+abbrev pub IsWithin : ℕ → Vector → Type 0
+IsWithin m u = (unsigned_abs u.0 ≤ m) × (unsigned_abs u.1 ≤ m) × (unsigned_abs u.2 ≤ m)
 
 -- whether a triangle is of a component
 abbrev pub is_of : ℕ → List Triangle → ℕ → Triangle → Bool

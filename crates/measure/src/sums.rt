@@ -7,8 +7,7 @@ ghost use Rattle.std.specs.Prelude.{◌≡◌, ◌<◌, ◌≤◌, ◌^◌, leng
 ghost use Rattle.iso_defs.specs.Manifold.{HasThreeCorners};
 ghost use Rattle.iso_base.specs.Triangles.{triangle_of, triangles_of};
 ghost use Rattle.mesh_report.specs.Report.{component_of_each, components};
-ghost use Rattle.measure.specs.Positions.{IsWithin, position, vector_of};
-ghost use Rattle.measure.specs.Measures.{AreasCancel, VolumesStay, begun_in, measures_of, unmeasured};
+ghost use Rattle.measure.specs.Measures.{IsWithin, position, vector_of, AreasCancel, VolumesStay, begun_in, measures_of, unmeasured};
 ghost use Rattle.mesh_report.specs.Places.{AreDifferent, ArePlaces};
 
 use crate::share::{Measures, Share};

@@ -8,7 +8,7 @@ use Rattle.std.proofs.lemmas.List.FromFn.{length-range_with_len, get_or-range_wi
 use Rattle.iso_defs.specs.Lists.{below, is_in}
 use Rattle.iso_defs.specs.Grid.{Grid}
 use Rattle.iso_defs.specs.Bricks.{brick_count, is_active}
-use Rattle.iso_base.specs.Shifted.{field}
+use Rattle.iso_base.specs.Volume.{field}
 use Rattle.mesh_cache.specs.Cache.{Cache}
 use Rattle.mesh_cache.specs.Offering.{Offers}
 use Rattle.mesh_cache.specs.Economy.{is_fresh, item_for, is_waiting, waiting, Refresh, done, offer}

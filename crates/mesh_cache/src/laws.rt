@@ -2,7 +2,7 @@
 ghost use Rattle.std.specs.Prelude.{◌≡◌, ◌++◌, ◌<◌, ◌≤◌, ◌^◌, ◌-◌, ℕ, ℤ, List, Some, All, true};
 ghost use Rattle.iso_defs.specs.Grid.{Grid};
 ghost use Rattle.iso_defs.specs.Bricks.{brick_count, brick_point, entries, in_brick};
-ghost use Rattle.iso_base.specs.Shifted.{field};
+ghost use Rattle.iso_base.specs.Volume.{field};
 ghost use Rattle.mesh_cache.specs.Cache.{Item, Cache, kept_at};
 ghost use Rattle.mesh_cache.specs.Economy.{SameSamples, IsRight, Refresh, waiting};
 

@@ -4,7 +4,7 @@
 ghost use Rattle.std.specs.Prelude.{◌≡◌, ◌+◌, ◌*◌, ◌^◌, ◌<◌, ◌≤◌, ℤ, List, length, min, take, IfSome};
 ghost use Rattle.iso_defs.specs.Bricks.{brick_count, is_active, entries as entries_of_brick};
 ghost use Rattle.iso_defs.specs.Grid.{Grid};
-ghost use Rattle.iso_base.specs.Shifted.{field};
+ghost use Rattle.iso_base.specs.Volume.{field};
 ghost use Rattle.brick_store.specs.Next.{IsNext};
 ghost use Rattle.mesh_cache.specs.Economy.{Refresh, waiting};
 

@@ -7,7 +7,7 @@ use Rattle.iso_defs.specs.Grid.{Grid, cells, is_cell, name_bound, coordinate, si
 use Rattle.iso_defs.specs.Face.{holds_at}
 use Rattle.iso_defs.specs.Cell.{corner_point, cell_edge, edge_corner, cell_signs, cell_joined, next_pairs, face_pairs, Triangle}
 use Rattle.iso_defs.specs.Scratch.{vertex_name, on_corners, cell_triangles, named_triangles}
-use Rattle.iso_defs.specs.Manifold.{runs, times_run, runs_of, all_runs}
+use Rattle.iso_defs.specs.Manifold.{runs, times_run, runs_of, all_runs, lies_in_plane, share_outer_plane}
 use Rattle.case_laws.proofs.Cases.{all_below, same, runs_test, runs_all}
 use Rattle.case_laws.proofs.EdgePairs.{in_face, shares_face, alike, implies}
 use Rattle.case_laws.proofs.Rotation.{plane_at, planes_all, sides_all, two_edges_test, two_edges_all, step_at, bit_along, up_half, half, follow}
@@ -15,7 +15,6 @@ use Rattle.triangle_laws.proofs.Lists.{In, in_map, In-flat_map, in_flat_map, in_
 use Rattle.case_laws.proofs.Tests.{all_below_at, cell_passes}
 use Rattle.triangle_laws.proofs.Counts.{pair_in, count_some, count_finds}
 use Rattle.mesh_laws.proofs.Cells.{cell_in, range_in, range_at_least}
-use Rattle.iso_defs.specs.Surface.{lies_in_plane, is_border}
 use Rattle.mesh_laws.proofs.TwoCells.{Corner, corner_is, corner_below, Pair, pair_is, Same, same_is, alike_is, same-true}
 use Rattle.mesh_laws.proofs.Names.{same_vertex, edge_in, name_of_edge, name_of_centre, corner_in}
 use Rattle.iso_defs.proofs.Points.{x_index, y_index, z_index, index_in, index_of_point}
@@ -244,10 +243,10 @@ module _ (g : Grid) (s : ℕ → ℤ) (q f x y : ℕ) (i : In q (cells g)) (hf :
   abbrev on_plane : ℕ → Bool
   on_plane n = both n 0 || both n (size g n - 1)
 
-  border_parts : is_border g (cell_edge g q x) (cell_edge g q y) ≡ true → list_any on_plane (below 3) ≡ true
+  border_parts : share_outer_plane g (cell_edge g q x) (cell_edge g q y) ≡ true → list_any on_plane (below 3) ≡ true
   border_parts h = (and_parts (ltb (cell_edge g q y) (name_bound g)) (list_any on_plane (below 3)) (and_parts (ltb (cell_edge g q x) (name_bound g)) _ h).1).1
 
-  pub border_to : is_border g (cell_edge g q x) (cell_edge g q y) ≡ true → OnBorder g q i f
+  pub border_to : share_outer_plane g (cell_edge g q x) (cell_edge g q y) ≡ true → OnBorder g q i f
   border_to h =
       let r : (n : ℕ) × In n (below 3) × (on_plane n ≡ true) = in_any on_plane (below 3) (border_parts h) in
       let hn : r.0 < 3 = (range_at_least 0 3 r.0 r.1).1 in
@@ -258,7 +257,7 @@ module _ (g : Grid) (s : ℕ → ℤ) (q f x y : ℕ) (i : In q (cells g)) (hf :
             inr (ap (λ n. coordinate g n q + f % 2) k.0 ∙ (k.1 ∙ ap (λ n. size g n - 1) (sym k.0))))
       ]
 
-  pub border_from : OnBorder g q i f → is_border g (cell_edge g q x) (cell_edge g q y) ≡ true
+  pub border_from : OnBorder g q i f → share_outer_plane g (cell_edge g q x) (cell_edge g q y) ≡ true
   border_from h =
       let p : on_plane (f / 2) ≡ true = elim h [
         | inl e ↦ or_left (both (f / 2) 0) (both (f / 2) (size g (f / 2) - 1)) (both_from 0 e)
@@ -329,13 +328,13 @@ no_back g s q r f x y c d i ir hf hx hy seg border back ex ey =
 
 -- by cases on one pair that is run
 pub matched : (g : Grid) (s : ℕ → ℤ) (m n : ℕ) → 0 < times_run (named_triangles g s) m n →
-    (is_border g m n ≡ true → times_run (named_triangles g s) n m ≡ 0)
-    × (is_border g m n ≡ false → 0 < times_run (named_triangles g s) n m)
+    (share_outer_plane g m n ≡ true → times_run (named_triangles g s) n m ≡ 0)
+    × (share_outer_plane g m n ≡ false → 0 < times_run (named_triangles g s) n m)
 matched g s m n h =
     let cell : (q : ℕ) × In q (cells g) × (0 < times_run (cell_triangles g s q) m n) = run_cell (cells g) h in
     let c : Source g s cell.0 m n = source g s cell.0 m n cell.2 in
     let k : Run g s cell.0 c.x c.y = run_is g s cell.0 c.x c.y c.run in
-    let goal : ℕ → ℕ → Type 0 = λ m n. (is_border g m n ≡ true → times_run (named_triangles g s) n m ≡ 0) × (is_border g m n ≡ false → 0 < times_run (named_triangles g s) n m) in
+    let goal : ℕ → ℕ → Type 0 = λ m n. (share_outer_plane g m n ≡ true → times_run (named_triangles g s) n m ≡ 0) × (share_outer_plane g m n ≡ false → 0 < times_run (named_triangles g s) n m) in
     let here : goal (vertex_name g cell.0 c.x) (vertex_name g cell.0 c.y) = at_cell cell.0 c.x c.y cell.1 k c.run in
     subst (λ a. goal a n) c.from (subst (λ b. goal (vertex_name g cell.0 c.x) b) c.to here)
   where
@@ -369,8 +368,8 @@ matched g s m n h =
         ]
 
     at_edges : (q x y : ℕ) → In q (cells g) → x < 12 → y < 12 → In (x, y) (next_pairs (cell_signs g s q) (cell_joined g s q))
-        → (is_border g (cell_edge g q x) (cell_edge g q y) ≡ true → times_run (named_triangles g s) (cell_edge g q y) (cell_edge g q x) ≡ 0)
-        × (is_border g (cell_edge g q x) (cell_edge g q y) ≡ false → 0 < times_run (named_triangles g s) (cell_edge g q y) (cell_edge g q x))
+        → (share_outer_plane g (cell_edge g q x) (cell_edge g q y) ≡ true → times_run (named_triangles g s) (cell_edge g q y) (cell_edge g q x) ≡ 0)
+        × (share_outer_plane g (cell_edge g q x) (cell_edge g q y) ≡ false → 0 < times_run (named_triangles g s) (cell_edge g q y) (cell_edge g q x))
     at_edges q x y i hx hy seg =
         let f : (f : ℕ) × (f < 6) × In (x, y) (face_pairs (cell_signs g s q) (cell_joined g s q) f) = in_some_face g s q (x, y) seg in (
           (λ b. none q x y i f.0 f.1 hx hy f.2 (border_to g s q f.0 x y i f.1 hx hy f.2 b)),
@@ -392,12 +391,12 @@ matched g s m n h =
         clash false e h = cc
 
     at_cell : (q x y : ℕ) → In q (cells g) → Run g s q x y → In (x, y) (all_runs (local g s q))
-        → (is_border g (vertex_name g q x) (vertex_name g q y) ≡ true → times_run (named_triangles g s) (vertex_name g q y) (vertex_name g q x) ≡ 0)
-        × (is_border g (vertex_name g q x) (vertex_name g q y) ≡ false → 0 < times_run (named_triangles g s) (vertex_name g q y) (vertex_name g q x))
+        → (share_outer_plane g (vertex_name g q x) (vertex_name g q y) ≡ true → times_run (named_triangles g s) (vertex_name g q y) (vertex_name g q x) ≡ 0)
+        × (share_outer_plane g (vertex_name g q x) (vertex_name g q y) ≡ false → 0 < times_run (named_triangles g s) (vertex_name g q y) (vertex_name g q x))
     at_cell q x y i k run =
         let both : (if ltb x 12 && ltb y 12 then has_pair (next_pairs (cell_signs g s q) (cell_joined g s q)) x y else has_pair (all_runs (local g s q)) y x) ≡ true
         = (run_parts g s q).0 x y run in
-        let goal : ℕ → ℕ → Type 0 = λ m n. (is_border g m n ≡ true → times_run (named_triangles g s) n m ≡ 0) × (is_border g m n ≡ false → 0 < times_run (named_triangles g s) n m) in
+        let goal : ℕ → ℕ → Type 0 = λ m n. (share_outer_plane g m n ≡ true → times_run (named_triangles g s) n m ≡ 0) × (share_outer_plane g m n ≡ false → 0 < times_run (named_triangles g s) n m) in
         elim (cases_Bool (ltb x 12 && ltb y 12)) [
           | inl e ↦ (
               let l : (ltb x 12 ≡ true) × (ltb y 12 ≡ true) = and_parts _ _ e in

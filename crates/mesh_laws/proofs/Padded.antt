@@ -5,15 +5,12 @@ use Rattle.std.proofs.Math.Nat.{mod-eq_of_lt, div-lt_iff_lt-mul}
 use Rattle.std.specs.List.{flat_map, filter, list_any}
 use Rattle.std.proofs.lemmas.Bool.{and_parts, or_cases, eqb-true, eq-eqb, or_left, or_right, ltb-true}
 use Rattle.iso_defs.specs.Lists.{below}
-use Rattle.iso_defs.specs.Grid.{point_count, Grid, size, stride, coordinate, cells, name_bound, has_next, edge_lower, edge_upper, is_edge}
-use Rattle.iso_defs.specs.Signs.{is_above, differ, is_crossing}
+use Rattle.iso_defs.specs.Grid.{point_count, Grid, size, stride, coordinate, cells, name_bound, has_next, edge_lower, edge_upper, is_edge, is_above, differ, is_crossing, is_outer, IsSolid, IsBelowOutside}
 use Rattle.iso_defs.specs.Cell.{Triangle}
 use Rattle.iso_defs.specs.Place.{Position, edge_position}
 use Rattle.iso_defs.specs.Scratch.{triangles, number_of, vertex_names, vertices, crossing_edges, cell_centres, on_corners, named_triangles}
-use Rattle.iso_defs.specs.Manifold.{times_run, runs, all_runs, runs_of}
-use Rattle.iso_defs.specs.Surface.{lies_in_plane, is_border}
-use Rattle.iso_defs.specs.Outside.{is_outer, IsSolid, IsBelowOutside}
-use Rattle.iso_defs.specs.Verdict.{on_border, IsVerdict}
+use Rattle.iso_defs.specs.Manifold.{times_run, runs, all_runs, runs_of, lies_in_plane, share_outer_plane}
+use Rattle.iso_defs.specs.Verdict.{in_outer_plane, IsVerdict}
 use Rattle.iso_defs.specs.Verdict.Verdict.{Closed}
 use Rattle.triangle_laws.proofs.Lists.{In, In-append, In-map, in_map, In-flat_map, In-filter, any_in, in_any}
 use Rattle.mesh_laws.proofs.Cells.{range_in, range_at_least}
@@ -150,7 +147,7 @@ vertex_crosses g s n i h =
     high m n k h e = omega arith
 
 -- no two vertices of the mesh lie on the border
-pub no_border : (g : Grid) (s : ℕ → ℤ) (m n : ℕ) → IsSolid g → IsBelowOutside g s → In m (vertex_names g s) → is_border g m n ≡ true → ⊥
+pub no_border : (g : Grid) (s : ℕ → ℤ) (m n : ℕ) → IsSolid g → IsBelowOutside g s → In m (vertex_names g s) → share_outer_plane g m n ≡ true → ⊥
 no_border g s m n solid out im h =
     let both : ℕ → ℕ → Bool = λ axis k. lies_in_plane g axis k m && lies_in_plane g axis k n in
     let on : ℕ → Bool = λ axis. both axis 0 || both axis (size g axis - 1) in
@@ -186,19 +183,19 @@ numbers_of g s x i =
     pick t l m (inr (inr (inr z))) = absurd z
 
 -- no pair that is run is a border edge
-pub off_border : (g : Grid) (s : ℕ → ℤ) → IsSolid g → IsBelowOutside g s → (x : ℕ × ℕ) → In x (all_runs (triangles g s)) → on_border g s x.0 x.1 ≡ false
+pub off_border : (g : Grid) (s : ℕ → ℤ) → IsSolid g → IsBelowOutside g s → (x : ℕ × ℕ) → In x (all_runs (triangles g s)) → in_outer_plane g s x.0 x.1 ≡ false
 off_border g s solid out x i =
     let y : (y : ℕ × ℕ) × In y.0 (vertex_names g s) × In y.1 (vertex_names g s) × (number_of g s y.0 ≡ x.0) × (number_of g s y.1 ≡ x.1) × (0 < times_run (triangles g s) x.0 x.1) = numbers_of g s x i in
-    let b : on_border g s (number_of g s y.0.0) (number_of g s y.0.1) ≡ is_border g y.0.0 y.0.1
-    = ap (λ z. is_border g z (get_or (vertex_names g s) (number_of g s y.0.1) 0)) (vertex_at g s y.0.0 y.1) ∙ ap (is_border g y.0.0) (vertex_at g s y.0.1 y.2) in
-    let off : is_border g y.0.0 y.0.1 ≡ false = by_no (is_border g y.0.0 y.0.1) (λ e. no_border g s y.0.0 y.0.1 solid out y.1 e) in
-    subst (λ z. on_border g s z x.1 ≡ false) y.3 (subst (λ z. on_border g s (number_of g s y.0.0) z ≡ false) y.4 (b ∙ off))
+    let b : in_outer_plane g s (number_of g s y.0.0) (number_of g s y.0.1) ≡ share_outer_plane g y.0.0 y.0.1
+    = ap (λ z. share_outer_plane g z (get_or (vertex_names g s) (number_of g s y.0.1) 0)) (vertex_at g s y.0.0 y.1) ∙ ap (share_outer_plane g y.0.0) (vertex_at g s y.0.1 y.2) in
+    let off : share_outer_plane g y.0.0 y.0.1 ≡ false = by_no (share_outer_plane g y.0.0 y.0.1) (λ e. no_border g s y.0.0 y.0.1 solid out y.1 e) in
+    subst (λ z. in_outer_plane g s z x.1 ≡ false) y.3 (subst (λ z. in_outer_plane g s (number_of g s y.0.0) z ≡ false) y.4 (b ∙ off))
   where
     by_no : (b : Bool) → (b ≡ true → ⊥) → b ≡ false
     by_no true h = absurd (h refl)
     by_no false h = refl
 
-pub run_off_border : (g : Grid) (s : ℕ → ℤ) (a b : ℕ) → IsSolid g → IsBelowOutside g s → 0 < times_run (triangles g s) a b → on_border g s a b ≡ false
+pub run_off_border : (g : Grid) (s : ℕ → ℤ) (a b : ℕ) → IsSolid g → IsBelowOutside g s → 0 < times_run (triangles g s) a b → in_outer_plane g s a b ≡ false
 run_off_border g s a b solid out h =
     let w : (u : Triangle) × In u (triangles g s) × (runs a b u ≡ true) = count_finds (runs a b) (triangles g s) h in
     off_border g s solid out (a, b) (run_in (triangles g s) w.0 a b w.1 w.2)
@@ -209,8 +206,8 @@ closed g s solid out = (
   manifold g s,
   filter_none (λ (p : ℕ × ℕ). eqb (times_run (triangles g s) p.1 p.0) 0) (all_runs (triangles g s)) (λ x i.
       (let y : (y : ℕ × ℕ) × In y.0 (vertex_names g s) × In y.1 (vertex_names g s) × (number_of g s y.0 ≡ x.0) × (number_of g s y.1 ≡ x.1) × (0 < times_run (triangles g s) x.0 x.1) = numbers_of g s x i in
-      let m : (on_border g s x.0 x.1 ≡ true → times_run (triangles g s) x.0 x.1 + times_run (triangles g s) x.1 x.0 ≡ 1)
-      × (not (on_border g s x.0 x.1) ≡ true → (times_run (triangles g s) x.0 x.1 ≡ 1) × (times_run (triangles g s) x.1 x.0 ≡ 1)) = runs_match g s x.0 x.1 y.5 in
+      let m : (in_outer_plane g s x.0 x.1 ≡ true → times_run (triangles g s) x.0 x.1 + times_run (triangles g s) x.1 x.0 ≡ 1)
+      × (not (in_outer_plane g s x.0 x.1) ≡ true → (times_run (triangles g s) x.0 x.1 ≡ 1) × (times_run (triangles g s) x.1 x.0 ≡ 1)) = runs_match g s x.0 x.1 y.5 in
       let one : times_run (triangles g s) x.1 x.0 ≡ 1 = (m.1 (ap not (off_border g s solid out x i))).1 in
       ap (λ n. eqb n 0) one)),
 )

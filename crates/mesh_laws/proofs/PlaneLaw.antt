@@ -2,13 +2,10 @@
 use Rattle.std.proofs.Common.{◌≡◌, ℕ, ◌+◌, ◌-◌, ◌*◌, ◌/◌, ◌%◌, ◌<◌, ◌≤◌, Bool, true, ◌&&◌, ◌||◌, List, refl, sym, ◌∙◌, ap, subst, inl, inr, arith, eqb, ltb, ℤ, slice_index, get_or, zero-add}
 use Rattle.std.proofs.lemmas.Bool.{and_parts, or_left, or_right, ltb-true, lt-ltb, eqb-true, eq-eqb, and_from, cases_lt}
 use Rattle.iso_defs.specs.Lists.{below, has_pair}
-use Rattle.iso_defs.specs.Grid.{Grid, cells, name_bound, coordinate, index, point_count, has_next}
-use Rattle.iso_defs.specs.Signs.{is_crossing}
+use Rattle.iso_defs.specs.Grid.{Grid, cells, name_bound, coordinate, index, point_count, has_next, is_crossing, IsThick}
 use Rattle.iso_defs.specs.Cell.{corner_point, cell_edge, cell_signs, cell_joined, cell_values, next_pairs, face_pairs, crosses, Triangle}
 use Rattle.iso_defs.specs.Scratch.{vertex_name, on_corners, cell_triangles, named_triangles, triangles, number_of, vertex_names, crossing_edges}
-use Rattle.iso_defs.specs.Manifold.{runs, times_run, runs_of}
-use Rattle.iso_defs.specs.Surface.{lies_in_plane}
-use Rattle.iso_defs.specs.Outside.{IsThick}
+use Rattle.iso_defs.specs.Manifold.{runs, times_run, runs_of, lies_in_plane}
 use Rattle.iso_defs.specs.Contours.{squares, square_pairs, plane_pairs}
 use Rattle.iso_defs.specs.PlaneOfMesh.{both_in_plane, IsPlaneEdge, IsPlaneOfMesh}
 use Rattle.triangle_laws.proofs.Lists.{In, In-map, In-flat_map, in_flat_map, In-filter, in_filter}

@@ -2,8 +2,7 @@
 use Rattle.std.proofs.Common.{◌≡◌, ℕ, ◌+◌, ◌*◌, ◌/◌, ◌%◌, ◌<◌, Bool, true, false, ◌&&◌, ◌||◌, not, refl, sym, ◌∙◌, ap, subst, arith, ltb, eqb, ℤ, List, inl, inr}
 use Rattle.std.proofs.lemmas.Bool.{and_parts, ltb-true, eqb-true, eq-eqb, or_cases, and_from}
 use Rattle.std.proofs.lemmas.List.FromFn.{get_or-map-range_with_len}
-use Rattle.iso_defs.specs.Grid.{Grid, coordinate, is_cell, has_next}
-use Rattle.iso_defs.specs.Signs.{is_above}
+use Rattle.iso_defs.specs.Grid.{Grid, coordinate, is_cell, has_next, is_above}
 use Rattle.iso_defs.specs.Face.{holds_at}
 use Rattle.iso_defs.specs.Cell.{corner_point, edge_corner, cell_edge, cell_signs, cell_joined, next_pairs}
 use Rattle.case_laws.proofs.Cases.{all_below, same}

@@ -3,7 +3,7 @@ use Rattle.std.proofs.Common.{◌≡◌, ℕ, ◌+◌, ◌*◌, ◌/◌, ◌<◌
 use Rattle.std.proofs.lemmas.Bool.{and_parts, or_cases, eqb-true, eq-eqb, and_from, ltb-true}
 use Rattle.std.proofs.lemmas.Nat.{mod_below}
 use Rattle.iso_defs.specs.Lists.{is_in}
-use Rattle.iso_defs.specs.Grid.{Grid, coordinate, has_next}
+use Rattle.iso_defs.specs.Grid.{Grid, coordinate, has_next, IsSolid}
 use Rattle.iso_defs.specs.Cell.{corner_point, edge_corner, cell_edge, face_edges}
 use Rattle.case_laws.proofs.Cases.{all_below}
 use Rattle.case_laws.proofs.EdgePairs.{bit_x, bit_y, bit_z, alike, same_corner, implies}
@@ -15,7 +15,6 @@ use Rattle.triangle_laws.proofs.Fans.{in_is_in}
 use Rattle.case_laws.proofs.Tests.{all_below_at}
 use Rattle.iso_defs.proofs.Coordinates.{x_moved, y_moved, z_moved}
 use Rattle.mesh_laws.proofs.TwoCells.{same_edge, Same, same_cell, alike_is, corner_below}
-use Rattle.iso_defs.specs.Outside.{IsSolid}
 use Rattle.mesh_laws.proofs.Padded.{by_three}
 
 flat_at : (n a : ℕ) → n < 3 → a < 12 → is_in a (face_edges (2 * n)) ≡ true → bit_along n a ≡ 0

@@ -4,8 +4,7 @@ use Rattle.std.specs.List.{flat_map, filter, list_any, list_all, count_by}
 use Rattle.std.proofs.lemmas.Bool.{and_parts, eq-eqb, or_left, or_right, ltb-true, lt-ltb, le-ltb, leb-true, cases_lt}
 use Rattle.std.proofs.lemmas.Nat.{mod_below}
 use Rattle.iso_defs.specs.Lists.{below, around, steps}
-use Rattle.iso_defs.specs.Grid.{Grid, stride, index, coordinate, cells, name_bound, point_count, has_next, is_edge}
-use Rattle.iso_defs.specs.Signs.{is_above, differ, is_crossing}
+use Rattle.iso_defs.specs.Grid.{Grid, stride, index, coordinate, cells, name_bound, point_count, has_next, is_edge, is_above, differ, is_crossing, IsThick}
 use Rattle.iso_defs.specs.Cell.{Triangle, corner_point, edge_corner, cell_edge, cell_signs, crosses}
 use Rattle.iso_defs.specs.Place.{Position, edge_position, centre_position}
 use Rattle.iso_defs.specs.Scratch.{triangles, number_of, vertex_names, vertices, crossing_edges, cell_centres, cell_loops, has_centre, centre_name, on_corners, named_triangles, cell_triangles, vertex_name}
@@ -15,7 +14,6 @@ use Rattle.mesh_laws.proofs.Cells.{range_at_least}
 use Rattle.iso_defs.proofs.Points.{x_index, y_index, z_index, index_in, index_of_point}
 use Rattle.mesh_laws.proofs.Apart.{crosses_is}
 use Rattle.mesh_laws.proofs.Arcs.{Part, part_is, arc_corner, flat_arcs, same_pairs_eq, on_pair, cell_arcs}
-use Rattle.iso_defs.specs.Outside.{IsThick}
 use Rattle.mesh_laws.proofs.Padded.{by_three}
 use Rattle.iso_defs.specs.Verdict.{IsOrientedSurface}
 use Rattle.case_laws.proofs.Wedges.{centre_test, centre_all, distinct_test, same_pairs}

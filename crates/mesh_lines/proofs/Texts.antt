@@ -11,8 +11,7 @@ use Rattle.iso_base.specs.declared.format.MeshFormat.TheVariants.{Ply, Obj, Off,
 use Rattle.iso_base.specs.declared.point.Point.{Point}
 use Rattle.iso_defs.specs.MeshLists.{FlatMesh}
 use Rattle.mesh_text.specs.Lines.{ply_head}
-use Rattle.mesh_more.specs.Heads.{off_head, vtk_faces, vtk_head}
-use Rattle.mesh_more.specs.Texts.{moved, moved_text, moved_vertex}
+use Rattle.mesh_more.specs.Texts.{off_head, vtk_faces, vtk_head, moved, moved_text, moved_vertex}
 use Rattle.mesh_lines.specs.declared.style.Origin.TheVariants.{Volume, Pad, Window}
 use Rattle.mesh_lines.specs.declared.style.Style.{Style}
 use Rattle.mesh_lines.specs.Lines.{face_line, text_of, vertex_line}

@@ -10,7 +10,7 @@ use Rattle.iso_base.specs.declared.format.MeshFormat.{MeshFormat}
 use Rattle.iso_base.specs.declared.format.MeshFormat.TheVariants.{Ply, Obj, Off, Vtk}
 use Rattle.iso_defs.specs.MeshLists.{FlatMesh}
 use Rattle.mesh_text.specs.Lines.{coordinates_text, ply_head}
-use Rattle.mesh_more.specs.Heads.{off_head, vtk_faces, vtk_head}
+use Rattle.mesh_more.specs.Texts.{off_head, vtk_faces, vtk_head}
 use Rattle.mesh_lines.specs.declared.style.Origin.{Origin}
 use Rattle.mesh_lines.specs.declared.style.Origin.TheVariants.{Volume, Pad, Window}
 use Rattle.mesh_lines.specs.declared.style.Style.{Style}

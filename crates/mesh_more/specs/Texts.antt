@@ -1,13 +1,26 @@
 -- Meshes as OFF and VTK texts, and in each format with their positions moved.
-use Rattle.std.specs.Prelude.{ℕ, ◌+◌, ◌*◌, List, ◌∷◌, ◌++◌, length, map, false}
-use Rattle.std.specs.List.{flat_map}
+use Rattle.std.specs.Prelude.{ℕ, ◌*◌, List, ◌∷◌, ◌++◌, codes, decimal, ◌+◌, length, map, false}
 use Rattle.iso_defs.specs.Bytes.{space, digit_three}
+use Rattle.iso_defs.specs.Texts.{counted, counted_twice, line, position_text, numbers_text, ply_text, obj_text}
+use Rattle.std.specs.List.{flat_map}
 use Rattle.iso_defs.specs.Cell.{Triangle}
 use Rattle.iso_defs.specs.Place.{Position}
-use Rattle.iso_defs.specs.Texts.{line, position_text, numbers_text, ply_text, obj_text}
-use Rattle.mesh_more.specs.Heads.{off_head, vtk_faces, vtk_head}
 use Rattle.iso_base.specs.declared.format.MeshFormat.{MeshFormat}
 use Rattle.iso_base.specs.declared.format.MeshFormat.TheVariants.{Ply, Obj, Off, Vtk}
+
+-- the two lines of an OFF text before its vertices: the last number is that of edges, which is not told
+unfoldable pub off_head : ℕ → ℕ → List ℕ
+off_head vertices faces = line (codes "OFF") ++ line (decimal vertices ++ space ∷ (decimal faces ++ codes " 0"))
+
+-- the lines of a VTK text before its vertices
+unfoldable pub vtk_head : ℕ → List ℕ
+vtk_head vertices =
+    line (codes "# vtk DataFile Version 3.0") ++ (line (codes "isobench") ++ (line (codes "ASCII")
+    ++ (line (codes "DATASET POLYDATA") ++ line (counted (codes "POINTS ") vertices ++ codes " float"))))
+
+-- the line of a VTK text before its faces: how many there are, and how many numbers stand in their lines
+unfoldable pub vtk_faces : ℕ → List ℕ
+vtk_faces faces = line (counted_twice (codes "POLYGONS ") faces (4 * faces))
 
 -- the lines of vertices, and of triangles, as in PLY
 abbrev pub vertex_lines : List (ℕ × Position) → List ℕ

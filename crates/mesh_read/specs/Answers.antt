@@ -1,7 +1,7 @@
 -- What the readers of meshes answer.
-pub use Rattle.text_lines.specs.Refusals.{◌>>=◌, all_or_first, unless_fault}
+pub use Rattle.text_lines.specs.Lines.{◌>>=◌, all_or_first, unless_fault}
 use Rattle.std.specs.Prelude.{Bool, true, false, Result}
-use Rattle.text_lines.specs.Refusals.{AnswersBut, FailsBut}
+use Rattle.text_lines.specs.Lines.{AnswersBut, FailsBut}
 use Rattle.refusals.specs.declared.mesh.MeshFault.{MeshFault}
 use Rattle.refusals.specs.declared.mesh.MeshFault.TheVariants.{Memory}
 

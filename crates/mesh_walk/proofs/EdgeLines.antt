@@ -1,8 +1,7 @@
 -- The lines of vertices on crossing edges.
 use Rattle.std.proofs.Common.{◌≡◌, ℕ, ◌+◌, ◌*◌, ◌/◌, ◌%◌, ◌<◌, Bool, true, false, [], refl, sym, ◌∙◌, ap, arith, eqb, if◌then◌else◌}
-use Rattle.iso_defs.specs.Grid.{coordinate, edge_axis, edge_lower}
+use Rattle.iso_defs.specs.Grid.{coordinate, edge_axis, edge_lower, is_crossing}
 use Rattle.iso_defs.specs.Place.{Position, edge_coordinate}
-use Rattle.iso_defs.specs.Signs.{is_crossing}
 use Rattle.iso_defs.proofs.Points.{x_index, y_index, z_index}
 use Rattle.iso_base.specs.Points.{IsPoint, index_of}
 use Rattle.iso_base.specs.declared.point.Point.{Point}

@@ -5,12 +5,11 @@ use Rattle.std.proofs.lemmas.List.{length-append, length-map, take_at}
 use Rattle.std.proofs.lemmas.List.Concat.{flat_map-append}
 use Rattle.std.proofs.lemmas.List.Sums.{sum_by-cons}
 use Rattle.iso_defs.specs.Lists.{below}
-use Rattle.iso_defs.specs.Grid.{cells, is_cell, name_bound}
+use Rattle.iso_defs.specs.Grid.{cells, is_cell, name_bound, is_crossing}
 use Rattle.iso_defs.specs.Rows.{row_count}
 use Rattle.iso_defs.specs.Cell.{Triangle, case_loops}
 use Rattle.case_table.specs.Cases.{case_joined, case_signs}
 use Rattle.cell_loops.specs.Loops.{row_centres, row_loops}
-use Rattle.iso_defs.specs.Signs.{is_crossing}
 use Rattle.iso_defs.specs.Scratch.{cell_centres, cell_loops, crossing_edges, has_centre}
 use Rattle.iso_base.specs.Triangles.{triangle_of}
 use Rattle.triangle_laws.proofs.Lists.{In}

@@ -4,10 +4,9 @@ use Rattle.std.specs.List.{filter, flat_map}
 use Rattle.std.proofs.lemmas.List.{length-map, map-append}
 use Rattle.std.proofs.lemmas.List.Concat.{flat_map-append}
 use Rattle.iso_defs.specs.Lists.{below}
-use Rattle.iso_defs.specs.Grid.{Grid, cells, is_cell, point_count}
+use Rattle.iso_defs.specs.Grid.{Grid, cells, is_cell, point_count, is_crossing}
 use Rattle.iso_defs.specs.Rows.{row_count}
 use Rattle.iso_defs.specs.Place.{Position, edge_position}
-use Rattle.iso_defs.specs.Signs.{is_crossing}
 use Rattle.iso_defs.specs.Scratch.{cell_centres, cell_triangles, crossing_edges, number_of, on_corners, triangles, vertices}
 use Rattle.mesh_laws.proofs.Rows.{flat_flat}
 use Rattle.crossing_edges.specs.Flags.{rank}

@@ -4,9 +4,8 @@ use Rattle.std.proofs.lemmas.List.{get_or-map, get_or-set_other, length-map}
 use Rattle.std.proofs.lemmas.Bool.{cases_eq, cases_lt}
 use Rattle.std.proofs.lemmas.Grind.{get_or-set_at}
 use Rattle.iso_defs.specs.Lists.{below}
-use Rattle.iso_defs.specs.Grid.{name_bound}
+use Rattle.iso_defs.specs.Grid.{name_bound, is_crossing}
 use Rattle.iso_defs.specs.Cell.{cell_edge, cell_signs, corner_point, crosses, edge_corner}
-use Rattle.iso_defs.specs.Signs.{is_crossing}
 use Rattle.triangle_laws.proofs.Lists.{In-filter}
 use Rattle.mesh_laws.proofs.Apart.{by_twelve}
 use Rattle.cell_loops.specs.Loops.{IsLoop}

@@ -6,10 +6,9 @@ use Rattle.std.proofs.lemmas.List.{get_or-set_other, get_or-set_same, get_or_def
 use Rattle.std.proofs.lemmas.List.FromFn.{get_or-map-range_with_len}
 use Rattle.std.proofs.lemmas.List.Sums.{sum_by_more}
 use Rattle.std.proofs.Math.Nat.{mul-le-mul_left}
-use Rattle.iso_defs.specs.Grid.{Grid, point_count}
+use Rattle.iso_defs.specs.Grid.{Grid, point_count, is_crossing}
 use Rattle.iso_defs.specs.Rows.{row_count}
-use Rattle.iso_base.specs.Sizing.{IsGrid}
-use Rattle.iso_defs.specs.Signs.{is_crossing}
+use Rattle.iso_base.specs.Volume.{IsGrid}
 use Rattle.crossing_edges.specs.Flags.{names_in, rank}
 use Rattle.crossing_edges.proofs.FlagParts.{row_in}
 use Rattle.edge_points.specs.Rows.{RowNumbers, sums_before}

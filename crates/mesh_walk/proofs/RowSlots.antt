@@ -5,8 +5,7 @@ use Rattle.std.proofs.lemmas.Bool.{cases_Bool, cases_lt}
 use Rattle.std.proofs.lemmas.List.{get_or-map, get_or_append_left, length-map}
 use Rattle.std.proofs.lemmas.List.Sums.{length-filter}
 use Rattle.std.proofs.Math.Seq.{get_or-append_seam}
-use Rattle.iso_defs.specs.Grid.{Grid}
-use Rattle.iso_defs.specs.Signs.{is_crossing}
+use Rattle.iso_defs.specs.Grid.{Grid, is_crossing}
 use Rattle.iso_defs.proofs.Ranges.{range_append}
 use Rattle.triangle_laws.proofs.Counts.{count-append}
 use Rattle.crossing_edges.specs.Flags.{names_in, rank}

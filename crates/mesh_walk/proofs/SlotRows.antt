@@ -2,8 +2,8 @@
 use Rattle.std.proofs.Common.{◌≡◌, ℕ, inl, inr, ◌+◌, ◌*◌, ◌%◌, ◌<◌, ◌≤◌, ◌⊎◌, List, [], ◌∷◌, get_or, true, refl, sym, ◌∙◌, ap, subst, arith}
 use Rattle.std.proofs.lemmas.Bool.{cases_lt}
 use Rattle.iso_defs.specs.Cell.{cell_edge}
-use Rattle.iso_defs.specs.Signs.{is_crossing}
-use Rattle.iso_base.specs.Sizing.{IsGrid}
+use Rattle.iso_defs.specs.Grid.{is_crossing}
+use Rattle.iso_base.specs.Volume.{IsGrid}
 use Rattle.mesh_laws.proofs.Apart.{by_twelve}
 use Rattle.flat_mesh.specs.Lattice.{Leveled, heights}
 use Rattle.flat_mesh.specs.Rows.{row_start}

@@ -6,10 +6,9 @@ use Rattle.std.proofs.lemmas.Fmt.{length-decimal-le}
 use Rattle.std.proofs.lemmas.List.{length-append, get_or-set_other, get_or-set_same, get_or_default}
 use Rattle.std.proofs.lemmas.List.FromFn.{get_or-map-range_with_len}
 use Rattle.iso_defs.specs.Cell.{cell_edge, cell_signs, crosses}
-use Rattle.iso_defs.specs.Grid.{name_bound}
+use Rattle.iso_defs.specs.Grid.{name_bound, is_crossing}
 use Rattle.iso_defs.specs.Lists.{below}
-use Rattle.iso_defs.specs.Signs.{is_crossing}
-use Rattle.iso_base.specs.Sizing.{IsGrid}
+use Rattle.iso_base.specs.Volume.{IsGrid}
 use Rattle.iso_base.specs.declared.format.MeshFormat.{MeshFormat}
 use Rattle.iso_base.specs.declared.format.MeshFormat.TheVariants.{Ply, Obj, Off, Vtk}
 use Rattle.triangle_laws.proofs.Lists.{In-filter}

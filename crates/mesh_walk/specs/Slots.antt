@@ -1,7 +1,7 @@
 -- What belongs to the crossing edges of the four rows of points round a row of cells, each edge's in a slot of its own.
 use Rattle.std.specs.Prelude.{◌≡◌, ℕ, ◌+◌, ◌*◌, ◌/◌, ◌%◌, ◌<◌, List, true, length, nat_lt, if◌then◌else◌, slice_index}
 use Rattle.iso_defs.specs.Cell.{edge_corner}
-use Rattle.iso_defs.specs.Signs.{is_crossing}
+use Rattle.iso_defs.specs.Grid.{is_crossing}
 use Rattle.edge_points.specs.Points.{corner_offset}
 use Rattle.flat_mesh.specs.Lattice.{Leveled, heights}
 use Rattle.flat_mesh.specs.Rows.{row_start}

@@ -2,11 +2,10 @@
 use Rattle.std.specs.Prelude.{ℕ, List, ◌*◌, ◌++◌, map}
 use Rattle.std.specs.List.{flat_map}
 use Rattle.iso_defs.specs.Rows.{row_count}
-use Rattle.iso_defs.specs.Grid.{is_cell}
+use Rattle.iso_defs.specs.Grid.{is_cell, is_crossing}
 use Rattle.iso_defs.specs.Cell.{cell_edge}
 use Rattle.iso_defs.specs.Place.{centre_position, edge_position}
 use Rattle.iso_defs.specs.Scratch.{cell_centres}
-use Rattle.iso_defs.specs.Signs.{is_crossing}
 use Rattle.iso_base.specs.Triangles.{triangle_of}
 use Rattle.iso_base.specs.declared.format.MeshFormat.{MeshFormat}
 use Rattle.crossing_edges.specs.Flags.{rank}

@@ -4,7 +4,7 @@
 //! look into a table. Slots of rows at even and odd coordinates are apart, so rows stay where they are while the cells
 //! move on.
 ghost use Rattle.std.specs.Prelude.{◌≡◌, ℕ, List, [], ◌∷◌, ◌+◌, ◌*◌, ◌<◌, ◌≤◌, slice_index};
-ghost use Rattle.iso_base.specs.Sizing.{IsGrid};
+ghost use Rattle.iso_base.specs.Volume.{IsGrid};
 ghost use Rattle.flat_mesh.specs.Lattice.{Leveled};
 ghost use Rattle.mesh_lines.specs.declared.style.Style.{Style};
 ghost use Rattle.mesh_walk.specs.Numbers.{AreRowRanks};

@@ -3,7 +3,7 @@ use Rattle.std.proofs.Common.{◌≡◌, ℕ, true, false, eqb, List, [], ◌∷
 use Rattle.std.specs.List.{list_all}
 use Rattle.text_lines.specs.Lines.{lines_of}
 use Rattle.text_lines.proofs.Written.{is_quiet, line_text}
-use Rattle.nrrd_read.specs.HeaderLines.{header_texts, sample_bytes}
+use Rattle.nrrd_read.specs.Fields.{header_texts, sample_bytes}
 
 -- lines, each behind a line feed, and what follows
 abbrev pub text_of : List (List ℕ) → List ℕ → List ℕ

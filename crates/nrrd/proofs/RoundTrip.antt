@@ -7,24 +7,20 @@ use Rattle.std.proofs.lemmas.List.{length-append}
 use Rattle.std.proofs.lemmas.List.Folds.{list_all-append}
 use Rattle.std.proofs.lemmas.Fmt.{length-decimal-le}
 use Rattle.iso_defs.specs.Grid.{Grid, point_count}
-use Rattle.iso_base.specs.Sizing.{sized, IsGrid, IsAxis}
+use Rattle.iso_base.specs.Volume.{sized, IsGrid, IsAxis, Voxels, IsVoxels}
 use Rattle.iso_base.specs.declared.kind.SampleKind.{SampleKind}
 use Rattle.iso_base.specs.declared.kind.SampleKind.TheVariants.{I8, U8, I16, U16, I32, U32}
 use Rattle.refusals.specs.declared.nrrd.Field.TheVariants as fields
 use Rattle.refusals.specs.declared.nrrd.Field.TheVariants.{Dimension, Kind, Sizes, Endian}
 use Rattle.nrrd_read.specs.declared.encoding.Encoding.{Encoding}
 use Rattle.nrrd_read.specs.declared.encoding.Encoding.TheVariants.{Raw, Text, Hex}
-use Rattle.nrrd_read.specs.Encodings.{has_order}
+use Rattle.nrrd_read.specs.Checks.{has_order, layout_of, grid_of, encoding_named, kind_named, order_named, is_i8, is_u8, is_i16, is_u16, is_i32, is_u32}
 use Rattle.text_lines.specs.Lines.{lines_of}
 use Rattle.text_lines.specs.Words.{skip_blanks, trim_end, trimmed, words_of, is_word}
 use Rattle.text_lines.specs.Numbers.{is_digit}
 use Rattle.nrrd_read.specs.Fields.{Saying, Gives, meaning_of, meanings, field_line, field_named, is_data_file, fields_in, first_fault}
-use Rattle.nrrd_read.specs.Checks.{layout_of, grid_of, encoding_named, kind_named, order_named, is_i8, is_u8, is_i16, is_u16, is_i32, is_u32}
-use Rattle.nrrd_read.specs.Nrrd.{split_of, is_first}
-use Rattle.nrrd.specs.Writing.{coded_by, coded_head_text, coded_line, coded_save, encoding_text, head_in, head_text, kind_text, order_text, rows_of, sizes_text}
-use Rattle.iso_base.specs.Volume.{Voxels, IsVoxels}
-use Rattle.nrrd_read.specs.Nrrd.{nrrd_of}
-use Rattle.nrrd.specs.Writing.{samples_text, save_text}
+use Rattle.nrrd_read.specs.Nrrd.{split_of, is_first, nrrd_of}
+use Rattle.nrrd.specs.Writing.{coded_by, coded_head_text, coded_line, coded_save, encoding_text, head_in, head_text, kind_text, order_text, rows_of, sizes_text, samples_text, save_text}
 use Rattle.nrrd.proofs.RowsAgain.{printed_again}
 use Rattle.nrrd.proofs.SamplesAgain.{raw_again}
 use Rattle.text_lines.proofs.Places.{decide}

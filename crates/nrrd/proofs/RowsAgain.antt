@@ -6,8 +6,7 @@ use Rattle.std.proofs.Math.Nat.{mul-le-mul_left}
 use Rattle.std.proofs.lemmas.List.{drop-drop, drop_all, get_or-drop, get_or-take, length-drop, length-take-le, take-append-drop}
 use Rattle.std.proofs.lemmas.List.FromFn.{get_or-map-range_with_len, length-map-range_with_len}
 use Rattle.iso_defs.specs.Grid.{point_count}
-use Rattle.iso_base.specs.Samples.{IsOfKind}
-use Rattle.iso_base.specs.Volume.{Voxels, IsVoxels}
+use Rattle.iso_base.specs.Volume.{IsOfKind, Voxels, IsVoxels}
 use Rattle.nrrd_text.specs.Again.{AreRows, samples_of}
 use Rattle.text_samples.specs.Hex.{hex_samples}
 use Rattle.text_samples.specs.Text.{text_samples}

@@ -3,8 +3,7 @@ use Rattle.std.proofs.Common.{◌≡◌, ℕ, ◌+◌, ◌-◌, ◌*◌, false, 
 use Rattle.std.proofs.lemmas.Bool.{le-ltb}
 use Rattle.std.proofs.lemmas.List.{length-append}
 use Rattle.iso_defs.specs.Grid.{point_count}
-use Rattle.iso_base.specs.Samples.{width_of}
-use Rattle.iso_base.specs.Volume.{Voxels, IsVoxels}
+use Rattle.iso_base.specs.Volume.{width_of, Voxels, IsVoxels}
 use Rattle.iso_base.specs.SampleBytes.{samples_in}
 use Rattle.nrrd.specs.Writing.{samples_text}
 use Rattle.nrrd_read.specs.Nrrd.{raw_samples}

@@ -4,10 +4,9 @@ use Rattle.std.proofs.lemmas.List.{take-append-drop, append-nil, get_or-drop, le
 use Rattle.std.proofs.lemmas.List.Concat.{flat_map-cons}
 use Rattle.std.proofs.lemmas.Grind.{flat_map-append, take_at_read}
 use Rattle.std.proofs.Math.Seq.{take-append_seam}
-use Rattle.iso_base.specs.Samples.{width_of}
+use Rattle.iso_base.specs.Volume.{width_of, IsOfKind}
 use Rattle.iso_base.specs.declared.kind.SampleKind.{SampleKind}
 use Rattle.iso_base.specs.declared.kind.SampleKind.TheVariants.{I8, U8, I16, U16, I32, U32}
-use Rattle.iso_base.specs.Samples.{IsOfKind}
 use Rattle.std.proofs.lemmas.Int.{ints}
 use Rattle.std.specs.Int.{w64}
 use Rattle.iso_base.specs.SampleBytes.{sample_bytes}

@@ -9,7 +9,7 @@ pub use Rattle.iso_base.specs.SampleBytes.{samples_text}
 use Rattle.nrrd_text.specs.Writing.{hex_line, text_line}
 use Rattle.nrrd_read.specs.declared.encoding.Encoding.{Encoding}
 use Rattle.nrrd_read.specs.declared.encoding.Encoding.TheVariants.{Raw, Text, Hex}
-use Rattle.nrrd_read.specs.Encodings.{has_order}
+use Rattle.nrrd_read.specs.Checks.{has_order}
 
 -- the name of a kind
 unfoldable pub kind_text : SampleKind → List ℕ

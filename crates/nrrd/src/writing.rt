@@ -6,7 +6,7 @@ ghost use Rattle.std.specs.Prelude.{◌≡◌, ◌+◌, ◌*◌, ◌<◌, ◌≤
 ghost use Rattle.arrayvec.specs.ArrayString.{array_string_len};
 ghost use Rattle.byte_streams.specs.Seen.{Puts};
 ghost use Rattle.iso_defs.specs.Grid.{point_count};
-ghost use Rattle.iso_base.specs.Samples.{width_of, IsOfKind};
+ghost use Rattle.iso_base.specs.Volume.{width_of, IsOfKind};
 ghost use Rattle.nrrd.specs.Writing.{coded_by, coded_head_text, encoding_text, head_in, head_text, kind_text, order_text, samples_text, save_text, sizes_text};
 
 use arrayvec::ArrayString;

@@ -11,7 +11,7 @@ use Rattle.refusals.specs.declared.nrrd.Field.{Field}
 use Rattle.refusals.specs.declared.nrrd.Field.TheVariants.{Dimension, Kind, Sizes, Encoding, Endian, LineSkip, ByteSkip}
 use Rattle.refusals.specs.declared.nrrd.NrrdFault.{NrrdFault}
 use Rattle.nrrd_read.specs.Fields.{Fields, Saying, IsBad, IsUnread, NamesFile, Gives, same_field, value_for, values, value, fault_at, line_fault, first_fault, fields_in, meaning_of, meanings}
-use Rattle.text_lines.specs.Refusals.{◌>>=◌, unless_fault}
+use Rattle.text_lines.specs.Lines.{◌>>=◌, unless_fault}
 use Rattle.nrrd_read.specs.Scanning.{get_field, put_field, no_fields, after_line, after_lines}
 
 get_put : (h : Fields) (g f : Field) (v : List ℕ) → get_field (put_field h g v) f ≡ cond (same_field f g) (Some v) (get_field h f)

@@ -2,7 +2,7 @@
 use Rattle.std.proofs.Common.{ℕ, suc, ◌≤◌, eqb, ◌&&◌, List, [], ◌∷◌, length, arith}
 use Rattle.text_lines.specs.Lines.{Line, lines_of, joined, begins_feed}
 use Rattle.text_lines.proofs.Places.{decide}
-use Rattle.nrrd_read.specs.HeaderLines.{sample_bytes}
+use Rattle.nrrd_read.specs.Fields.{sample_bytes}
 
 -- at most n bytes follow each line
 abbrev AreWithin : ℕ → List Line → Type 0

@@ -1,27 +1,30 @@
 -- What the values of the fields must be, and the refusals where they are not.
-use Rattle.std.specs.Prelude.{ℕ, zero, Bool, true, false, ◌==◌, ◌||◌, List, ℤ, pos, Option, Some, None, Result, Ok, Err, ok_or, option_and_then}
-use Rattle.std.specs.Prelude.{if◌then◌else◌, codes, ⊤}
-use Rattle.iso_defs.specs.Grid.{Grid}
-use Rattle.iso_base.specs.Sizing.{sized}
+use Rattle.std.specs.Prelude.{Bool, false, nat_lt, ℕ, zero, true, ◌==◌, ◌||◌, List, ℤ, pos, Option, Some, None, Result, Ok, Err, ok_or, option_and_then, if◌then◌else◌, codes, ⊤}
+use Rattle.iso_base.specs.Volume.{width_of, sized}
 use Rattle.iso_base.specs.declared.kind.SampleKind.{SampleKind}
+use Rattle.nrrd_read.specs.declared.encoding.Encoding.{Encoding}
+use Rattle.nrrd_read.specs.declared.encoding.Encoding.TheVariants.{Raw, Text, Hex}
+use Rattle.iso_defs.specs.Grid.{Grid}
 use Rattle.iso_base.specs.declared.kind.SampleKind.TheVariants.{I8, U8, I16, U16, I32, U32}
 use Rattle.iso_base.specs.declared.sizes.SizeFault.{SizeFault}
 use Rattle.refusals.specs.declared.nrrd.Field.{Field}
 use Rattle.refusals.specs.declared.nrrd.Field.TheVariants.{Dimension, Kind, Sizes, Endian, LineSkip, ByteSkip}
-use Rattle.refusals.specs.declared.nrrd.Field.TheVariants as fields
 use Rattle.refusals.specs.declared.nrrd.EncodingWord.{EncodingWord}
 use Rattle.refusals.specs.declared.nrrd.EncodingWord.TheVariants.{Gzip, Bzip2, Unknown}
-use Rattle.nrrd_read.specs.declared.encoding.Encoding.{Encoding}
-use Rattle.nrrd_read.specs.declared.encoding.Encoding.TheVariants.{Raw, Text, Hex}
 use Rattle.nrrd_read.specs.declared.layout.Layout.{Layout}
 use Rattle.refusals.specs.declared.nrrd.NrrdFault.{NrrdFault}
-use Rattle.refusals.specs.declared.nrrd.NrrdFault.TheVariants.{MissingField, BadValue, NotThreeAxes, UnsupportedKind, UnsupportedEncoding}
-use Rattle.refusals.specs.declared.nrrd.NrrdFault.TheVariants.{SkipUnsupported, Size, NoEndian}
+use Rattle.refusals.specs.declared.nrrd.NrrdFault.TheVariants.{MissingField, BadValue, NotThreeAxes, UnsupportedKind, UnsupportedEncoding, SkipUnsupported, Size, NoEndian}
 use Rattle.text_lines.specs.Words.{is_word, words_of, three_in}
 use Rattle.text_lines.specs.Numbers.{number_of, whole_of}
-use Rattle.text_lines.specs.Refusals.{◌>>=◌}
-use Rattle.nrrd_read.specs.Encodings.{has_order}
+use Rattle.text_lines.specs.Lines.{◌>>=◌}
 use Rattle.nrrd_read.specs.Fields.{Fields}
+use Rattle.refusals.specs.declared.nrrd.Field.TheVariants as fields
+
+-- whether the bytes of a sample have an order
+abbrev pub has_order : Encoding → SampleKind → Bool
+has_order Raw kind = nat_lt 1 (width_of kind)
+has_order Text kind = false
+has_order Hex kind = nat_lt 1 (width_of kind)
 
 -- the value, as it is seen
 abbrev pub map_ok : {A B : Type 0} → (A → B) → Result A NrrdFault → Result B NrrdFault

@@ -1,6 +1,6 @@
 -- What the lines of a header say.
-use Rattle.std.specs.Prelude.{ℕ, ◌+◌, Bool, ◌==◌, ◌||◌, List, map, take, drop, length, get_or, position, filter_map, Option, Some, None}
-use Rattle.std.specs.Prelude.{option_and_then, is_some, if◌then◌else◌, codes}
+use Rattle.std.specs.Prelude.{ℕ, ◌==◌, List, [], ◌∷◌, length, if◌then◌else◌, ◌+◌, Bool, ◌||◌, map, take, drop, get_or, position, filter_map, Option, Some, None, option_and_then, is_some, codes}
+use Rattle.text_lines.specs.Lines.{Line}
 use Rattle.std.specs.List.{slice_get, range_with_len}
 use Rattle.iso_defs.specs.Bytes.{hash, colon, equals_sign}
 use Rattle.refusals.specs.declared.nrrd.Field.{Field}
@@ -8,6 +8,16 @@ use Rattle.refusals.specs.declared.nrrd.Field.TheVariants.{Dimension, Kind, Size
 use Rattle.refusals.specs.declared.nrrd.NrrdFault.{NrrdFault}
 use Rattle.refusals.specs.declared.nrrd.NrrdFault.TheVariants.{BadLine, RepeatedField, Detached}
 use Rattle.text_lines.specs.Words.{is_word, trimmed}
+
+-- the texts before the first empty line
+abbrev pub header_texts : List Line → List (List ℕ)
+header_texts [] = []
+header_texts (l ∷ ls) = if length l.text == 0 then [] else l.text ∷ header_texts ls
+
+-- the bytes after the first empty line, and none where there is no such line
+abbrev pub sample_bytes : List Line → List ℕ
+sample_bytes [] = []
+sample_bytes (l ∷ ls) = if length l.text == 0 then l.after else sample_bytes ls
 
 -- the field of a name
 unfoldable pub field_named : List ℕ → Option Field

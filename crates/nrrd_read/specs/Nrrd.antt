@@ -1,25 +1,28 @@
 -- The volume that the bytes of a file give, or the first refusal.
+use Rattle.text_samples.specs.declared.fault.SampleFault.{SampleFault}
+use Rattle.text_samples.specs.declared.fault.SampleFault.TheVariants.{Bad, Short}
+use Rattle.refusals.specs.declared.nrrd.NrrdFault.{NrrdFault}
+use Rattle.refusals.specs.declared.nrrd.NrrdFault.TheVariants.{BadSample, ShortSamples, Memory, NotNrrd, HeaderTooLong}
 use Rattle.std.specs.Prelude.{ℕ, ◌-◌, ◌*◌, Bool, true, false, ◌||◌, nat_lt, ℤ, List, [], ◌∷◌, length, bytes_eq, Result, Ok, Err, if◌then◌else◌, codes}
 use Rattle.iso_defs.specs.Grid.{Grid, point_count}
-use Rattle.iso_base.specs.Samples.{width_of}
-use Rattle.iso_base.specs.Volume.{Voxels}
+use Rattle.iso_base.specs.Volume.{width_of, Voxels}
 use Rattle.iso_base.specs.declared.kind.SampleKind.{SampleKind}
-use Rattle.refusals.specs.declared.nrrd.NrrdFault.{NrrdFault}
-use Rattle.refusals.specs.declared.nrrd.NrrdFault.TheVariants.{NotNrrd, HeaderTooLong, Memory}
-use Rattle.text_lines.specs.Lines.{Line, lines_of}
-use Rattle.text_lines.specs.Refusals.{◌>>=◌, unless_fault, AnswersBut, FailsBut}
-use Rattle.nrrd_read.specs.HeaderLines.{header_texts, sample_bytes}
-use Rattle.nrrd_read.specs.Fields.{Fields, fields_in, first_fault, meanings}
+use Rattle.text_lines.specs.Lines.{Line, lines_of, ◌>>=◌, unless_fault, AnswersBut, FailsBut}
+use Rattle.nrrd_read.specs.Fields.{header_texts, sample_bytes, Fields, fields_in, first_fault, meanings}
 use Rattle.nrrd_read.specs.Checks.{layout_of}
-use Rattle.nrrd_read.specs.Faults.{fault_of}
 use Rattle.nrrd_read.specs.declared.encoding.Encoding.{Encoding}
 use Rattle.nrrd_read.specs.declared.encoding.Encoding.TheVariants.{Raw, Text, Hex}
 use Rattle.nrrd_read.specs.declared.layout.Layout.{Layout}
-use Rattle.text_samples.specs.declared.fault.SampleFault.{SampleFault}
-use Rattle.text_samples.specs.declared.fault.SampleFault.TheVariants.{Short}
 use Rattle.iso_base.specs.SampleBytes.{samples_in}
 use Rattle.text_samples.specs.Text.{text_samples}
 use Rattle.text_samples.specs.Hex.{hex_samples}
+use Rattle.text_samples.specs.declared.fault.SampleFault.TheVariants as samples
+
+-- the fault of the volume
+abbrev pub fault_of : SampleFault → NrrdFault
+fault_of (Bad place) = BadSample place
+fault_of (Short needed present) = ShortSamples needed present
+fault_of samples.Memory = Memory
 
 -- the first line, of any of the five versions
 unfoldable pub is_first : List ℕ → Bool

@@ -8,7 +8,7 @@ use Rattle.nrrd_read.specs.declared.header.Header.{Header}
 use Rattle.nrrd_read.specs.declared.meaning.Meaning.{Meaning}
 use Rattle.nrrd_read.specs.declared.meaning.Meaning.TheVariants as seen
 use Rattle.nrrd_read.specs.Fields.{Fields, Saying, IsBad, IsUnread, NamesFile, Gives}
-use Rattle.text_lines.specs.Refusals.{◌>>=◌}
+use Rattle.text_lines.specs.Lines.{◌>>=◌}
 
 -- what a line says, without where it lies in memory
 abbrev pub seen_line : Meaning → Saying

@@ -1,6 +1,6 @@
 //! The forms of samples in a file.
 ghost use Rattle.std.specs.Prelude.{◌≡◌};
-ghost use Rattle.nrrd_read.specs.Encodings.{has_order};
+ghost use Rattle.nrrd_read.specs.Checks.{has_order};
 
 use iso_base::SampleKind;
 

@@ -3,11 +3,9 @@
 //! An empty line is no bad line and a line of blanks is one; a CR at the very end of the input stays in its line.
 ghost use Rattle.std.specs.Prelude.{◌≡◌, ◌+◌, ◌^◌, ◌≤◌, ◌<◌, length, Option, MatchOption, IfSome, [], ◌∷◌, Ok};
 ghost use Rattle.std.specs.Option.{option_map};
-ghost use Rattle.text_lines.specs.Lines.{lines_of};
-ghost use Rattle.nrrd_read.specs.HeaderLines.{header_texts, sample_bytes};
-ghost use Rattle.nrrd_read.specs.Fields.{fields_in, first_fault, meanings, meaning_of};
+ghost use Rattle.text_lines.specs.Lines.{lines_of, unless_fault};
+ghost use Rattle.nrrd_read.specs.Fields.{header_texts, sample_bytes, fields_in, first_fault, meanings, meaning_of};
 ghost use Rattle.nrrd_read.specs.Checks.{map_ok};
-ghost use Rattle.text_lines.specs.Refusals.{unless_fault};
 ghost use Rattle.nrrd_read.specs.Scanning.{seen_fields, get_field, put_field, no_fields, after_line};
 
 use crate::meaning::{Meaning, line_meaning};

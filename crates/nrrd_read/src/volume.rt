@@ -6,9 +6,8 @@ ghost use Rattle.text_samples.specs.Hex.{hex_samples};
 ghost use Rattle.refusals.specs.declared.nrrd.NrrdFault.TheVariants.{ShortSamples};
 ghost use Rattle.nrrd_read.specs.Scanning.{seen_fields};
 ghost use Rattle.nrrd_read.specs.Checks.{map_ok};
-ghost use Rattle.nrrd_read.specs.Faults.{fault_of};
+ghost use Rattle.nrrd_read.specs.Nrrd.{fault_of, is_first, split_of, measured, nrrd_of, raw_samples, volume_of, Answers};
 ghost use Rattle.nrrd_read.specs.Files.{file_voxels, seen_volume};
-ghost use Rattle.nrrd_read.specs.Nrrd.{is_first, split_of, measured, nrrd_of, raw_samples, volume_of, Answers};
 
 use crate::encoding::Encoding;
 use crate::header::{Header, behind_header, read_fields};

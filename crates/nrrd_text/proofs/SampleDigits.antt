@@ -1,6 +1,6 @@
 -- The digits of a sample's bytes, one byte behind another.
 use Rattle.std.proofs.Common.{◌≡◌, ◌≢◌, ℕ, ◌/◌, ◌%◌, List, ◌++◌, refl, ap, ◌∙◌, append_assoc, arith, ℤ}
-use Rattle.iso_base.specs.Samples.{width_of}
+use Rattle.iso_base.specs.Volume.{width_of}
 use Rattle.iso_base.specs.declared.kind.SampleKind.{SampleKind}
 use Rattle.iso_base.specs.declared.kind.SampleKind.TheVariants.{I8, U8, I16, U16, I32, U32}
 use Rattle.iso_base.specs.SampleBytes.{bits_of}

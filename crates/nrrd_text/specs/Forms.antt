@@ -1,6 +1,6 @@
 -- How samples are printed in a line, each by itself.
 use Rattle.std.specs.Prelude.{◌≡◌, ℕ, ℤ, List, flat_map}
-use Rattle.iso_base.specs.Samples.{IsOfKind}
+use Rattle.iso_base.specs.Volume.{IsOfKind}
 use Rattle.iso_base.specs.declared.kind.SampleKind.{SampleKind}
 use Rattle.iso_base.specs.declared.kind.SampleKind.TheVariants.{U8}
 use Rattle.nrrd_text.specs.Writing.{next_number, sample_digits}

@@ -4,7 +4,7 @@
 //! unpredictable.
 
 ghost use Rattle.std.specs.Prelude.{◌≡◌, ◌+◌, ◌*◌, ◌≤◌, ◌++◌, take, length, flat_map, map, pos, All};
-ghost use Rattle.iso_base.specs.Samples.{IsOfKind};
+ghost use Rattle.iso_base.specs.Volume.{IsOfKind};
 ghost use Rattle.iso_base.specs.declared.kind.SampleKind.TheVariants.{U8};
 ghost use Rattle.nrrd_text.specs.ByteNumbers.{AreByteNumbers, IsEntry};
 ghost use Rattle.nrrd_text.specs.Writing.{next_number};

@@ -1,7 +1,7 @@
 //! The hex digits of samples, written from a place of a text on: each call gives the place behind what it wrote.
 
 ghost use Rattle.std.specs.Prelude.{◌≡◌, ◌+◌, ◌*◌, ◌≤◌, ◌<◌, ◌++◌, take, length, map, All};
-ghost use Rattle.iso_base.specs.Samples.{IsOfKind};
+ghost use Rattle.iso_base.specs.Volume.{IsOfKind};
 ghost use Rattle.nrrd_text.specs.Pairs.{ArePairs};
 ghost use Rattle.nrrd_text.specs.Writing.{byte_digits, hex_digit, sample_digits, samples_digits};
 

@@ -1,7 +1,7 @@
 //! Rows of samples in print, gathered with others before they are written.
 ghost use Rattle.std.specs.Prelude.{◌≡◌, ◌+◌, ◌*◌, ◌^◌, ◌≤◌, All, IfOk, length, map};
 ghost use Rattle.byte_streams.specs.Seen.{Stages};
-ghost use Rattle.iso_base.specs.Samples.{IsOfKind};
+ghost use Rattle.iso_base.specs.Volume.{IsOfKind};
 ghost use Rattle.nrrd_text.specs.Writing.{hex_line, text_line};
 
 use crate::forms::{Form, numbers_of};

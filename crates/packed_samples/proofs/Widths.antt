@@ -3,7 +3,7 @@ use Rattle.std.proofs.Common.{◌≡◌, ℤ, pos, negsuc, Bool, true, false, re
 use Rattle.std.specs.Prelude.{Option, Some, None, IfSome, ◌≤ℤ◌, ◌&&◌, if◌then◌else◌}
 use Rattle.std.proofs.lemmas.Bool.{and_parts}
 use Rattle.std.proofs.lemmas.Int.{ints}
-use Rattle.iso_base.specs.Samples.{IsOfKind, greatest_of, least_of}
+use Rattle.iso_base.specs.Volume.{IsOfKind, greatest_of, least_of}
 use Rattle.iso_base.specs.declared.kind.SampleKind.{SampleKind}
 use Rattle.packed_samples.specs.declared.width.Width.{Width}
 use Rattle.packed_samples.specs.declared.width.Width.TheVariants.{U8, I16, U16, I32, I64}

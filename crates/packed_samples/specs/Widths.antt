@@ -1,6 +1,6 @@
 -- The widths that samples are kept in.
 use Rattle.std.specs.Prelude.{Bool, true, int_le, ◌&&◌, ℤ, pos, negsuc, Option, Some, None, if◌then◌else◌}
-use Rattle.iso_base.specs.Samples.{IsOfKind, greatest_of, least_of}
+use Rattle.iso_base.specs.Volume.{IsOfKind, greatest_of, least_of}
 use Rattle.iso_base.specs.declared.kind.SampleKind.{SampleKind}
 use Rattle.iso_base.specs.declared.kind.SampleKind.TheVariants as kinds
 use Rattle.packed_samples.specs.declared.width.Width.{Width}

@@ -4,9 +4,8 @@ use Rattle.iso_defs.specs.Cell.{cell_values}
 use Rattle.iso_defs.specs.Grid.{Grid, index}
 use Rattle.iso_defs.proofs.Points.{index_in}
 use Rattle.iso_base.specs.Points.{index_of}
-use Rattle.iso_base.specs.Volume.{sample}
+use Rattle.iso_base.specs.Volume.{sample, grown}
 use Rattle.iso_base.specs.declared.point.Point.{Point}
-use Rattle.iso_base.specs.Padding.{grown}
 use Rattle.voxel_list.proofs.Padding.{moved_sample}
 use Rattle.samples.specs.Cells.{IsLowest}
 use Rattle.samples.proofs.Cells.{cell_values_are}

@@ -5,10 +5,8 @@ use Rattle.std.proofs.lemmas.Grind.{get_or-set_at}
 use Rattle.std.proofs.lemmas.List.{ext_get_or, get_or-drop, get_or-map, get_or-set_other, get_or-take, length-drop, length-map, length-set, length-take-le}
 use Rattle.std.proofs.lemmas.List.FromFn.{get_or-map-range_with_len, length-map-range_with_len}
 use Rattle.std.proofs.Math.Nat.{le_of_mul-le-mul_left, mul-le-mul_left}
-use Rattle.iso_defs.specs.Grid.{Grid, index, point_count}
-use Rattle.iso_defs.specs.Outside.{is_outer}
-use Rattle.iso_base.specs.Volume.{sample}
-use Rattle.iso_base.specs.Padding.{grown, padded_sample}
+use Rattle.iso_defs.specs.Grid.{Grid, index, point_count, is_outer}
+use Rattle.iso_base.specs.Volume.{sample, grown, padded_sample}
 use Rattle.voxel_list.proofs.Padding.{AtEnd, outer_layer, outer_point, outer_row, outer_sample, moved_sample, row_within}
 use Rattle.samples.proofs.Lists.{by_test}
 use Rattle.padded_samples.specs.Pads.{InPad, IsInnerRow, IsPadRow, padded_at, padded_list}

@@ -1,10 +1,7 @@
 -- Samples in a pad: with one more layer on each of the six sides.
 use Rattle.std.specs.Prelude.{◌≡◌, ℕ, ◌+◌, ◌*◌, ◌<◌, ◌≤◌, ℤ, List, length}
 use Rattle.iso_defs.specs.Grid.{Grid, point_count}
-use Rattle.iso_base.specs.Samples.{IsSample}
-use Rattle.iso_base.specs.Sizing.{IsGrid}
-use Rattle.iso_base.specs.Volume.{sample}
-use Rattle.iso_base.specs.Padding.{first_padded, grown, padded_sample}
+use Rattle.iso_base.specs.Volume.{IsSample, IsGrid, sample, first_padded, grown, padded_sample}
 
 -- a grid, its samples, and the pad round them
 pub record InPad : Type 0 where

@@ -4,11 +4,8 @@
 ghost use Rattle.std.specs.Prelude.{◌≡◌, ℕ, ℤ, ◌+◌, ◌*◌, ◌<◌, ◌≤◌, ◌↔◌, Err, IfOk, IfSome, None, All, drop, length, map, slice_index, take, true};
 ghost use Rattle.iso_defs.specs.Grid.{point_count};
 ghost use Rattle.iso_base.specs.Points.{IsPoint, index_of};
-ghost use Rattle.iso_base.specs.Samples.{IsSample};
-ghost use Rattle.iso_base.specs.Sizing.{sized};
-ghost use Rattle.iso_base.specs.Volume.{sample};
+ghost use Rattle.iso_base.specs.Volume.{IsSample, sized, sample, grown};
 ghost use Rattle.iso_base.specs.declared.sizes.SizeFault.{SizeFault};
-ghost use Rattle.iso_base.specs.Padding.{grown};
 ghost use Rattle.samples.specs.Cells.{IsLowest};
 ghost use Rattle.samples.specs.Signs.{sign_of};
 ghost use Rattle.padded_samples.specs.Pads.{InPad, IsInPad, IsInnerRow, padded_at, padded_list};
@@ -32,7 +29,7 @@ pub struct Padded<'a, S: Samples> {
 
 impl<'a, S: Samples> Model for Padded<'a, S> {
     ghost use Rattle.std.specs.Prelude.{◌≡◌};
-    ghost use Rattle.iso_base.specs.Padding.{grown};
+    ghost use Rattle.iso_base.specs.Volume.{grown};
     ghost use Rattle.padded_samples.specs.Pads.{InPad, IsInPad};
 
     ghost Value = { InPad };

@@ -2,8 +2,7 @@
 ghost use Rattle.std.specs.Prelude.{◌≡◌, ℕ, ℤ, ◌+◌, ◌*◌, ◌<◌, ◌≤◌, ◌⊎◌, IfSome, None, length, map, slice_index};
 ghost use Rattle.iso_defs.specs.Grid.{point_count};
 ghost use Rattle.iso_base.specs.Points.{IsPoint, index_of};
-ghost use Rattle.iso_base.specs.Samples.{IsSample};
-ghost use Rattle.iso_base.specs.Volume.{sample};
+ghost use Rattle.iso_base.specs.Volume.{IsSample, sample};
 ghost use Rattle.samples.specs.Cells.{IsLowest};
 ghost use Rattle.samples.specs.Signs.{sign_of};
 ghost use Rattle.padded_samples.specs.Pads.{InPad, IsInnerRow, IsPadRow};

@@ -7,9 +7,8 @@ use Rattle.iso_defs.specs.Cell.{Triangle}
 use Rattle.iso_defs.specs.Grid.{Grid}
 use Rattle.iso_defs.specs.Manifold.{HasThreeCorners}
 use Rattle.iso_defs.specs.Scratch.{triangles, vertices}
-use Rattle.iso_base.specs.Shifted.{field}
+use Rattle.iso_base.specs.Volume.{field, IsVolume, Volume}
 use Rattle.iso_base.specs.Triangles.{IsBelow}
-use Rattle.iso_base.specs.Volume.{IsVolume, Volume}
 use Rattle.iso_base.proofs.VolumeLaws.{grid_is_solid, pad_is_below}
 use Rattle.iso_defs.specs.Verdict.{IsVerdict, border_count}
 use Rattle.iso_defs.specs.Verdict.Verdict.{Closed}

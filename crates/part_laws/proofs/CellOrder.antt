@@ -3,11 +3,9 @@ use Rattle.std.proofs.Common.{◌≡◌, ℕ, zero, suc, ◌+◌, ◌-◌, ◌*�
 use Rattle.std.specs.List.{filter, flat_map, list_any, count_by, enumerate_from}
 use Rattle.std.proofs.lemmas.Bool.{cases_Bool, and_parts, eqb-true, eq-eqb, leb-true, or_cases, or_parts, eqb-false}
 use Rattle.iso_defs.specs.Lists.{below, is_in}
-use Rattle.iso_defs.specs.Grid.{Grid, cells, coordinate, index, is_cell, name_bound, point_count, stride}
-use Rattle.iso_defs.specs.Outside.{IsThick}
+use Rattle.iso_defs.specs.Grid.{Grid, cells, coordinate, index, is_cell, name_bound, point_count, stride, IsThick, differ, is_above, is_crossing}
 use Rattle.iso_defs.specs.Cell.{case_loops, cell_edge, cell_joined, cell_signs, corner_point, crosses, edge_corner}
 use Rattle.iso_defs.specs.Scratch.{cell_loops, centre_name, crossing_edges}
-use Rattle.iso_defs.specs.Signs.{differ, is_above, is_crossing}
 use Rattle.iso_defs.proofs.Points.{index_in, index_of_point, x_index, y_index, z_index}
 use Rattle.case_laws.proofs.Cases.{all_below, all_cases}
 use Rattle.case_laws.proofs.EdgePairs.{implies}

@@ -104,7 +104,7 @@ run_has t p (inr (inl e)) = rw e (or_right (eqb t.0 t.1 && eqb t.1 t.2) _ (or_le
 run_has t p (inr (inr (inl e))) = rw e (or_right (eqb t.0 t.2 && eqb t.1 t.0) _ (or_right (eqb t.1 t.2 && eqb t.2 t.0) _ (and_from _ _ (eq-eqb t.2 t.2 refl) (eq-eqb t.0 t.0 refl))))
 run_has t p (inr (inr (inr z))) = absurd z
 
-module _ (m n : ℕ) (on_border : ℕ → ℕ → Bool) (ls : List Loop) (h : AreLoops m n on_border ls)
+module _ (m n : ℕ) (in_outer_plane : ℕ → ℕ → Bool) (ls : List Loop) (h : AreLoops m n in_outer_plane ls)
     (T : ℕ → Bool) (alike : (l : Loop) (v : ℕ) → In l ls → CornerOf l v → T v ≡ T (first_of l)) where
   abbrev all : List Triangle
   all = flat_map triangles_round ls
@@ -166,10 +166,10 @@ module _ (m n : ℕ) (on_border : ℕ → ℕ → Bool) (ls : List Loop) (h : Ar
           let a : T t.0 ≡ T (first_of l.0) = alike l.0 t.0 l.1 (inl c.0) in
           ((alike l.0 t.1 l.1 (inl c.1) ∙ sym a, alike l.0 t.2 l.1 c.2 ∙ sym a), all_of us (λ u i. k u (inr i)))
 
-  pub border_by_loops : border_with n all T ≡ rims_where on_border chosen
+  pub border_by_loops : border_with n all T ≡ rims_where in_outer_plane chosen
   border_by_loops =
-      let P : ℕ × ℕ → Bool = λ (p : ℕ × ℕ). T p.0 && on_border p.0 p.1 in
-      let one : Loop → ℕ = λ (l : Loop). count_by (λ (p : ℕ × ℕ). on_border p.0 p.1) (around l.1) in
+      let P : ℕ × ℕ → Bool = λ (p : ℕ × ℕ). T p.0 && in_outer_plane p.0 p.1 in
+      let one : Loop → ℕ = λ (l : Loop). count_by (λ (p : ℕ × ℕ). in_outer_plane p.0 p.1) (around l.1) in
       border_told n all h.corners h.bounded h.once T agree
       ∙ (count_agree (λ (p : ℕ × ℕ). T p.0 && eqb (times_run all p.1 p.0) 0) P (all_runs all) (λ p i. ap (λ b. T p.0 && b) (sym (h.border p.0 p.1 (run p i))))
       ∙ (ap (count_by P) (flat_flat runs_of triangles_round ls)
@@ -186,22 +186,22 @@ module _ (m n : ℕ) (on_border : ℕ → ℕ → Bool) (ls : List Loop) (h : Ar
       guarded true q ps = refl
       guarded false q ps = count_always false ps
 
-      each : (l : Loop) → In l ls → count_by (λ (p : ℕ × ℕ). T p.0 && on_border p.0 p.1) (all_runs (triangles_round l))
-          ≡ cond (T (first_of l)) (count_by (λ (p : ℕ × ℕ). on_border p.0 p.1) (around l.1)) 0
+      each : (l : Loop) → In l ls → count_by (λ (p : ℕ × ℕ). T p.0 && in_outer_plane p.0 p.1) (all_runs (triangles_round l))
+          ≡ cond (T (first_of l)) (count_by (λ (p : ℕ × ℕ). in_outer_plane p.0 p.1) (around l.1)) 0
       each l i =
-          round_sides (λ (p : ℕ × ℕ). T p.0 && on_border p.0 p.1) l (h.long l i) (λ c v j. (
-            and_right (T v) (on_border v l.0) (h.inside l v (in_filter has_centre l ls i c)).0,
-            and_right (T l.0) (on_border l.0 v) (h.inside l v (in_filter has_centre l ls i c)).1,
+          round_sides (λ (p : ℕ × ℕ). T p.0 && in_outer_plane p.0 p.1) l (h.long l i) (λ c v j. (
+            and_right (T v) (in_outer_plane v l.0) (h.inside l v (in_filter has_centre l ls i c)).0,
+            and_right (T l.0) (in_outer_plane l.0 v) (h.inside l v (in_filter has_centre l ls i c)).1,
           ))
-          ∙ (count_agree (λ (p : ℕ × ℕ). T p.0 && on_border p.0 p.1) (λ (p : ℕ × ℕ). T (first_of l) && on_border p.0 p.1) (around l.1)
-          (λ p j. ap (λ b. b && on_border p.0 p.1) (alike l p.0 i (inl (step_ends l.1 p j).0)))
-          ∙ guarded (T (first_of l)) (λ (p : ℕ × ℕ). on_border p.0 p.1) (around l.1))
+          ∙ (count_agree (λ (p : ℕ × ℕ). T p.0 && in_outer_plane p.0 p.1) (λ (p : ℕ × ℕ). T (first_of l) && in_outer_plane p.0 p.1) (around l.1)
+          (λ p j. ap (λ b. b && in_outer_plane p.0 p.1) (alike l p.0 i (inl (step_ends l.1 p j).0)))
+          ∙ guarded (T (first_of l)) (λ (p : ℕ × ℕ). in_outer_plane p.0 p.1) (around l.1))
 
-  pub edges_by_loops : length (edges_with n all T) ≡ edges_round on_border chosen
+  pub edges_by_loops : length (edges_with n all T) ≡ edges_round in_outer_plane chosen
   edges_by_loops =
       let a : 2 * length (edges_with n all T) ≡ 3 * length (filter (λ (t : Triangle). T t.0) all) + border_with n all T = edges_told n all h.corners h.bounded h.once T agree in
       let b : 3 * faces chosen ≡ rims chosen + 2 * spokes chosen = sides_round chosen chosen_long in
-      half (length (edges_with n all T)) (length (filter (λ (t : Triangle). T t.0) all)) (border_with n all T) (faces chosen) (rims_where on_border chosen) (rims chosen) (spokes chosen)
+      half (length (edges_with n all T)) (length (filter (λ (t : Triangle). T t.0) all)) (border_with n all T) (faces chosen) (rims_where in_outer_plane chosen) (rims chosen) (spokes chosen)
       a faces_by_loops border_by_loops b
     where
       half : (e f b f' b' r s : ℕ) → 2 * e ≡ 3 * f + b → f ≡ f' → b ≡ b' → 3 * f' ≡ r + 2 * s → e ≡ (r + b') / 2 + s

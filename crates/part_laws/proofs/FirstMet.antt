@@ -4,12 +4,9 @@ use Rattle.std.specs.List.{filter, list_any, count_by, enumerate_from}
 use Rattle.std.proofs.lemmas.Bool.{cases_Bool, and_parts, both_ways, not-true, not_from_false, or_from, or_parts}
 use Rattle.std.proofs.lemmas.List.Sums.{length-filter}
 use Rattle.iso_defs.specs.Lists.{below, is_in}
-use Rattle.iso_defs.specs.Grid.{Grid, cells}
-use Rattle.iso_defs.specs.Outside.{IsThick}
+use Rattle.iso_defs.specs.Grid.{Grid, cells, IsThick, is_crossing, name_bound}
 use Rattle.iso_defs.specs.Cell.{case_loops, cell_edge, cell_joined, cell_signs, crosses}
 use Rattle.iso_defs.specs.Scratch.{cell_loops, centre_name, crossing_edges}
-use Rattle.iso_defs.specs.Signs.{is_crossing}
-use Rattle.iso_defs.specs.Grid.{name_bound}
 use Rattle.case_laws.proofs.Wedges.{distinct_test, loop_all, loop_at, loop_test}
 use Rattle.case_laws.proofs.EdgePairs.{implies}
 use Rattle.case_laws.proofs.Tests.{cell_passes}

@@ -19,7 +19,7 @@ use Rattle.part_laws.proofs.Rounds.{of_three, of_more, three_are, step_ends, ste
 use Rattle.part_laws.proofs.ClassLaws.{one_class, class_alike, class_low}
 
 -- The loops of a mesh of n vertices, of which those below m lie on lattice edges and the others are the centres, in order.
-pub record AreLoops (m n : ℕ) (on_border : ℕ → ℕ → Bool) (ls : List Loop) : Type 0 where
+pub record AreLoops (m n : ℕ) (in_outer_plane : ℕ → ℕ → Bool) (ls : List Loop) : Type 0 where
   pub long : (l : Loop) → In l ls → 3 ≤ length l.1
   pub low : (l : Loop) (v : ℕ) → In l ls → In v l.1 → v < m
   pub follow : map (λ (l : Loop). l.0) (filter has_centre ls) ≡ range_with_len m (n - m)
@@ -28,8 +28,8 @@ pub record AreLoops (m n : ℕ) (on_border : ℕ → ℕ → Bool) (ls : List Lo
   pub bounded : AllByRecursion (IsBelow n) (flat_map triangles_round ls)
   pub once : (a b : ℕ) → times_run (flat_map triangles_round ls) a b ≤ 1
   pub used : (v : ℕ) → v < n → list_any (uses v) (flat_map triangles_round ls) ≡ true
-  pub border : (a b : ℕ) → 0 < times_run (flat_map triangles_round ls) a b → on_border a b ≡ eqb (times_run (flat_map triangles_round ls) b a) 0
-  pub inside : (l : Loop) (b : ℕ) → In l (filter has_centre ls) → (on_border b l.0 ≡ false) × (on_border l.0 b ≡ false)
+  pub border : (a b : ℕ) → 0 < times_run (flat_map triangles_round ls) a b → in_outer_plane a b ≡ eqb (times_run (flat_map triangles_round ls) b a) 0
+  pub inside : (l : Loop) (b : ℕ) → In l (filter has_centre ls) → (in_outer_plane b l.0 ≡ false) × (in_outer_plane l.0 b ≡ false)
 
 abbrev pub first_of : Loop → ℕ
 first_of l = slice_index l.1 0
@@ -138,7 +138,7 @@ home_centre (k ∷ ls) l d (inr i) c =
           ap (λ b. cond b (first_of k) (home_of ls l.0)) (and_right (has_centre k) (eqb k.0 l.0) (ne_eqb k.0 l.0 ne)) ∙ home_centre ls l d'.1 i c)
     ]
 
-module _ (m n : ℕ) (on_border : ℕ → ℕ → Bool) (ls : List Loop) (h : AreLoops m n on_border ls) where
+module _ (m n : ℕ) (in_outer_plane : ℕ → ℕ → Bool) (ls : List Loop) (h : AreLoops m n in_outer_plane ls) where
   abbrev ts : List Triangle
   ts = flat_map triangles_round ls
 

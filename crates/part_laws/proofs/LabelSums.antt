@@ -6,7 +6,7 @@ use Rattle.std.proofs.lemmas.List.Sums.{sum_by-cons}
 use Rattle.std.proofs.lemmas.Int.{ints}
 use Rattle.iso_defs.specs.Lists.{below}
 use Rattle.triangle_laws.proofs.Lists.{In}
-use Rattle.measure_laws.specs.Totals.{total}
+use Rattle.measure_laws.specs.Vectors.{total}
 use Rattle.measure_laws.proofs.Totals.{total-map, total_add}
 use Rattle.mesh_report.proofs.Reach.{range_in}
 use Rattle.mesh_report.proofs.Sums.{sum_agree, sum_add, sum_nothing, sum_at}

@@ -5,13 +5,11 @@ use Rattle.std.proofs.lemmas.Bool.{cases_Bool}
 use Rattle.iso_defs.specs.Lists.{below}
 use Rattle.iso_defs.specs.Cell.{Triangle}
 use Rattle.triangle_laws.proofs.Lists.{In, In-filter}
-use Rattle.measure_laws.specs.Vectors.{Vector, det_of, normal_of}
-use Rattle.measure_laws.specs.Totals.{total, area_of}
+use Rattle.measure_laws.specs.Vectors.{Vector, det_of, normal_of, total, area_of}
 use Rattle.measure_laws.proofs.Totals.{total-flat_map}
 use Rattle.mesh_report.specs.Report.{component}
 use Rattle.measure.specs.declared.share.Share.{Share}
-use Rattle.measure.specs.Positions.{coordinates}
-use Rattle.measure.specs.Measures.{border_in, is_of, measures_of, share_of, triangles_in}
+use Rattle.measure.specs.Measures.{coordinates, border_in, is_of, measures_of, share_of, triangles_in}
 use Rattle.part_laws.specs.Loops.{Loop, triangles_round, rims_where}
 use Rattle.part_laws.specs.Classes.{is_of_class}
 use Rattle.part_laws.specs.Parts.{classes}
@@ -47,7 +45,7 @@ filter_rounds P R (l ∷ ls) h =
       | false ↦ filter_join xs ys
     ]
 
-module _ (m n : ℕ) (on_border : ℕ → ℕ → Bool) (ls : List Loop) (h : AreLoops m n on_border ls) where
+module _ (m n : ℕ) (in_outer_plane : ℕ → ℕ → Bool) (ls : List Loop) (h : AreLoops m n in_outer_plane ls) where
   abbrev ts : List Triangle
   ts = flat_map triangles_round ls
 
@@ -56,16 +54,16 @@ module _ (m n : ℕ) (on_border : ℕ → ℕ → Bool) (ls : List Loop) (h : Ar
   triangles_by_loops k =
       filter_rounds (is_of n ts k) (is_of_class ls k) ls (λ l t i j.
       ap (λ z. eqb z k)
-      (corner_component m n on_border ls h l t.0 i (inl (corners_of l (h.long l i) t j).0)
-      ∙ component_class m n on_border ls h (first_of l) (h.low l (first_of l) i (first_in l.1 (h.long l i)))))
+      (corner_component m n in_outer_plane ls h l t.0 i (inl (corners_of l (h.long l i) t j).0)
+      ∙ component_class m n in_outer_plane ls h (first_of l) (h.low l (first_of l) i (first_in l.1 (h.long l i)))))
 
-  border_is : (k : ℕ) → border_in n ts k ≡ rims_where on_border (filter (is_of_class ls k) ls)
+  border_is : (k : ℕ) → border_in n ts k ≡ rims_where in_outer_plane (filter (is_of_class ls k) ls)
   border_is k =
       let T : ℕ → Bool = λ v. eqb (component n ts v) k in
-      let alike : (l : Loop) (v : ℕ) → In l ls → CornerOf l v → T v ≡ T (first_of l) = λ l v i c. ap (λ z. eqb z k) (corner_component m n on_border ls h l v i c) in
-      border_by_loops m n on_border ls h T alike
-      ∙ ap (rims_where on_border) (filter_agree (λ (l : Loop). T (first_of l)) (is_of_class ls k) ls
-      (λ l i. ap (λ z. eqb z k) (component_class m n on_border ls h (first_of l) (h.low l (first_of l) i (first_in l.1 (h.long l i))))))
+      let alike : (l : Loop) (v : ℕ) → In l ls → CornerOf l v → T v ≡ T (first_of l) = λ l v i c. ap (λ z. eqb z k) (corner_component m n in_outer_plane ls h l v i c) in
+      border_by_loops m n in_outer_plane ls h T alike
+      ∙ ap (rims_where in_outer_plane) (filter_agree (λ (l : Loop). T (first_of l)) (is_of_class ls k) ls
+      (λ l i. ap (λ z. eqb z k) (component_class m n in_outer_plane ls h (first_of l) (h.low l (first_of l) i (first_in l.1 (h.long l i))))))
 
   module _ (at : ℕ → Vector) where
     long_in : (some : Loop → Bool) (l : Loop) → In l (filter some ls) → 3 ≤ length l.1
@@ -87,11 +85,11 @@ module _ (m n : ℕ) (on_border : ℕ → ℕ → Bool) (ls : List Loop) (h : Ar
         ∙ total_in (λ l. total (λ t. (normal_of at t).2) (triangles_round l)) (λ (l : Loop). (swept at l.1).2) ours (λ l i. ap (λ (v : Vector). v.2) (round_area at l (long_in some l i))) in
         λ i. (a i, b i, c i)
 
-    share_by_loops : (k : ℕ) → share_of n ts at k ≡ share_round on_border at k (filter (is_of_class ls k) ls)
+    share_by_loops : (k : ℕ) → share_of n ts at k ≡ share_round in_outer_plane at k (filter (is_of_class ls k) ls)
     unfolding share_of
     share_by_loops k =
         let ours : List Loop = filter (is_of_class ls k) ls in
-        same (total (det_of at) (triangles_in n ts k)) (total (six_of at) ours) (area_of at (triangles_in n ts k)) (area_round at ours) (border_in n ts k) (rims_where on_border ours)
+        same (total (det_of at) (triangles_in n ts k)) (total (six_of at) ours) (area_of at (triangles_in n ts k)) (area_round at ours) (border_in n ts k) (rims_where in_outer_plane ours)
         (ap (total (det_of at)) (triangles_by_loops k) ∙ six_is (is_of_class ls k))
         (ap (area_of at) (triangles_by_loops k) ∙ area_is (is_of_class ls k))
         (border_is k)
@@ -100,7 +98,7 @@ module _ (m n : ℕ) (on_border : ℕ → ℕ → Bool) (ls : List Loop) (h : Ar
             → ◌≡◌ {A = Share} (record { least = k; six = s; area = coordinates a; border = b }) (record { least = k; six = s'; area = coordinates a'; border = b' })
         same s s' a a' b b' e f g = rw (e, f, g) refl
 
-    pub measures_by_loops : measures_of n ts at ≡ loop_measures (λ v. v) (below m) on_border ls at
+    pub measures_by_loops : measures_of n ts at ≡ loop_measures (λ v. v) (below m) in_outer_plane ls at
     measures_by_loops =
-        ap (map (share_of n ts at)) (components_by_loops m n on_border ls h)
-        ∙ map_agree (share_of n ts at) (λ k. share_round on_border at k (filter (is_of_class ls k) ls)) (classes (below m) ls) (λ k i. share_by_loops k)
+        ap (map (share_of n ts at)) (components_by_loops m n in_outer_plane ls h)
+        ∙ map_agree (share_of n ts at) (λ k. share_round in_outer_plane at k (filter (is_of_class ls k) ls)) (classes (below m) ls) (λ k i. share_by_loops k)

@@ -3,16 +3,13 @@ use Rattle.std.proofs.Common.{◌≡◌, ℕ, ◌+◌, ◌<◌, ◌≤◌, Bool,
 use Rattle.std.specs.List.{flat_map, list_any, AllByRecursion}
 use Rattle.std.proofs.lemmas.Bool.{cases_Bool, eq-eqb, ne_eqb, not_from_false}
 use Rattle.std.proofs.lemmas.List.{length-map}
-use Rattle.iso_defs.specs.Grid.{Grid, name_bound}
+use Rattle.iso_defs.specs.Grid.{Grid, name_bound, is_crossing, IsThick}
 use Rattle.iso_defs.specs.Lists.{below}
 use Rattle.iso_defs.specs.Rows.{row_cells, row_count}
-use Rattle.iso_defs.specs.Signs.{is_crossing}
-use Rattle.iso_defs.specs.Outside.{IsThick}
 use Rattle.iso_defs.specs.Cell.{Triangle}
 use Rattle.iso_defs.specs.Scratch.{crossing_edges, number_of, triangles, vertex_names, vertices}
-use Rattle.iso_defs.specs.Manifold.{HasThreeCorners, times_run, uses}
-use Rattle.iso_defs.specs.Surface.{RunsMatch, is_border}
-use Rattle.iso_defs.specs.Verdict.{on_border}
+use Rattle.iso_defs.specs.Manifold.{HasThreeCorners, times_run, uses, RunsMatch, share_outer_plane}
+use Rattle.iso_defs.specs.Verdict.{in_outer_plane}
 use Rattle.iso_base.specs.Triangles.{IsBelow}
 use Rattle.triangle_laws.proofs.Lists.{In, in_filter, in_map}
 use Rattle.mesh_laws.proofs.Numbers.{count_less}
@@ -76,7 +73,7 @@ module _ (g : Grid) (s : ℕ → ℤ) (thick : IsThick g) where
   bounded [] h = tt
   bounded (t ∷ us) h = (corners_low g s t (h t (inl refl)), bounded us (λ u i. h u (inr i)))
 
-  pub are_loops : AreLoops (edge_count g s) n (on_border g s) ls
+  pub are_loops : AreLoops (edge_count g s) n (in_outer_plane g s) ls
   are_loops =
       let e : triangles g s ≡ flat_map triangles_round ls = triangles_are g s in
       record {
@@ -88,7 +85,7 @@ module _ (g : Grid) (s : ℕ → ℤ) (thick : IsThick g) where
         bounded = subst (λ ts. AllByRecursion (IsBelow n) ts) e (bounded (triangles g s) (λ t i. i));
         once = subst (λ ts. (a b : ℕ) → times_run ts a b ≤ 1) e (manifold g s).once;
         used = subst (λ ts. (v : ℕ) → v < n → list_any (uses v) ts ≡ true) e (used g s thick);
-        border = subst (λ ts. (a b : ℕ) → 0 < times_run ts a b → on_border g s a b ≡ eqb (times_run ts b a) 0) e (border_is (on_border g s) (triangles g s) (runs_match g s));
+        border = subst (λ ts. (a b : ℕ) → 0 < times_run ts a b → in_outer_plane g s a b ≡ eqb (times_run ts b a) 0) e (border_is (in_outer_plane g s) (triangles g s) (runs_match g s));
         inside = λ l b i. centres_inside g s l b i;
       }
 
@@ -110,7 +107,7 @@ module _ (g : Grid) (s : ℕ → ℤ) (thick : IsThick g) where
       let i : In e edges = numbered_is e l c in
       let low : number e < edge_count g s = numbers_low e i in
       ap (λ ts. component n ts (number e)) (triangles_are g s)
-      ∙ (component_class (edge_count g s) n (on_border g s) ls are_loops (number e) low
+      ∙ (component_class (edge_count g s) n (in_outer_plane g s) ls are_loops (number e) low
       ∙ (ap (λ ks. class_of ks (number e)) (renamed_are g s) ∙ class_renamed number edges numbers_rise (mesh_loops g s) (loops_cross g s) e i))
     where
       numbers_low : (e : ℕ) → In e edges → number e < edge_count g s
@@ -120,7 +117,7 @@ module _ (g : Grid) (s : ℕ → ℤ) (thick : IsThick g) where
   pub components_are_classes : components n (triangles g s) ≡ map number (classes edges (mesh_loops g s))
   components_are_classes =
       ap (components n) (triangles_are g s)
-      ∙ (components_by_loops (edge_count g s) n (on_border g s) ls are_loops
+      ∙ (components_by_loops (edge_count g s) n (in_outer_plane g s) ls are_loops
       ∙ (ap (λ vs. classes vs ls) (sym (edges_numbered g s))
       ∙ (ap (classes (map number edges)) (renamed_are g s) ∙ classes_renamed number edges numbers_rise (mesh_loops g s) (loops_cross g s) (named_long g s))))
 
@@ -129,7 +126,7 @@ module _ (g : Grid) (s : ℕ → ℤ) (thick : IsThick g) where
       → triangles_in n (triangles g s) (number e) ≡ flat_map triangles_round (map (renamed number) (class_loops (mesh_loops g s) e))
   triangles_of_class e l c =
       ap (λ ts. triangles_in n ts (number e)) (triangles_are g s)
-      ∙ (triangles_by_loops (edge_count g s) n (on_border g s) ls are_loops (number e)
+      ∙ (triangles_by_loops (edge_count g s) n (in_outer_plane g s) ls are_loops (number e)
       ∙ ap (flat_map triangles_round)
       (ap (λ ks. class_loops ks (number e)) (renamed_are g s) ∙ loops_renamed number edges numbers_rise (mesh_loops g s) (loops_cross g s) (named_long g s) e (numbered_is e l c)))
 
@@ -137,16 +134,16 @@ module _ (g : Grid) (s : ℕ → ℤ) (thick : IsThick g) where
   pub summary_is : summary_of n (triangles g s) ≡ mesh_summary g s
   summary_is =
       ap (summary_of n) (triangles_are g s)
-      ∙ (summary_by_loops (edge_count g s) n (on_border g s) ls are_loops
-      ∙ (ap (λ vs. loop_summary (λ v. v) vs (on_border g s) ls) (sym (edges_numbered g s))
-      ∙ (ap (loop_summary (λ v. v) (map number edges) (on_border g s)) (renamed_are g s)
-      ∙ summary_renamed number edges numbers_rise (mesh_loops g s) (loops_cross g s) (named_long g s) (on_border g s) (is_border g) (borders_alike g s))))
+      ∙ (summary_by_loops (edge_count g s) n (in_outer_plane g s) ls are_loops
+      ∙ (ap (λ vs. loop_summary (λ v. v) vs (in_outer_plane g s) ls) (sym (edges_numbered g s))
+      ∙ (ap (loop_summary (λ v. v) (map number edges) (in_outer_plane g s)) (renamed_are g s)
+      ∙ summary_renamed number edges numbers_rise (mesh_loops g s) (loops_cross g s) (named_long g s) (in_outer_plane g s) (share_outer_plane g) (borders_alike g s))))
 
   -- and so are the measures
   pub measures_are : (at : ℕ → Vector) → measures_of n (triangles g s) at ≡ mesh_shares g s at
   measures_are at =
       ap (λ ts. measures_of n ts at) (triangles_are g s)
-      ∙ (measures_by_loops (edge_count g s) n (on_border g s) ls are_loops at
-      ∙ (ap (λ vs. loop_measures (λ v. v) vs (on_border g s) ls at) (sym (edges_numbered g s))
-      ∙ (ap (λ ks. loop_measures (λ v. v) (map number edges) (on_border g s) ks at) (renamed_are g s)
-      ∙ measures_renamed number edges numbers_rise (mesh_loops g s) (loops_cross g s) (named_long g s) (on_border g s) (is_border g) (borders_alike g s) at)))
+      ∙ (measures_by_loops (edge_count g s) n (in_outer_plane g s) ls are_loops at
+      ∙ (ap (λ vs. loop_measures (λ v. v) vs (in_outer_plane g s) ls at) (sym (edges_numbered g s))
+      ∙ (ap (λ ks. loop_measures (λ v. v) (map number edges) (in_outer_plane g s) ks at) (renamed_are g s)
+      ∙ measures_renamed number edges numbers_rise (mesh_loops g s) (loops_cross g s) (named_long g s) (in_outer_plane g s) (share_outer_plane g) (borders_alike g s) at)))

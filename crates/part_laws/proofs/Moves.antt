@@ -2,8 +2,7 @@
 use Rattle.std.proofs.Common.{◌≡◌, ℕ, ℤ, pos, ◌+ℤ◌, ◌-ℤ◌, ◌*ℤ◌, List, ◌∙◌, ap, arith}
 use Rattle.std.proofs.lemmas.Int.{ints}
 use Rattle.iso_defs.specs.Lists.{around}
-use Rattle.measure_laws.specs.Vectors.{Vector, minus, minor, dot}
-use Rattle.measure_laws.specs.Totals.{total}
+use Rattle.measure_laws.specs.Vectors.{Vector, minus, minor, dot, total}
 use Rattle.measure_laws.proofs.Gaps.{gap_self, gap_same, gap_add, gap_sub, gap_mul}
 use Rattle.measure_laws.proofs.Totals.{total_agree, total_add}
 use Rattle.part_laws.specs.Loops.{Loop}

@@ -2,12 +2,10 @@
 use Rattle.std.proofs.Common.{◌≡◌, ◌⊎◌, ℕ, zero, suc, ◌+◌, ◌<◌, ◌≤◌, ℤ, Bool, true, false, cond, ◌||◌, not, List, [], ◌∷◌, map, length, slice_index, refl, sym, ◌∙◌, ap, ap₂, subst, inl, inr, arith, eqb}
 use Rattle.std.specs.List.{filter, list_any, count_by, range_with_len}
 use Rattle.std.proofs.lemmas.Bool.{cases_Bool, cases_eq, both_ways, eq-eqb, eqb-true, ne_eqb}
-use Rattle.iso_defs.specs.Grid.{Grid, name_bound}
+use Rattle.iso_defs.specs.Grid.{Grid, name_bound, IsThick, is_crossing}
 use Rattle.iso_defs.specs.Lists.{below, is_in, least_of}
-use Rattle.iso_defs.specs.Outside.{IsThick}
 use Rattle.iso_defs.specs.Scratch.{crossing_edges, number_of, triangles, vertices}
-use Rattle.iso_defs.specs.Signs.{is_crossing}
-use Rattle.iso_defs.specs.Surface.{is_border}
+use Rattle.iso_defs.specs.Manifold.{share_outer_plane}
 use Rattle.triangle_laws.proofs.Lists.{In, In-filter, In-map, any_in, in_any, in_map}
 use Rattle.triangle_laws.proofs.Counts.{count_agree}
 use Rattle.triangle_laws.proofs.Fans.{in_is_in}
@@ -228,16 +226,16 @@ module _ (g : Grid) (s : ℕ → ℤ) (thick : IsThick g) (xs : List (ℕ × Loo
   summary_named =
       summary_is g s thick
       ∙ ap₂ (λ t qs. record { total = t; parts = qs })
-      (ap (part_by (is_border g) 0 (length edges)) (sym loops))
-      (ap (λ ks. map (class_part (number_of g s) edges (is_border g) ks) (classes edges ks)) (sym loops)
-      ∙ (map_in_agree (class_part (number_of g s) edges (is_border g) ls)
-      (λ k. part_by (is_border g) (number_of g s k) (count_by (λ e. eqb (f e) (f k)) edges) (loops_named xs name (f k))) (classes edges ls)
-      (λ k j. let r = class_in k j in ap₂ (part_by (is_border g) (number_of g s k)) (edges_named k r.0 r.1) (loops_are_named k r.0 r.1))
-      ∙ ap (map (λ k. part_by (is_border g) (number_of g s k) (count_by (λ e. eqb (f e) (f k)) edges) (loops_named xs name (f k)))) classes_first))
+      (ap (part_by (share_outer_plane g) 0 (length edges)) (sym loops))
+      (ap (λ ks. map (class_part (number_of g s) edges (share_outer_plane g) ks) (classes edges ks)) (sym loops)
+      ∙ (map_in_agree (class_part (number_of g s) edges (share_outer_plane g) ls)
+      (λ k. part_by (share_outer_plane g) (number_of g s k) (count_by (λ e. eqb (f e) (f k)) edges) (loops_named xs name (f k))) (classes edges ls)
+      (λ k j. let r = class_in k j in ap₂ (part_by (share_outer_plane g) (number_of g s k)) (edges_named k r.0 r.1) (loops_are_named k r.0 r.1))
+      ∙ ap (map (λ k. part_by (share_outer_plane g) (number_of g s k) (count_by (λ e. eqb (f e) (f k)) edges) (loops_named xs name (f k)))) classes_first))
 
   pub shares_named : (at : ℕ → Vector) → measures_of (length (vertices g s)) (triangles g s) at ≡ named_shares g s xs name label at
   shares_named at =
-      let share : ℕ → List Loop → _ = λ k ks. share_round (is_border g) (λ v. at (number_of g s v)) (number_of g s k) ks in
+      let share : ℕ → List Loop → _ = λ k ks. share_round (share_outer_plane g) (λ v. at (number_of g s v)) (number_of g s k) ks in
       measures_are g s thick at
       ∙ (ap (λ ks. map (λ k. share k (class_loops ks k)) (classes edges ks)) (sym loops)
       ∙ (map_in_agree (λ k. share k (class_loops ls k)) (λ k. share k (loops_named xs name (f k))) (classes edges ls)

@@ -9,8 +9,8 @@ use Rattle.iso_defs.specs.Grid.{Grid, cells, name_bound}
 use Rattle.iso_defs.specs.Cell.{Triangle, cell_edge, loop_triangles}
 use Rattle.iso_defs.specs.Place.{Position, edge_position, centre_position}
 use Rattle.iso_defs.specs.Scratch.{cell_centres, cell_loops, cell_triangles, centre_name, crossing_edges, has_centre, named_triangles, number_of, on_corners, vertex_name, vertex_names, vertices}
-use Rattle.iso_defs.specs.Surface.{is_border}
-use Rattle.iso_defs.specs.Verdict.{on_border}
+use Rattle.iso_defs.specs.Manifold.{share_outer_plane}
+use Rattle.iso_defs.specs.Verdict.{in_outer_plane}
 use Rattle.triangle_laws.proofs.Lists.{In, In-map, In-flat_map, In-filter, In-append, in_map, in_flat_map, in_filter, In-left, In-right}
 use Rattle.triangle_laws.proofs.Counts.{count-cons, count-append, count_none}
 use Rattle.mesh_laws.proofs.Names.{edge_in, name_of_edge}
@@ -200,7 +200,7 @@ module _ (g : Grid) (s : ℕ → ℤ) where
   edges_first = omega (arith, names_counted)
 
   -- no edge to a centre is on the border
-  pub centres_inside : (m : Loop) (b : ℕ) → In m (filter has_centre (numbered_loops g s)) → (on_border g s b m.0 ≡ false) × (on_border g s m.0 b ≡ false)
+  pub centres_inside : (m : Loop) (b : ℕ) → In m (filter has_centre (numbered_loops g s)) → (in_outer_plane g s b m.0 ≡ false) × (in_outer_plane g s m.0 b ≡ false)
   centres_inside m b i =
       let j : In m (numbered_loops g s) × (has_centre m ≡ true) = In-filter has_centre m (numbered_loops g s) i in
       let f : (q : ℕ) × In q (cells g) × ((l : ℕ × List ℕ) × In l (cell_loops g s q) × (m ≡ numbered g s q l)) = found m j.0 in
@@ -214,8 +214,8 @@ module _ (g : Grid) (s : ℕ → ℤ) where
       let at : get_or (vertex_names g s) m.0 0 ≡ c = ap (λ (k : Loop). get_or (vertex_names g s) k.0 0) f.2.2 ∙ vertex_at g s c known in
       let out : ltb c (name_bound g) ≡ false = le-ltb c (name_bound g) (omega arith) in
       let x : ℕ = get_or (vertex_names g s) b 0 in (
-        ap (is_border g x) at ∙ and_right (ltb x (name_bound g)) _ (and_left (ltb c (name_bound g)) _ out),
-        ap (λ z. is_border g z x) at ∙ and_left (ltb c (name_bound g)) _ out,
+        ap (share_outer_plane g x) at ∙ and_right (ltb x (name_bound g)) _ (and_left (ltb c (name_bound g)) _ out),
+        ap (λ z. share_outer_plane g z x) at ∙ and_left (ltb c (name_bound g)) _ out,
       )
 
   -- the numbers of the crossing edges are those below their count
@@ -253,6 +253,6 @@ module _ (g : Grid) (s : ℕ → ℤ) where
   crossing_known v i = subst (λ ns. In v ns) (sym names_are) (In-left v (crossing_edges g s) centre_names i)
 
   -- and whether two of them lie in one border plane is told by their numbers
-  pub borders_alike : (a b : ℕ) → In a (crossing_edges g s) → In b (crossing_edges g s) → on_border g s (number_of g s a) (number_of g s b) ≡ is_border g a b
+  pub borders_alike : (a b : ℕ) → In a (crossing_edges g s) → In b (crossing_edges g s) → in_outer_plane g s (number_of g s a) (number_of g s b) ≡ share_outer_plane g a b
   borders_alike a b i j =
-      ap (λ z. is_border g z (get_or (vertex_names g s) (number_of g s b) 0)) (vertex_at g s a (crossing_known a i)) ∙ ap (is_border g a) (vertex_at g s b (crossing_known b j))
+      ap (λ z. share_outer_plane g z (get_or (vertex_names g s) (number_of g s b) 0)) (vertex_at g s a (crossing_known a i)) ∙ ap (share_outer_plane g a) (vertex_at g s b (crossing_known b j))

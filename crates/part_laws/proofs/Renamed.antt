@@ -11,11 +11,10 @@ use Rattle.triangle_laws.proofs.Counts.{count-map, count_agree}
 use Rattle.mesh_laws.proofs.Arcs.{on_pair}
 use Rattle.mesh_laws.proofs.AllFans.{around_map}
 use Rattle.mesh_laws.proofs.Directed.{test_moves}
-use Rattle.measure_laws.specs.Vectors.{Vector, cross, dot}
-use Rattle.measure_laws.specs.Totals.{total}
+use Rattle.measure_laws.specs.Vectors.{Vector, cross, dot, total}
 use Rattle.measure_laws.proofs.Totals.{total-map}
 use Rattle.measure.specs.declared.share.Share.{Share}
-use Rattle.measure.specs.Positions.{coordinates}
+use Rattle.measure.specs.Measures.{coordinates}
 use Rattle.mesh_report.specs.declared.part.Part.{Part}
 use Rattle.mesh_report.specs.Report.{Summary}
 use Rattle.mesh_report.proofs.Sums.{sum_agree}
@@ -143,7 +142,7 @@ module _ (f : ℕ → ℕ) (edges : List ℕ) (rises : (a b : ℕ) → In a edge
     pub classes_renamed : classes (map f edges) others ≡ map f (classes edges ls)
     classes_renamed = filter_map_in (λ v. eqb (class_of others v) v) (λ v. eqb (class_of ls v) v) f edges (λ v i. class_test v v i i)
 
-    module _ (on_border border : ℕ → ℕ → Bool) (alike : (a b : ℕ) → In a edges → In b edges → on_border (f a) (f b) ≡ border a b) where
+    module _ (in_outer_plane border : ℕ → ℕ → Bool) (alike : (a b : ℕ) → In a edges → In b edges → in_outer_plane (f a) (f b) ≡ border a b) where
       centre_alike : (l : Loop) → has_centre (renamed f l) ≡ has_centre l
       centre_alike l = ap (λ k. nat_lt 3 k) (length-map l.1 f)
 
@@ -165,44 +164,44 @@ module _ (f : ℕ → ℕ) (edges : List ℕ) (rises : (a b : ℕ) → In a edge
       centres_renamed : (ks : List Loop) → centres (map (renamed f) ks) ≡ centres ks
       centres_renamed ks = count-map has_centre (renamed f) ks ∙ count_agree (λ l. has_centre (renamed f l)) has_centre ks (λ l i. centre_alike l)
 
-      border_renamed : (ks : List Loop) → ((l : Loop) → In l ks → In l ls) → rims_where on_border (map (renamed f) ks) ≡ rims_where border ks
+      border_renamed : (ks : List Loop) → ((l : Loop) → In l ks → In l ls) → rims_where in_outer_plane (map (renamed f) ks) ≡ rims_where border ks
       border_renamed ks all =
-          sum_map (λ (l : Loop). count_by (λ (p : ℕ × ℕ). on_border p.0 p.1) (around l.1)) (renamed f) ks
-          ∙ sum_agree (λ (l : Loop). count_by (λ (p : ℕ × ℕ). on_border p.0 p.1) (around (map f l.1))) (λ (l : Loop). count_by (λ (p : ℕ × ℕ). border p.0 p.1) (around l.1)) ks
-          (λ l i. ap (count_by (λ (p : ℕ × ℕ). on_border p.0 p.1)) (sym (around_map f l.1))
-          ∙ (count-map (λ (p : ℕ × ℕ). on_border p.0 p.1) (on_pair f) (around l.1)
-          ∙ count_agree (λ (p : ℕ × ℕ). on_border (f p.0) (f p.1)) (λ (p : ℕ × ℕ). border p.0 p.1) (around l.1)
+          sum_map (λ (l : Loop). count_by (λ (p : ℕ × ℕ). in_outer_plane p.0 p.1) (around l.1)) (renamed f) ks
+          ∙ sum_agree (λ (l : Loop). count_by (λ (p : ℕ × ℕ). in_outer_plane p.0 p.1) (around (map f l.1))) (λ (l : Loop). count_by (λ (p : ℕ × ℕ). border p.0 p.1) (around l.1)) ks
+          (λ l i. ap (count_by (λ (p : ℕ × ℕ). in_outer_plane p.0 p.1)) (sym (around_map f l.1))
+          ∙ (count-map (λ (p : ℕ × ℕ). in_outer_plane p.0 p.1) (on_pair f) (around l.1)
+          ∙ count_agree (λ (p : ℕ × ℕ). in_outer_plane (f p.0) (f p.1)) (λ (p : ℕ × ℕ). border p.0 p.1) (around l.1)
           (λ p j. let e : In p.0 l.1 × In p.1 l.1 = step_ends l.1 p j in alike p.0 p.1 (known l p.0 (all l i) e.0) (known l p.1 (all l i) e.1))))
 
-      part_renamed : (least crossings : ℕ) (ks : List Loop) → ((l : Loop) → In l ks → In l ls) → part_by on_border least crossings (map (renamed f) ks) ≡ part_by border least crossings ks
+      part_renamed : (least crossings : ℕ) (ks : List Loop) → ((l : Loop) → In l ks → In l ls) → part_by in_outer_plane least crossings (map (renamed f) ks) ≡ part_by border least crossings ks
       part_renamed least crossings ks all =
-          let b : rims_where on_border (map (renamed f) ks) ≡ rims_where border ks = border_renamed ks all in
-          same_part least (crossings + centres (map (renamed f) ks)) (crossings + centres ks) (edges_round on_border (map (renamed f) ks)) (edges_round border ks)
-          (faces (map (renamed f) ks)) (faces ks) (rims_where on_border (map (renamed f) ks)) (rims_where border ks)
+          let b : rims_where in_outer_plane (map (renamed f) ks) ≡ rims_where border ks = border_renamed ks all in
+          same_part least (crossings + centres (map (renamed f) ks)) (crossings + centres ks) (edges_round in_outer_plane (map (renamed f) ks)) (edges_round border ks)
+          (faces (map (renamed f) ks)) (faces ks) (rims_where in_outer_plane (map (renamed f) ks)) (rims_where border ks)
           (ap (λ k. crossings + k) (centres_renamed ks))
-          (ap (λ k. (k + rims_where on_border (map (renamed f) ks)) / 2 + spokes (map (renamed f) ks)) (rims_renamed ks)
+          (ap (λ k. (k + rims_where in_outer_plane (map (renamed f) ks)) / 2 + spokes (map (renamed f) ks)) (rims_renamed ks)
           ∙ (ap (λ k. (rims ks + k) / 2 + spokes (map (renamed f) ks)) b ∙ ap (λ k. (rims ks + rims_where border ks) / 2 + k) (spokes_renamed ks)))
           (faces_renamed ks) b
 
       ours : (k : ℕ) (l : Loop) → In l (class_loops ls k) → In l ls
       ours k l i = (In-filter (is_of_class ls k) l ls i).0
 
-      class_part_renamed : (k : ℕ) → In k edges → class_part (λ v. v) (map f edges) on_border others (f k) ≡ class_part f edges border ls k
+      class_part_renamed : (k : ℕ) → In k edges → class_part (λ v. v) (map f edges) in_outer_plane others (f k) ≡ class_part f edges border ls k
       class_part_renamed k j =
           let c : count_by (λ v. eqb (class_of others v) (f k)) (map f edges) ≡ count_by (λ v. eqb (class_of ls v) k) edges
           = count-map (λ v. eqb (class_of others v) (f k)) f edges ∙ count_agree (λ v. eqb (class_of others (f v)) (f k)) (λ v. eqb (class_of ls v) k) edges (λ v i. class_test v k i j) in
-          ap (λ n. part_by on_border (f k) n (class_loops others (f k))) c
-          ∙ (ap (part_by on_border (f k) (count_by (λ v. eqb (class_of ls v) k) edges)) (loops_renamed k j)
+          ap (λ n. part_by in_outer_plane (f k) n (class_loops others (f k))) c
+          ∙ (ap (part_by in_outer_plane (f k) (count_by (λ v. eqb (class_of ls v) k) edges)) (loops_renamed k j)
           ∙ part_renamed (f k) (count_by (λ v. eqb (class_of ls v) k) edges) (class_loops ls k) (ours k))
 
-      pub summary_renamed : loop_summary (λ v. v) (map f edges) on_border others ≡ loop_summary f edges border ls
+      pub summary_renamed : loop_summary (λ v. v) (map f edges) in_outer_plane others ≡ loop_summary f edges border ls
       summary_renamed =
-          let t : part_by on_border 0 (length (map f edges)) others ≡ part_by border 0 (length edges) ls
-          = ap (λ n. part_by on_border 0 n others) (length-map edges f) ∙ part_renamed 0 (length edges) ls (λ l i. i) in
-          let p : map (class_part (λ v. v) (map f edges) on_border others) (classes (map f edges) others) ≡ map (class_part f edges border ls) (classes edges ls)
-          = ap (map (class_part (λ v. v) (map f edges) on_border others)) classes_renamed
-          ∙ (map_map (class_part (λ v. v) (map f edges) on_border others) f (classes edges ls)
-          ∙ map_agree (λ k. class_part (λ v. v) (map f edges) on_border others (f k)) (class_part f edges border ls) (classes edges ls)
+          let t : part_by in_outer_plane 0 (length (map f edges)) others ≡ part_by border 0 (length edges) ls
+          = ap (λ n. part_by in_outer_plane 0 n others) (length-map edges f) ∙ part_renamed 0 (length edges) ls (λ l i. i) in
+          let p : map (class_part (λ v. v) (map f edges) in_outer_plane others) (classes (map f edges) others) ≡ map (class_part f edges border ls) (classes edges ls)
+          = ap (map (class_part (λ v. v) (map f edges) in_outer_plane others)) classes_renamed
+          ∙ (map_map (class_part (λ v. v) (map f edges) in_outer_plane others) f (classes edges ls)
+          ∙ map_agree (λ k. class_part (λ v. v) (map f edges) in_outer_plane others (f k)) (class_part f edges border ls) (classes edges ls)
           (λ k i. class_part_renamed k (In-filter (λ v. eqb (class_of ls v) v) k edges i).0)) in
           both _ _ _ _ t p
         where
@@ -233,7 +232,7 @@ module _ (f : ℕ → ℕ) (edges : List ℕ) (rises : (a b : ℕ) → In a edge
         six_renamed : (l : Loop) → In l ls → six_of at (renamed f l) ≡ six_of there l
         six_renamed l i = ap (λ v. dot (at v) (swept at (map f l.1))) (tip_renamed l i) ∙ ap (dot (at (f (tip l)))) (swept_renamed l.1)
 
-        share_renamed : (k : ℕ) (ks : List Loop) → ((l : Loop) → In l ks → In l ls) → share_round on_border at k (map (renamed f) ks) ≡ share_round border there k ks
+        share_renamed : (k : ℕ) (ks : List Loop) → ((l : Loop) → In l ks → In l ls) → share_round in_outer_plane at k (map (renamed f) ks) ≡ share_round border there k ks
         share_renamed k ks all =
             let s : total (six_of at) (map (renamed f) ks) ≡ total (six_of there) ks
             = total-map (six_of at) (renamed f) ks ∙ total_in (λ l. six_of at (renamed f l)) (six_of there) ks (λ l i. six_renamed l (all l i)) in
@@ -245,16 +244,16 @@ module _ (f : ℕ → ℕ) (edges : List ℕ) (rises : (a b : ℕ) → In a edge
             let c = one (λ (v : Vector). v.2) in
             let area : area_round at (map (renamed f) ks) ≡ area_round there ks = λ i. (a i, b i, c i) in
             same (total (six_of at) (map (renamed f) ks)) (total (six_of there) ks) (area_round at (map (renamed f) ks)) (area_round there ks)
-            (rims_where on_border (map (renamed f) ks)) (rims_where border ks) s area (border_renamed ks all)
+            (rims_where in_outer_plane (map (renamed f) ks)) (rims_where border ks) s area (border_renamed ks all)
           where
             same : (s s' : ℤ) (a a' : Vector) (b b' : ℕ) → s ≡ s' → a ≡ a' → b ≡ b'
                 → ◌≡◌ {A = Share} (record { least = k; six = s; area = coordinates a; border = b }) (record { least = k; six = s'; area = coordinates a'; border = b' })
             same s s' a a' b b' e f g = rw (e, f, g) refl
 
-        pub measures_renamed : loop_measures (λ v. v) (map f edges) on_border others at ≡ loop_measures f edges border ls there
+        pub measures_renamed : loop_measures (λ v. v) (map f edges) in_outer_plane others at ≡ loop_measures f edges border ls there
         measures_renamed =
-            ap (map (λ k. share_round on_border at k (class_loops others k))) classes_renamed
-            ∙ (map_map (λ k. share_round on_border at k (class_loops others k)) f (classes edges ls)
-            ∙ map_agree (λ k. share_round on_border at (f k) (class_loops others (f k))) (λ k. share_round border there (f k) (class_loops ls k)) (classes edges ls)
-            (λ k i. ap (share_round on_border at (f k)) (loops_renamed k (In-filter (λ v. eqb (class_of ls v) v) k edges i).0)
+            ap (map (λ k. share_round in_outer_plane at k (class_loops others k))) classes_renamed
+            ∙ (map_map (λ k. share_round in_outer_plane at k (class_loops others k)) f (classes edges ls)
+            ∙ map_agree (λ k. share_round in_outer_plane at (f k) (class_loops others (f k))) (λ k. share_round border there (f k) (class_loops ls k)) (classes edges ls)
+            (λ k i. ap (share_round in_outer_plane at (f k)) (loops_renamed k (In-filter (λ v. eqb (class_of ls v) v) k edges i).0)
             ∙ share_renamed (f k) (class_loops ls k) (ours k)))

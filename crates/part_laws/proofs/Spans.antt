@@ -5,8 +5,7 @@ use Rattle.std.proofs.lemmas.Int.{ints}
 use Rattle.iso_defs.specs.Lists.{around, closing}
 use Rattle.iso_defs.specs.Cell.{Triangle}
 use Rattle.iso_defs.specs.Scratch.{has_centre}
-use Rattle.measure_laws.specs.Vectors.{Vector, minor, cross, dot, det, det_of, normal_of}
-use Rattle.measure_laws.specs.Totals.{total}
+use Rattle.measure_laws.specs.Vectors.{Vector, minor, cross, dot, det, det_of, normal_of, total}
 use Rattle.measure_laws.proofs.Gaps.{gap_self, gap_same, gap_add, gap_sub, gap_mul}
 use Rattle.measure_laws.proofs.Vectors.{minor_sides, minor_turned, det_is}
 use Rattle.measure_laws.proofs.Totals.{total_agree, total-map, total_add, total_times}

@@ -3,11 +3,10 @@ use Rattle.std.specs.Prelude.{ℕ, ℤ, Bool, List, map, slice_index, if◌then�
 use Rattle.iso_defs.specs.Lists.{around}
 use Rattle.iso_defs.specs.Grid.{Grid}
 use Rattle.iso_defs.specs.Scratch.{crossing_edges, has_centre, number_of}
-use Rattle.iso_defs.specs.Surface.{is_border}
-use Rattle.measure_laws.specs.Vectors.{Vector, cross, dot}
-use Rattle.measure_laws.specs.Totals.{total}
+use Rattle.iso_defs.specs.Manifold.{share_outer_plane}
+use Rattle.measure_laws.specs.Vectors.{Vector, cross, dot, total}
 use Rattle.measure.specs.declared.share.Share.{Share}
-use Rattle.measure.specs.Positions.{coordinates}
+use Rattle.measure.specs.Measures.{coordinates}
 use Rattle.part_laws.specs.Loops.{Loop, mesh_loops, rims_where}
 use Rattle.part_laws.specs.Parts.{classes, class_loops}
 
@@ -37,19 +36,19 @@ area_round at ls = (
 
 -- the share of loops
 abbrev pub share_round : (ℕ → ℕ → Bool) → (ℕ → Vector) → ℕ → List Loop → Share
-share_round on_border at least ls = record {
+share_round in_outer_plane at least ls = record {
   least = least;
   six = total (six_of at) ls;
   area = coordinates (area_round at ls);
-  border = rims_where on_border ls;
+  border = rims_where in_outer_plane ls;
 }
 
 -- the shares of the classes of loops whose crossing edges are these, each with a number
 abbrev pub loop_measures : (ℕ → ℕ) → List ℕ → (ℕ → ℕ → Bool) → List Loop → (ℕ → Vector) → List Share
-loop_measures number edges on_border ls at = map (λ k. share_round on_border at (number k) (class_loops ls k))
+loop_measures number edges in_outer_plane ls at = map (λ k. share_round in_outer_plane at (number k) (class_loops ls k))
     (classes edges ls)
 
 -- those of the loops of a field on a grid, with positions by numbers of vertices
 abbrev pub mesh_shares : Grid → (ℕ → ℤ) → (ℕ → Vector) → List Share
-mesh_shares g s at = loop_measures (number_of g s) (crossing_edges g s) (is_border g) (mesh_loops g s)
+mesh_shares g s at = loop_measures (number_of g s) (crossing_edges g s) (share_outer_plane g) (mesh_loops g s)
     (λ v. at (number_of g s v))

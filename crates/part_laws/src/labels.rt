@@ -1,7 +1,6 @@
 //! Laws of loops that get labels.
 
-ghost use Rattle.iso_defs.specs.Grid.{Grid};
-ghost use Rattle.iso_defs.specs.Outside.{IsThick};
+ghost use Rattle.iso_defs.specs.Grid.{Grid, IsThick};
 ghost use Rattle.iso_defs.specs.Scratch.{triangles, vertices};
 ghost use Rattle.measure.specs.Measures.{measures_of};
 ghost use Rattle.measure_laws.specs.Vectors.{Vector};

@@ -1,8 +1,7 @@
 //! Laws of every list of loops.
 
 ghost use Rattle.iso_defs.specs.Lists.{below, is_in};
-ghost use Rattle.measure_laws.specs.Totals.{total};
-ghost use Rattle.measure_laws.specs.Vectors.{dot, minus, Vector};
+ghost use Rattle.measure_laws.specs.Vectors.{total, dot, minus, Vector};
 ghost use Rattle.part_laws.specs.Classes.{class_of, IsChain, IsLeastChained, IsShared};
 ghost use Rattle.part_laws.specs.Labels.{AreLabelled, IsRooted, labelled, unlabelled};
 ghost use Rattle.part_laws.specs.Loops.{AreLong, faces, Loop, met_after, rims, spokes};

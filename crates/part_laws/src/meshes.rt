@@ -1,12 +1,10 @@
 //! Laws of the mesh of every field of shifted values on a grid.
 
 ghost use Rattle.iso_defs.specs.Cell.{cell_edge};
-ghost use Rattle.iso_defs.specs.Grid.{cells, Grid, is_cell, name_bound, point_count};
+ghost use Rattle.iso_defs.specs.Grid.{cells, Grid, is_cell, name_bound, point_count, IsThick, is_crossing};
 ghost use Rattle.iso_defs.specs.Lists.{below};
-ghost use Rattle.iso_defs.specs.Outside.{IsThick};
 ghost use Rattle.iso_defs.specs.Rows.{row_cells, row_count};
 ghost use Rattle.iso_defs.specs.Scratch.{crossing_edges, named_triangles, number_of, triangles, vertices};
-ghost use Rattle.iso_defs.specs.Signs.{is_crossing};
 ghost use Rattle.measure.specs.Measures.{measures_of, triangles_in};
 ghost use Rattle.measure_laws.specs.Vectors.{Vector};
 ghost use Rattle.mesh_report.specs.Report.{component, components, summary_of};

@@ -1,9 +1,8 @@
 -- What the code of a plane knows, by coordinates.
 use Rattle.std.proofs.Common.{◌≡◌, ℕ, ◌+◌, ◌*◌, ◌<◌, Bool, true, false, not, ◌==◌, Some, None, slice_index, get_or, length, List, [], ◌∷◌, refl, sym, inl, inr, cond, ◌∙◌, ap, subst, arith, eqb, ℤ, ◌^◌, unsigned_abs, to_z, of_z, w64}
 use Rattle.std.proofs.lemmas.Int.{to_z-of_z, fits_signed_from_abs}
-use Rattle.iso_defs.specs.Signs.{is_above}
+use Rattle.iso_defs.specs.Grid.{is_above, Grid, index, edge_name, edge_lower, edge_upper}
 use Rattle.iso_defs.specs.Lists.{has_pair}
-use Rattle.iso_defs.specs.Grid.{Grid, index, edge_name, edge_lower, edge_upper}
 use Rattle.iso_defs.specs.Face.{value_segments, is_joined}
 use Rattle.triangle_laws.proofs.Fans.{in_is_in}
 use Rattle.plane_laws.specs.Sides.{side, side_pairs, runs_along, HasSide}

@@ -4,8 +4,7 @@ use Rattle.std.proofs.lemmas.List.{at_drop_more, drop_more}
 use Rattle.std.proofs.lemmas.List.Elements.{All-append}
 use Rattle.byte_streams.specs.Seen.{Tape}
 use Rattle.byte_streams.proofs.Staging.{HasStaged}
-use Rattle.plane_contour.specs.Points.{DrawnLine, IsNear, Point}
-use Rattle.plane_contour.specs.Texts.{contours_text, line_text, point_line, points_text}
+use Rattle.plane_contour.specs.Texts.{DrawnLine, IsNear, Point, contours_text, line_text, point_line, points_text}
 
 one_near : (x : Point) → IsNear x → All IsNear (x ∷ [])
 one_near x h zero d l = h

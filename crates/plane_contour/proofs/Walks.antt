@@ -4,9 +4,8 @@ use Rattle.std.specs.Option.{is_some}
 use Rattle.std.proofs.lemmas.Bool.{both_ways, cases_Bool, cases_eq, eq-eqb, ne_eqb}
 use Rattle.iso_defs.specs.Lists.{begins, ends, has_pair, is_in}
 use Rattle.iso_defs.specs.Contours.{trace, line_from}
-use Rattle.iso_defs.specs.Grid.{Grid, index, coordinate, edge_lower, edge_upper, edge_axis}
+use Rattle.iso_defs.specs.Grid.{Grid, index, coordinate, edge_lower, edge_upper, edge_axis, is_above, differ}
 use Rattle.iso_defs.specs.Place.{place, edge_coordinate}
-use Rattle.iso_defs.specs.Signs.{is_above, differ}
 use Rattle.iso_defs.proofs.Points.{x_index, y_index}
 use Rattle.triangle_laws.proofs.Lists.{In}
 use Rattle.triangle_laws.proofs.Counts.{pair_in}
@@ -21,7 +20,7 @@ use Rattle.plane_laws.proofs.Places.{alike_begins, alike_ends}
 use Rattle.plane_contour.specs.declared.plane.Plane.{Plane}
 use Rattle.plane_contour.specs.declared.plane.Edge.{Edge}
 use Rattle.plane_contour.specs.Planes.{IsPlane, IsEdge, IsActive, IsNext, IsPrevious, field_of, pairs_of, name_at, slot_of}
-use Rattle.plane_contour.specs.Points.{Point}
+use Rattle.plane_contour.specs.Texts.{Point}
 
 -- where a segment begins or ends, the signs differ
 pub active_differs : (p : Plane) (e : ℕ) → IsActive (pairs_of p) e → differ (is_above (field_of p (edge_lower e))) (is_above (field_of p (edge_upper p.sizes e))) ≡ true

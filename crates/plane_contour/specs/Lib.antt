@@ -1,4 +1,2 @@
-pub mod Points
 pub mod Planes
-pub mod Drawn
 pub mod Texts

@@ -1,13 +1,10 @@
 -- One plane of a grid, and its lattice edges by coordinates.
-use Rattle.std.specs.Prelude.{◌≡◌, ℕ, zero, suc, ◌+◌, ◌-◌, ◌*◌, ◌<◌, ℤ, pos, Bool, true, false, ◌||◌, ◌⊎◌, Option, Some, None, List, map, length}
-use Rattle.std.specs.Prelude.{slice_index_or, All}
+use Rattle.std.specs.Prelude.{◌≡◌, ℕ, zero, suc, ◌+◌, ◌-◌, ◌*◌, ◌<◌, ℤ, pos, Bool, true, false, ◌||◌, ◌⊎◌, Option, Some, None, List, map, length, slice_index_or, All}
 use Rattle.iso_defs.specs.Grid.{Grid, index, edge_name}
 use Rattle.iso_defs.specs.Contours.{plane_pairs, line_from}
 use Rattle.iso_defs.specs.Lists.{begins, ends, has_pair, is_in}
-use Rattle.plane_contour.specs.Points.{Point, point_at}
-use Rattle.iso_base.specs.Samples.{IsSample}
-use Rattle.iso_base.specs.Shifted.{shifted}
-use Rattle.iso_base.specs.Sizing.{IsGrid}
+use Rattle.plane_contour.specs.Texts.{Point, point_at}
+use Rattle.iso_base.specs.Volume.{IsSample, shifted, IsGrid}
 use Rattle.plane_contour.specs.declared.plane.Plane.{Plane}
 use Rattle.plane_contour.specs.declared.plane.Edge.{Edge}
 use Rattle.plane_contour.specs.declared.plane.Side.{Side}

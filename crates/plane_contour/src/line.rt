@@ -1,7 +1,7 @@
 //! Contour lines, and lists of them.
 
 ghost use Rattle.std.specs.Prelude.{◌≡◌, All};
-ghost use Rattle.plane_contour.specs.Points.{IsNear};
+ghost use Rattle.plane_contour.specs.Texts.{IsNear};
 
 use iso_base::{EdgeName, Thousandth};
 use std::marker::Model;
@@ -15,7 +15,7 @@ pub struct Line {
 
 impl Model for Line {
     ghost use Rattle.std.specs.Prelude.{All};
-    ghost use Rattle.plane_contour.specs.Points.{DrawnLine, IsNear};
+    ghost use Rattle.plane_contour.specs.Texts.{DrawnLine, IsNear};
 
     ghost Value = { DrawnLine };
 
@@ -58,7 +58,7 @@ pub struct Contours {
 
 impl Model for Contours {
     ghost use Rattle.std.specs.Prelude.{List};
-    ghost use Rattle.plane_contour.specs.Points.{DrawnLine};
+    ghost use Rattle.plane_contour.specs.Texts.{DrawnLine};
 
     ghost Value = { List DrawnLine };
 

@@ -6,8 +6,7 @@
 ghost use Rattle.std.specs.Prelude.{◌≡◌, ℕ, ◌+◌, ◌*◌, ◌<◌, ◌^◌, ◌==◌, ◌∷◌, [], ℤ, true, false, MatchOption, IfSome, position, slice_index, unsigned_abs};
 ghost use Rattle.iso_defs.specs.Bricks.{bits_of};
 ghost use Rattle.iso_defs.specs.Face.{is_ambiguous, is_joined, value_segments};
-ghost use Rattle.iso_defs.specs.Signs.{is_above};
-ghost use Rattle.iso_defs.specs.Grid.{index, edge_lower, edge_upper};
+ghost use Rattle.iso_defs.specs.Grid.{is_above, index, edge_lower, edge_upper};
 ghost use Rattle.iso_defs.specs.Lists.{begins, ends, has_pair};
 ghost use Rattle.plane_laws.specs.Sides.{side, side_pairs, runs_along, HasSide};
 ghost use Rattle.plane_contour.specs.Planes.{IsPlane, IsEdge, IsSideOf, IsNext, IsPrevious, square_side, field_of, pairs_of, name_at};

@@ -4,8 +4,7 @@ ghost use Rattle.std.specs.Prelude.{◌≡◌, ◌+◌, ◌*◌, ◌<◌, ◌≤
 ghost use Rattle.arrayvec.specs.ArrayString.{array_string_len};
 ghost use Rattle.iso_defs.specs.Texts.{decimal_text};
 ghost use Rattle.byte_streams.specs.Seen.{Puts, Stages};
-ghost use Rattle.plane_contour.specs.Points.{IsNear};
-ghost use Rattle.plane_contour.specs.Texts.{contours_text, head_line, line_text, point_line, points_text, printed_coordinate};
+ghost use Rattle.plane_contour.specs.Texts.{IsNear, contours_text, head_line, line_text, point_line, points_text, printed_coordinate};
 
 use crate::line::{Contours, Line};
 use arrayvec::ArrayString;

@@ -5,7 +5,7 @@ ghost use Rattle.iso_defs.specs.Lists.{begins};
 ghost use Rattle.iso_defs.specs.Contours.{line_from};
 ghost use Rattle.plane_laws.specs.Lines.{start_of};
 ghost use Rattle.plane_contour.specs.Planes.{IsPlane, IsEdge, IsActive, AreMarked, field_of, pairs_of, name_at, plane_size, slot_of};
-ghost use Rattle.plane_contour.specs.Points.{IsNear, point_at};
+ghost use Rattle.plane_contour.specs.Texts.{IsNear, point_at};
 
 use crate::plane::{Edge, Plane};
 use edge_points::place;

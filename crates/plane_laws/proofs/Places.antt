@@ -2,8 +2,7 @@
 use Rattle.std.proofs.Common.{◌≡◌, ℕ, ◌+◌, ◌*◌, ◌%◌, ◌<◌, Bool, List, true, false, not, refl, sym, ◌∙◌, ap, subst, inl, inr, ◌⊎◌, arith, ℤ, ltb}
 use Rattle.std.proofs.lemmas.Bool.{cases_Bool, cases_lt, and_from, both_ways, ltb-true, lt-ltb}
 use Rattle.iso_defs.specs.Lists.{begins, ends, has_pair}
-use Rattle.iso_defs.specs.Grid.{Grid, index, coordinate, edge_lower, edge_upper, edge_name}
-use Rattle.iso_defs.specs.Signs.{is_above}
+use Rattle.iso_defs.specs.Grid.{Grid, index, coordinate, edge_lower, edge_upper, edge_name, is_above}
 use Rattle.iso_defs.specs.Face.{is_up, is_down}
 use Rattle.iso_defs.specs.Cell.{next_of}
 use Rattle.iso_defs.specs.Contours.{squares, plane_pairs}

@@ -3,8 +3,7 @@ use Rattle.std.proofs.Common.{◌≡◌, ℕ, ◌+◌, ◌*◌, ◌%◌, ◌<◌
 use Rattle.std.specs.List.{list_all, count_by}
 use Rattle.std.proofs.lemmas.Bool.{cases_lt, and_parts, and_from, ltb-true, lt-ltb, leb-true, eqb-true, eq-eqb}
 use Rattle.iso_defs.specs.Lists.{below, begins, ends}
-use Rattle.iso_defs.specs.Grid.{Grid, point_count, name_bound, coordinate, has_next, index, stride, edge_lower, edge_upper, edge_name}
-use Rattle.iso_defs.specs.Signs.{is_above}
+use Rattle.iso_defs.specs.Grid.{Grid, point_count, name_bound, coordinate, has_next, index, stride, edge_lower, edge_upper, edge_name, is_above}
 use Rattle.iso_defs.specs.Face.{holds_at, is_up, is_down, segments, is_ambiguous, is_joined, value_segments}
 use Rattle.iso_defs.specs.Contours.{squares, square_edges, square_pairs, plane_pairs}
 use Rattle.iso_defs.proofs.Points.{x_index, y_index, z_index, index_in, index_of_point}

@@ -1,8 +1,7 @@
 -- Which text `points` gives for the bytes of its input.
 use Rattle.std.specs.Prelude.{ℕ, List, None, Result, ℤ}
 use Rattle.iso_defs.specs.Texts.{points_text}
-use Rattle.iso_base.specs.Shifted.{field}
-use Rattle.iso_base.specs.Volume.{Volume}
+use Rattle.iso_base.specs.Volume.{field, Volume}
 use Rattle.point_command.specs.Edges.{edge_points}
 use Rattle.program.specs.declared.answer.VolumeFault.{VolumeFault}
 use Rattle.command_terms.specs.Volumes.{text_by, volume_of}

@@ -2,7 +2,7 @@
 use Rattle.std.specs.Prelude.{ℕ, List, ℤ, Result}
 use Rattle.byte_streams.specs.Seen.{Feed, Tape}
 use Rattle.point_command.specs.Texts.{PutsPointsOf}
-use Rattle.command_terms.specs.Inputs.{HasRead}
+use Rattle.command_terms.specs.Outcome.{HasRead}
 use Rattle.command_terms.specs.Volumes.{volume_limit}
 
 -- the whole input was read, and the text of the points of its volume was put, or a front of it

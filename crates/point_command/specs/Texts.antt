@@ -1,8 +1,7 @@
 -- The points of a volume in its file, as a text.
 use Rattle.std.specs.Prelude.{◌≡◌, ℕ, List, ℤ, Ok, Result}
 use Rattle.iso_defs.specs.Texts.{points_text}
-use Rattle.iso_base.specs.Shifted.{field}
-use Rattle.iso_base.specs.Volume.{Voxels}
+use Rattle.iso_base.specs.Volume.{field, Voxels}
 use Rattle.byte_streams.specs.Seen.{Puts, Tape}
 use Rattle.nrrd_read.specs.Nrrd.{nrrd_of}
 use Rattle.point_command.specs.Edges.{edge_points}

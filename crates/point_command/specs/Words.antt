@@ -1,8 +1,8 @@
 -- What the words of a command line that is `points` ask for, or that is a question about the program.
 use Rattle.std.specs.Prelude.{nat_lt, if◌then◌else◌, ℕ, List, [], ◌∷◌, take, drop, codes, bytes_eq, Option, Some, None, ℤ, unsigned_abs}
 use Rattle.std.specs.Option.{option_and_then, option_map}
-use Rattle.iso_base.specs.Shifted.{level_limit}
-use Rattle.text_lines.specs.Levels.{level_number_of}
+use Rattle.iso_base.specs.Volume.{level_limit}
+use Rattle.text_lines.specs.Numbers.{level_number_of}
 use Rattle.program.specs.Questions.{asks_help, asks_version}
 use Rattle.point_command.specs.declared.words.Asked.{Asked}
 use Rattle.point_command.specs.declared.words.Asked.TheVariants.{Points, Help, Version}

@@ -1,8 +1,7 @@
 -- Volumes whose samples lie in bytes.
 use Rattle.std.specs.Prelude.{ℕ, ◌*◌, ◌<◌, ◌≤◌, ◌^◌, Bool, List, length}
 use Rattle.iso_defs.specs.Grid.{Grid, point_count}
-use Rattle.iso_base.specs.Samples.{width_of}
-use Rattle.iso_base.specs.Volume.{IsVoxels, Voxels}
+use Rattle.iso_base.specs.Volume.{width_of, IsVoxels, Voxels}
 use Rattle.iso_base.specs.declared.kind.SampleKind.{SampleKind}
 use Rattle.iso_base.specs.SampleBytes.{samples_in}
 

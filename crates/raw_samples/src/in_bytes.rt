@@ -1,7 +1,7 @@
 //! The samples of a volume in bytes.
 ghost use Rattle.std.specs.Prelude.{◌≡◌, ℤ, ◌+◌, ◌*◌, ◌<◌, ◌≤◌, ◌^◌, All, cond, int_le, length, map};
 ghost use Rattle.std.specs.List.{range_with_len};
-ghost use Rattle.iso_base.specs.Samples.{width_of};
+ghost use Rattle.iso_base.specs.Volume.{width_of};
 ghost use Rattle.iso_base.specs.SampleBytes.{sample_of, samples_in};
 ghost use Rattle.samples.specs.Signs.{IsBound, sign_of};
 
@@ -20,7 +20,7 @@ pub struct InBytes<'a, K: SampleFormat> {
 
 impl<'a, K: SampleFormat> Model for InBytes<'a, K> {
     ghost use Rattle.std.specs.Prelude.{List, ℤ};
-    ghost use Rattle.iso_base.specs.Samples.{width_of};
+    ghost use Rattle.iso_base.specs.Volume.{width_of};
     ghost use Rattle.iso_base.specs.SampleBytes.{samples_in};
     ghost use Rattle.raw_samples.specs.Raw.{BeginWith};
 

@@ -2,8 +2,7 @@
 ghost use Rattle.std.specs.Prelude.{◌≡◌, ◌+◌, ◌*◌, ◌<◌, ◌≤◌, ◌^◌, length, IfOk, map, take, drop};
 ghost use Rattle.std.specs.List.{range_with_len};
 ghost use Rattle.iso_defs.specs.Grid.{point_count};
-ghost use Rattle.iso_base.specs.Samples.{width_of};
-ghost use Rattle.iso_base.specs.Volume.{IsVoxels, sample};
+ghost use Rattle.iso_base.specs.Volume.{width_of, IsVoxels, sample};
 ghost use Rattle.raw_samples.specs.Raw.{voxels_in};
 ghost use Rattle.raw_samples.specs.RawKinds.{raw_list};
 

@@ -1,7 +1,7 @@
 //! Volumes whose samples stood in print.
 ghost use Rattle.std.specs.Prelude.{◌≡◌, ◌*◌, ◌≤◌, false, length};
 ghost use Rattle.iso_defs.specs.Grid.{point_count};
-ghost use Rattle.iso_base.specs.Samples.{width_of};
+ghost use Rattle.iso_base.specs.Volume.{width_of};
 ghost use Rattle.raw_samples.specs.Raw.{voxels_in};
 
 use crate::raw::RawVolume;

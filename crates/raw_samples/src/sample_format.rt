@@ -1,6 +1,6 @@
 //! How the samples of each kind and byte order lie in bytes.
 ghost use Rattle.std.specs.Prelude.{◌≡◌, ◌+◌, ◌*◌, ◌≤◌, Bool, false, length, true};
-ghost use Rattle.iso_base.specs.Samples.{width_of};
+ghost use Rattle.iso_base.specs.Volume.{width_of};
 ghost use Rattle.iso_base.specs.declared.kind.SampleKind.{SampleKind};
 ghost use Rattle.iso_base.specs.declared.kind.SampleKind.TheVariants as kinds;
 ghost use Rattle.iso_base.specs.SampleBytes.{sample_of};

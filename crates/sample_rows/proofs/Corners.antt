@@ -5,9 +5,7 @@ use Rattle.std.proofs.lemmas.Int.{ints}
 use Rattle.std.proofs.lemmas.List.{ext_get_or, get_or-map, get_or_past, length-map}
 use Rattle.iso_defs.specs.Cell.{cell_values}
 use Rattle.iso_base.specs.Points.{index_of}
-use Rattle.iso_base.specs.Samples.{IsSample}
-use Rattle.iso_base.specs.Shifted.{shifted}
-use Rattle.iso_base.specs.Volume.{sample}
+use Rattle.iso_base.specs.Volume.{IsSample, shifted, sample}
 use Rattle.iso_base.specs.declared.point.Point.{Point}
 use Rattle.flat_mesh.specs.Cases.{values_at}
 use Rattle.flat_mesh.specs.Lattice.{IsLeveled, Leveled}

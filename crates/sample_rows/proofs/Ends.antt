@@ -3,12 +3,9 @@ use Rattle.std.proofs.Common.{◌≡◌, ℕ, ◌+◌, ◌*◌, ◌/◌, ◌%◌
 use Rattle.std.specs.Int.{from_bool}
 use Rattle.std.proofs.lemmas.Bool.{and_parts, cases_lt, ltb-true}
 use Rattle.std.proofs.lemmas.Int.{ints}
-use Rattle.iso_defs.specs.Grid.{edge_axis, edge_lower, edge_upper, has_next, index, is_edge, stride}
-use Rattle.iso_defs.specs.Signs.{differ, is_above, is_crossing}
+use Rattle.iso_defs.specs.Grid.{edge_axis, edge_lower, edge_upper, has_next, index, is_edge, stride, differ, is_above, is_crossing}
 use Rattle.iso_defs.proofs.Points.{x_index, y_index, z_index}
-use Rattle.iso_base.specs.Samples.{IsSample}
-use Rattle.iso_base.specs.Shifted.{shifted}
-use Rattle.iso_base.specs.Volume.{sample}
+use Rattle.iso_base.specs.Volume.{IsSample, shifted, sample}
 use Rattle.crossing_edges.specs.Flags.{edge_place}
 use Rattle.crossing_edges.proofs.OffsetEdges.{offset_at, place_more as one_place_more, places_are as each_place}
 use Rattle.flat_mesh.specs.Lattice.{IsLeveled, Leveled, heights}

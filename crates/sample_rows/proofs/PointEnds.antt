@@ -2,13 +2,11 @@
 use Rattle.std.proofs.Common.{◌≡◌, ℕ, ◌+◌, ◌*◌, ◌/◌, ◌%◌, ◌<◌, ◌==◌, true, ℤ, sym, ◌∙◌, ap, ap₂, subst, arith, inl, inr, w64, to_z, of_z}
 use Rattle.std.specs.Int.{from_bool}
 use Rattle.std.proofs.lemmas.Bool.{and_parts, cases_lt, ltb-true}
-use Rattle.iso_defs.specs.Grid.{edge_axis, edge_lower, edge_upper, has_next, index, is_edge, stride}
-use Rattle.iso_defs.specs.Signs.{differ, is_above, is_crossing}
+use Rattle.iso_defs.specs.Grid.{edge_axis, edge_lower, edge_upper, has_next, index, is_edge, stride, differ, is_above, is_crossing}
 use Rattle.iso_defs.proofs.Points.{x_index, y_index, z_index}
 use Rattle.iso_base.specs.Points.{IsPoint, index_of}
 use Rattle.iso_base.specs.declared.point.Point.{Point}
-use Rattle.iso_base.specs.Shifted.{shifted}
-use Rattle.iso_base.specs.Volume.{sample}
+use Rattle.iso_base.specs.Volume.{shifted, sample}
 use Rattle.flat_mesh.specs.Lattice.{IsLeveled, Leveled, heights}
 use Rattle.flat_mesh.specs.Rows.{row_start}
 use Rattle.sample_rows.proofs.Corners.{sample_is}

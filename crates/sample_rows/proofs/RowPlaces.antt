@@ -6,9 +6,8 @@ use Rattle.std.proofs.lemmas.Bool.{cases_lt}
 use Rattle.std.proofs.lemmas.List.{get_or-append_right, get_or_append_left, length-append, length-map, take_at}
 use Rattle.std.proofs.lemmas.List.FromFn.{length-range_with_len}
 use Rattle.std.proofs.lemmas.List.Sums.{count_by-le-length, length-filter}
-use Rattle.iso_defs.specs.Grid.{Grid, point_count}
+use Rattle.iso_defs.specs.Grid.{Grid, point_count, is_crossing}
 use Rattle.iso_defs.specs.Rows.{row_count}
-use Rattle.iso_defs.specs.Signs.{is_crossing}
 use Rattle.crossing_edges.specs.Flags.{edge_place, names_in, places_in}
 use Rattle.crossing_edges.proofs.Counting.{places_empty, places_more}
 use Rattle.crossing_edges.proofs.FlagParts.{no_places, row_in}

@@ -1,10 +1,7 @@
 //! A volume in a list at a level: its shifted values.
 ghost use Rattle.std.specs.Prelude.{◌≡◌, ℕ, ◌+◌, ◌*◌, ◌<◌, ◌≤◌, ◌^◌, All, length, map, true, unsigned_abs};
-ghost use Rattle.iso_defs.specs.Grid.{index};
-ghost use Rattle.iso_defs.specs.Signs.{is_crossing};
-ghost use Rattle.iso_base.specs.Samples.{IsSample};
-ghost use Rattle.iso_base.specs.Shifted.{shifted};
-ghost use Rattle.iso_base.specs.Volume.{sample};
+ghost use Rattle.iso_defs.specs.Grid.{index, is_crossing};
+ghost use Rattle.iso_base.specs.Volume.{IsSample, shifted, sample};
 ghost use Rattle.crossing_edges.specs.Flags.{edge_place};
 ghost use Rattle.flat_mesh.specs.Centres.{IsCellAt};
 ghost use Rattle.flat_mesh.specs.Cases.{values_at};

@@ -1,7 +1,7 @@
 //! The rows of a volume whose samples are a list.
 ghost use Rattle.std.specs.Prelude.{◌≡◌, All, IfOk, length};
 ghost use Rattle.iso_defs.specs.Grid.{point_count};
-ghost use Rattle.iso_base.specs.Samples.{IsSample};
+ghost use Rattle.iso_base.specs.Volume.{IsSample};
 
 use crate::field::ListField;
 use crate::lists::{WholeRow, list_few_cells, list_row_edges, list_whole_cells};

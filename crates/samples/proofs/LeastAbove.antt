@@ -1,6 +1,6 @@
 -- Signs by the least sample above the level.
 use Rattle.std.proofs.Common.{◌≡◌, ℤ, List, [], ◌∷◌, ap, ap₂, cond, int_le, map, refl}
-use Rattle.iso_base.specs.Shifted.{is_above_level}
+use Rattle.iso_base.specs.Volume.{is_above_level}
 use Rattle.samples.specs.Signs.{sign_of}
 
 pub by_least : {X : Type 0} (value : X → ℤ) (level least : ℤ) → ((s : ℤ) → int_le least s ≡ is_above_level s level) → (xs : List X)

@@ -1,6 +1,6 @@
 -- Signs of samples.
 use Rattle.std.specs.Prelude.{◌≡◌, ℕ, ℤ, cond, int_le, false, Option, MatchOption}
-use Rattle.iso_base.specs.Shifted.{is_above_level}
+use Rattle.iso_base.specs.Volume.{is_above_level}
 
 -- the sign of a sample at a level: 1 where it is above, else 0
 abbrev pub sign_of : ℤ → ℤ → ℕ

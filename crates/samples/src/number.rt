@@ -1,8 +1,7 @@
 //! Numbers that samples are kept as.
 ghost use Rattle.std.specs.Prelude.{◌≡◌, ℤ, ◌<◌, int_le, length, map, pos};
 ghost use Rattle.std.specs.Int.{int_max, int_min};
-ghost use Rattle.iso_base.specs.Samples.{IsOfKind};
-ghost use Rattle.iso_base.specs.Volume.{sample};
+ghost use Rattle.iso_base.specs.Volume.{IsOfKind, sample};
 ghost use Rattle.samples.specs.Signs.{IsBound};
 ghost use Rattle.iso_base.specs.declared.kind.SampleKind.TheVariants as kinds;
 

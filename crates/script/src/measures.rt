@@ -3,7 +3,7 @@
 ghost use Rattle.std.specs.Prelude.{◌≡◌, ◌++◌, ◌+◌, ◌≤◌};
 ghost use Rattle.arrayvec.specs.ArrayString.{array_string_len};
 ghost use Rattle.byte_streams.specs.Seen.{Puts};
-ghost use Rattle.script.specs.Measures.{area_text, measure_line, measures_text, share_line};
+ghost use Rattle.script.specs.Replies.{area_text, measure_line, measures_text, share_line};
 
 use crate::text::{Text, put_counted, put_counted_signed};
 use arrayvec::ArrayString;
@@ -20,7 +20,7 @@ fn head_text(count: usize) -> Text
 }
 
 /// Appends the three numbers of an area.
-#[tactic(auto, unfolding(crate::specs::Measures::area_text))]
+#[tactic(auto, unfolding(crate::specs::Replies::area_text))]
 fn put_area(area: &[i128; 3], into: &mut Text)
     requires room { array_string_len into.old ≤ 80 }
     ensures text { into.new.bytes ≡ into.old.bytes ++ area_text area.now }

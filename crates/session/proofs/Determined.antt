@@ -3,7 +3,7 @@ use Rattle.std.proofs.Common.{◌≡◌, inl, inr, ℕ, Bool, true, false, List,
 use Rattle.std.specs.Prelude.{Option, Some, None, bytes_eq, is_some}
 use Rattle.iso_base.specs.declared.fault.BenchFault.{BenchFault}
 use Rattle.iso_base.specs.declared.fault.BenchFault.TheVariants as faults
-use Rattle.byte_streams.specs.Files.{Files}
+use Rattle.byte_streams.specs.Seen.{Files}
 use Rattle.bench_core.specs.Machine.{State}
 use Rattle.bench_core.specs.Texts.{contour_of}
 use Rattle.script.specs.declared.command.Command.{Command}

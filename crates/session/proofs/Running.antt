@@ -10,8 +10,7 @@ use Rattle.iso_base.specs.declared.fault.BenchFault.{BenchFault}
 use Rattle.iso_base.specs.declared.fault.BenchFault.TheVariants as faults
 use Rattle.iso_base.specs.declared.fault.Written.{Written}
 use Rattle.iso_defs.specs.Texts.{line}
-use Rattle.plane_contour.specs.Points.{DrawnLine}
-use Rattle.plane_contour.specs.Texts.{contours_text, points_text}
+use Rattle.plane_contour.specs.Texts.{DrawnLine, contours_text, points_text}
 use Rattle.measure.specs.declared.share.Share.{Share}
 use Rattle.mesh_report.specs.Report.{Summary}
 use Rattle.session.specs.Table.{contour_reply, measures_reply, report_reply}

@@ -3,22 +3,19 @@ use Rattle.std.proofs.Common.{◌≡◌, ℕ, ◌+◌, ◌-◌, ◌*◌, ◌<◌
 use Rattle.std.specs.Prelude.{Option, Some, None, Result, IfSome, MatchOption, not, nat_lt, int_le, unsigned_abs}
 use Rattle.std.proofs.lemmas.Int.{ints}
 use Rattle.std.proofs.lemmas.Bool.{and_parts, ltb-true}
-use Rattle.iso_defs.specs.Grid.{point_count}
-use Rattle.iso_defs.specs.Outside.{is_outer}
+use Rattle.iso_defs.specs.Grid.{point_count, is_outer}
 use Rattle.iso_defs.proofs.Points.{index_in, index_of_point}
 use Rattle.iso_base.specs.Points.{index_of, point_at}
-use Rattle.iso_base.specs.Samples.{IsOfKind, greatest_of, least_of}
-use Rattle.iso_base.specs.Shifted.{is_above_pad, level_limit}
-use Rattle.iso_base.specs.Volume.{HoldsPad, IsInner, IsVolume, Volume, layer, sample}
+use Rattle.iso_base.specs.Volume.{IsOfKind, greatest_of, least_of, is_above_pad, level_limit, HoldsPad, IsInner, IsVolume, Volume, layer, sample}
 use Rattle.iso_base.specs.declared.fault.BenchFault.{BenchFault}
 use Rattle.iso_base.specs.declared.fault.BenchFault.TheVariants.{FillTooLarge, LevelNotAbovePad, LevelOutside}
 use Rattle.iso_base.specs.declared.kind.SampleKind.{SampleKind}
 use Rattle.iso_base.specs.declared.point.Point.{Point}
 use Rattle.voxel_list.specs.Areas.{Area, area_count, between, is_in_area}
 use Rattle.voxel_list.proofs.Volumes.{set_keeps}
-use Rattle.edit_log.specs.Boxes.{filled}
+use Rattle.edit_log.specs.Log.{filled}
 use Rattle.brick_store.proofs.Replacing.{length-replaced, sample-replaced}
-use Rattle.unpadded_volume.specs.Places.{IsInside, place_of, plane_of, point_by, stored_coordinate}
+use Rattle.unpadded_volume.specs.Unpadded.{IsInside, place_of, plane_of, point_by, stored_coordinate}
 use Rattle.unpadded_volume.proofs.Insides.{free, inside_area, inside_is_inner}
 use Rattle.bench_core.specs.Machine.{Entry, IsAbovePad, IsState, State, area_by, changed, checked_level, contour_by, contour_step, fill_at, fill_step, is_of_kind, level_by, level_step, pad_fault, redo_by, redo_step, set_at, set_step, undo_by, undo_step, unless_fault, value_fault, with_sample}
 use Rattle.bench_core.specs.Windows.{stays_unless, window_area, window_fault, window_step}

@@ -3,7 +3,7 @@ use Rattle.std.proofs.Common.{◌≡◌, inl, inr, ℕ, List, [], ◌∷◌, Ok,
 use Rattle.std.specs.Prelude.{Option, Some, None, Result}
 use Rattle.iso_defs.specs.Texts.{line}
 use Rattle.iso_base.specs.declared.fault.BenchFault.{BenchFault}
-use Rattle.byte_streams.specs.Files.{Files}
+use Rattle.byte_streams.specs.Seen.{Files}
 use Rattle.bench_core.specs.Machine.{IsState, State, three_from}
 use Rattle.bench_core.specs.Surface.{IsWatertight}
 use Rattle.bench_core.proofs.Surfaces.{watertight_of}

@@ -4,13 +4,13 @@ use Rattle.std.specs.Prelude.{Option, None, Some, IfOk, is_some, if◌then◌els
 use Rattle.iso_defs.specs.Grid.{Grid}
 use Rattle.iso_defs.specs.Texts.{line}
 use Rattle.voxel_list.specs.Areas.{Area}
-use Rattle.byte_streams.specs.Files.{Files}
+use Rattle.byte_streams.specs.Seen.{Files}
 use Rattle.iso_io.specs.Shelves.{Store}
 use Rattle.iso_base.specs.declared.fault.BenchFault.{BenchFault}
 use Rattle.iso_base.specs.declared.fault.BenchFault.TheVariants as faults
 use Rattle.iso_base.specs.declared.fault.Written.{Written}
 use Rattle.iso_base.specs.declared.format.MeshFormat.{MeshFormat}
-use Rattle.plane_contour.specs.Points.{DrawnLine}
+use Rattle.plane_contour.specs.Texts.{DrawnLine}
 use Rattle.measure.specs.declared.share.Share.{Share}
 use Rattle.mesh_report.specs.Report.{Summary}
 use Rattle.bench_core.specs.Keeping.{Keeps, Refreshes, Workbench, turn_steps, waiting_bricks, write_steps}

@@ -1,7 +1,7 @@
 -- What becomes of the kept mesh at each line, and how many cells are classified.
 use Rattle.std.specs.Prelude.{◌≡◌, ℕ, Bool, if◌then◌else◌, List, [], ◌∷◌, ◌++◌, take, bytes_eq, codes, Option, Some, None, Ok, Err}
 use Rattle.iso_defs.specs.Texts.{line}
-use Rattle.byte_streams.specs.Files.{Files}
+use Rattle.byte_streams.specs.Seen.{Files}
 use Rattle.voxel_list.specs.Areas.{Area}
 use Rattle.mesh_cache.specs.Cache.{Cache}
 use Rattle.bench_core.specs.Keeping.{Refreshes, Workbench, fill_area, first_area, set_area, turn_steps, waiting_bricks, without_points, write_steps}

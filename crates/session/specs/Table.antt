@@ -2,13 +2,12 @@
 use Rattle.std.specs.Prelude.{◌≡◌, ◌⊎◌, ℕ, Bool, true, false, List, ◌++◌, length, codes, is_some, Option, Some, None, Result, Ok, Err, MatchResult}
 use Rattle.iso_base.specs.declared.fault.BenchFault.{BenchFault}
 use Rattle.iso_base.specs.declared.fault.BenchFault.TheVariants as faults
-use Rattle.byte_streams.specs.Files.{Files}
+use Rattle.byte_streams.specs.Seen.{Files}
 use Rattle.iso_io.specs.Shelves.{with_file, FilesCut}
 use Rattle.bench_core.specs.Machine.{State, set_step, fill_step, level_step, undo_step, redo_step, contour_step, three_from}
 use Rattle.bench_core.specs.Texts.{ply_text, ply_written, obj_text, obj_written, raw_save, text_save, hex_save, contour_of, report_of, measure_of}
 use Rattle.bench_core.specs.Windows.{window_area, window_step, window_text, window_written}
-use Rattle.plane_contour.specs.Points.{DrawnLine}
-use Rattle.plane_contour.specs.Texts.{contours_text}
+use Rattle.plane_contour.specs.Texts.{DrawnLine, contours_text}
 use Rattle.mesh_report.specs.Report.{Summary}
 use Rattle.measure.specs.declared.share.Share.{Share}
 use Rattle.script.specs.declared.command.Command.{Command}
@@ -17,9 +16,7 @@ use Rattle.iso_base.specs.declared.fault.Written.{Written}
 use Rattle.script.specs.declared.reply.Reply.{Reply}
 use Rattle.script.specs.declared.reply.Reply.TheVariants.{Done, Meshed, Saved, Refused}
 use Rattle.iso_defs.specs.Texts.{line}
-use Rattle.script.specs.Replies.{fault_text, written_text, saved_text}
-use Rattle.script.specs.Reports.{report_text}
-use Rattle.script.specs.Measures.{measures_text}
+use Rattle.script.specs.Replies.{fault_text, written_text, saved_text, report_text, measures_text}
 
 -- the new state, or the first refusal
 abbrev pub step_of : State → Command → Result State BenchFault

@@ -1,8 +1,7 @@
 -- The cells of a grid are those of a lower slab below its last two slices, and those above.
 use Rattle.std.proofs.Common.{◌≡◌, ℕ, ◌+◌, ◌-◌, ◌*◌, ◌/◌, ◌<◌, ◌≤◌, List, ◌++◌, map, sym, ap, ◌∙◌, arith}
 use Rattle.std.specs.List.{filter, range_with_len}
-use Rattle.iso_defs.specs.Grid.{Grid, point_count, is_cell, cells}
-use Rattle.iso_defs.specs.Outside.{IsSolid}
+use Rattle.iso_defs.specs.Grid.{Grid, point_count, is_cell, cells, IsSolid}
 use Rattle.slab_laws.specs.Slabs.{slices, slice_size}
 use Rattle.slab_laws.proofs.Slices.{filter_moved, filter_alike, same_cell, next_at_top, next_below, height_low}
 use Rattle.slab_laws.proofs.EdgesCut.{cut}

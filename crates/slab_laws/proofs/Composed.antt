@@ -2,9 +2,7 @@
 use Rattle.std.proofs.Common.{◌≡◌, ℕ, zero, suc, ◌+◌, ◌-◌, ◌*◌, ◌/◌, ◌%◌, ◌<◌, ◌≤◌, Bool, true, false, cond, List, ◌∷◌, refl, sym, ap, ◌∙◌, subst, inl, inr, arith, ltb, ℤ, length, zero-add}
 use Rattle.std.specs.List.{filter, range_with_len}
 use Rattle.std.proofs.lemmas.Bool.{and_parts, and_from, ltb-true, lt-ltb, cases_lt}
-use Rattle.iso_defs.specs.Grid.{Grid, stride, has_next, name_bound, is_edge}
-use Rattle.iso_defs.specs.Signs.{is_above, differ, is_crossing}
-use Rattle.iso_defs.specs.Outside.{IsSolid}
+use Rattle.iso_defs.specs.Grid.{Grid, stride, has_next, name_bound, is_edge, is_above, differ, is_crossing, IsSolid}
 use Rattle.iso_defs.specs.Scratch.{crossing_edges}
 use Rattle.mesh_laws.proofs.Padded.{by_three}
 use Rattle.slab_laws.specs.Slabs.{slices, slice_size, renumbered}

@@ -2,9 +2,8 @@
 use Rattle.std.proofs.Common.{◌≡◌, ℕ, ◌+◌, ◌-◌, ◌*◌, ◌/◌, ◌<◌, ◌≤◌, cond, sym, ap, ◌∙◌, subst, inl, inr, arith, ltb, ℤ, length, zero-add}
 use Rattle.std.specs.List.{count_by}
 use Rattle.std.proofs.lemmas.Bool.{lt-ltb, le-ltb, cases_lt}
-use Rattle.iso_defs.specs.Grid.{Grid, name_bound, cells}
+use Rattle.iso_defs.specs.Grid.{Grid, name_bound, cells, IsSolid}
 use Rattle.iso_defs.specs.Cell.{cell_edge, corner_point, edge_corner}
-use Rattle.iso_defs.specs.Outside.{IsSolid}
 use Rattle.iso_defs.specs.Scratch.{crossing_edges, number_of, vertex_names, vertex_name}
 use Rattle.triangle_laws.proofs.Lists.{In}
 use Rattle.mesh_laws.proofs.Names.{edge_in, name_of_edge, name_of_centre}

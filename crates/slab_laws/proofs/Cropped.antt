@@ -5,9 +5,7 @@ use Rattle.std.proofs.lemmas.Bool.{ltb-true}
 use Rattle.std.proofs.lemmas.Nat.{mod_below, div_below}
 use Rattle.std.proofs.Math.Nat.{div-lt_iff_lt-mul, mod-eq_of_lt}
 use Rattle.iso_defs.specs.Lists.{below}
-use Rattle.iso_defs.specs.Grid.{Grid, stride, coordinate, point_count, name_bound, has_next, is_edge, is_cell, cells, edge_upper}
-use Rattle.iso_defs.specs.Signs.{is_above, differ, is_crossing}
-use Rattle.iso_defs.specs.Outside.{IsSolid}
+use Rattle.iso_defs.specs.Grid.{Grid, stride, coordinate, point_count, name_bound, has_next, is_edge, is_cell, cells, edge_upper, is_above, differ, is_crossing, IsSolid}
 use Rattle.iso_defs.specs.Cell.{corner_point, edge_corner, cell_edge, cell_values, signs_of, joined_of, case_loops, case_triangles}
 use Rattle.iso_defs.specs.Place.{Position, place, mean, edge_coordinate, edge_position, centre_position}
 use Rattle.iso_defs.specs.Scratch.{vertex_name, on_corners, cell_loops, has_centre, centre_name, cell_centres, cell_triangles, crossing_edges, vertices, number_of}

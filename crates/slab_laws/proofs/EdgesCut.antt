@@ -3,9 +3,7 @@ use Rattle.std.proofs.Common.{◌≡◌, ℕ, ◌+◌, ◌-◌, ◌*◌, ◌/◌
 use Rattle.std.proofs.lemmas.List.{length-map}
 use Rattle.std.specs.List.{filter, range_with_len}
 use Rattle.std.proofs.lemmas.List.Elements.{filter-append}
-use Rattle.iso_defs.specs.Grid.{Grid, name_bound}
-use Rattle.iso_defs.specs.Signs.{is_crossing}
-use Rattle.iso_defs.specs.Outside.{IsSolid}
+use Rattle.iso_defs.specs.Grid.{Grid, name_bound, is_crossing, IsSolid}
 use Rattle.iso_defs.specs.Scratch.{crossing_edges}
 use Rattle.iso_defs.proofs.Ranges.{range_append}
 use Rattle.slab_laws.specs.Slabs.{slices, slice_size}

@@ -4,10 +4,8 @@ use Rattle.std.specs.List.{filter, flat_map, count_by, enumerate_from}
 use Rattle.std.proofs.lemmas.Bool.{lt-ltb, le-ltb, cases_lt}
 use Rattle.std.proofs.lemmas.List.Concat.{flat_map-append}
 use Rattle.iso_defs.specs.Lists.{below}
-use Rattle.iso_defs.specs.Grid.{Grid, name_bound, cells, stride}
+use Rattle.iso_defs.specs.Grid.{Grid, name_bound, cells, stride, is_crossing, IsSolid}
 use Rattle.iso_defs.specs.Cell.{cell_values, signs_of, joined_of, case_loops, corner_point}
-use Rattle.iso_defs.specs.Signs.{is_crossing}
-use Rattle.iso_defs.specs.Outside.{IsSolid}
 use Rattle.iso_defs.specs.Place.{Position, edge_position}
 use Rattle.iso_defs.specs.Scratch.{crossing_edges, cell_centres, number_of, cell_loops, has_centre, centre_name}
 use Rattle.triangle_laws.proofs.Lists.{In-filter}

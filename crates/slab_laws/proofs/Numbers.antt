@@ -3,9 +3,7 @@ use Rattle.std.proofs.Common.{◌≡◌, ℕ, ◌+◌, ◌-◌, ◌*◌, ◌<◌
 use Rattle.std.specs.List.{filter, flat_map, range_with_len, count_by}
 use Rattle.std.proofs.lemmas.Bool.{lt-ltb, le-ltb, cases_lt}
 use Rattle.std.proofs.lemmas.List.Elements.{filter-append}
-use Rattle.iso_defs.specs.Grid.{Grid, name_bound, cells}
-use Rattle.iso_defs.specs.Signs.{is_crossing}
-use Rattle.iso_defs.specs.Outside.{IsSolid}
+use Rattle.iso_defs.specs.Grid.{Grid, name_bound, cells, is_crossing, IsSolid}
 use Rattle.iso_defs.specs.Place.{Position, edge_position}
 use Rattle.iso_defs.specs.Scratch.{crossing_edges, cell_centres, number_of, cell_loops, has_centre}
 use Rattle.iso_defs.proofs.Ranges.{range_append}

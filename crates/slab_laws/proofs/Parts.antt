@@ -1,9 +1,8 @@
 -- What is above a cut, what centres add to names and places, and arithmetic that several files use.
 use Rattle.std.proofs.Common.{◌≡◌, ℕ, ◌+◌, ◌*◌, ◌/◌, ◌<◌, ℤ, List, map, arith}
 use Rattle.std.specs.List.{filter, flat_map}
-use Rattle.iso_defs.specs.Grid.{Grid, cells}
+use Rattle.iso_defs.specs.Grid.{Grid, cells, IsSolid}
 use Rattle.iso_defs.specs.Cell.{cell_edge}
-use Rattle.iso_defs.specs.Outside.{IsSolid}
 use Rattle.iso_defs.specs.Place.{Position, centre_position}
 use Rattle.iso_defs.specs.Scratch.{cell_loops, has_centre}
 use Rattle.slab_laws.specs.Slabs.{slices, slice_size}

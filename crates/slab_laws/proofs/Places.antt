@@ -4,9 +4,8 @@ use Rattle.std.specs.List.{filter, enumerate_from}
 use Rattle.std.proofs.lemmas.Bool.{and_parts, ltb-true}
 use Rattle.std.proofs.lemmas.List.{length-map}
 use Rattle.iso_defs.specs.Lists.{below}
-use Rattle.iso_defs.specs.Grid.{Grid, stride, coordinate, cells}
+use Rattle.iso_defs.specs.Grid.{Grid, stride, coordinate, cells, IsSolid}
 use Rattle.iso_defs.specs.Cell.{cell_edge, corner_point, edge_corner, signs_of, joined_of, case_loops}
-use Rattle.iso_defs.specs.Outside.{IsSolid}
 use Rattle.iso_defs.specs.Place.{Position, place, mean, edge_coordinate, edge_position, centre_position}
 use Rattle.iso_defs.specs.Scratch.{cell_loops, has_centre}
 use Rattle.iso_defs.proofs.Means.{mean_moved}

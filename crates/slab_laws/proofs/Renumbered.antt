@@ -3,8 +3,7 @@ use Rattle.std.proofs.Common.{◌≡◌, ℕ, ◌+◌, ◌-◌, ◌*◌, ◌/◌
 use Rattle.std.specs.List.{filter, flat_map, range_with_len, count_by}
 use Rattle.std.proofs.lemmas.Bool.{and_parts, ltb-true}
 use Rattle.iso_defs.specs.Lists.{below}
-use Rattle.iso_defs.specs.Grid.{Grid, name_bound, point_count, is_cell, cells}
-use Rattle.iso_defs.specs.Outside.{IsSolid}
+use Rattle.iso_defs.specs.Grid.{Grid, name_bound, point_count, is_cell, cells, IsSolid}
 use Rattle.iso_defs.specs.Scratch.{crossing_edges, number_of, vertex_names, cell_loops, has_centre}
 use Rattle.case_laws.proofs.Tests.{cell_passes}
 use Rattle.case_laws.proofs.Wedges.{centre_test, centre_all}

@@ -4,9 +4,7 @@ use Rattle.std.specs.List.{filter, range_with_len}
 use Rattle.std.proofs.lemmas.Bool.{lt-ltb, le-ltb, cases_lt}
 use Rattle.std.proofs.lemmas.Nat.{mod_below, div_below}
 use Rattle.std.proofs.Math.Nat.{mod-eq_of_lt}
-use Rattle.iso_defs.specs.Grid.{Grid, stride, coordinate, has_next, is_cell}
-use Rattle.iso_defs.specs.Signs.{is_above, differ, is_crossing}
-use Rattle.iso_defs.specs.Outside.{IsSolid}
+use Rattle.iso_defs.specs.Grid.{Grid, stride, coordinate, has_next, is_cell, is_above, differ, is_crossing, IsSolid}
 use Rattle.iso_defs.proofs.Coordinates.{x_moved, y_moved, z_moved}
 use Rattle.mesh_laws.proofs.Padded.{by_three}
 use Rattle.slab_laws.specs.Slabs.{slices, slice_size}

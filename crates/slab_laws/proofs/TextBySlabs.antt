@@ -5,9 +5,8 @@ use Rattle.std.specs.List.{flat_map, sum_by}
 use Rattle.std.proofs.lemmas.List.{length-append, length-map}
 use Rattle.std.proofs.lemmas.List.Concat.{flat_map-append, length-flat_map}
 use Rattle.std.proofs.lemmas.List.Sums.{sum_by-cons}
-use Rattle.iso_defs.specs.Grid.{Grid}
+use Rattle.iso_defs.specs.Grid.{Grid, IsSolid}
 use Rattle.iso_defs.specs.Cell.{Triangle}
-use Rattle.iso_defs.specs.Outside.{IsSolid}
 use Rattle.iso_defs.specs.Place.{Position, edge_position}
 use Rattle.iso_defs.specs.Scratch.{crossing_edges, vertices, triangles, on_corners}
 use Rattle.iso_defs.specs.Texts.{line, vertex_head, face_head, ply_text, obj_text}

@@ -5,9 +5,8 @@ use Rattle.std.specs.List.{flat_map}
 use Rattle.std.proofs.lemmas.List.{length-append}
 use Rattle.std.proofs.lemmas.List.Concat.{flat_map-append}
 use Rattle.iso_defs.specs.Lists.{below}
-use Rattle.iso_defs.specs.Grid.{Grid, point_count, is_cell, cells}
+use Rattle.iso_defs.specs.Grid.{Grid, point_count, is_cell, cells, IsSolid}
 use Rattle.iso_defs.specs.Cell.{Triangle, cell_signs, cell_joined, case_triangles, signs_of, joined_of}
-use Rattle.iso_defs.specs.Outside.{IsSolid}
 use Rattle.iso_defs.specs.Scratch.{crossing_edges, number_of, vertex_name, cell_triangles, triangles, on_corners}
 use Rattle.triangle_laws.proofs.Lists.{In, in_filter, in_map, in_flat_map}
 use Rattle.mesh_laws.proofs.Cells.{range_in}

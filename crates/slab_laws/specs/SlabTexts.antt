@@ -3,8 +3,7 @@ use Rattle.std.specs.Prelude.{◌≡◌, ℕ, ◌+◌, ◌≤◌, ℤ, Bool, Lis
 use Rattle.std.specs.List.{flat_map, sum, sum_by}
 use Rattle.iso_defs.specs.Bytes.{space, digit_three, lower_f, lower_v}
 use Rattle.iso_defs.specs.Cell.{Triangle}
-use Rattle.iso_defs.specs.Grid.{Grid}
-use Rattle.iso_defs.specs.Outside.{IsSolid}
+use Rattle.iso_defs.specs.Grid.{Grid, IsSolid}
 use Rattle.iso_defs.specs.Place.{Position}
 use Rattle.iso_defs.specs.Scratch.{vertices, triangles}
 use Rattle.iso_defs.specs.Texts.{line, position_text, numbers_text, vertex_head, face_head, ply_text, obj_text}

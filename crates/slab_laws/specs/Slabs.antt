@@ -2,11 +2,10 @@
 use Rattle.std.specs.Prelude.{◌≡◌, ℕ, ◌+◌, ◌-◌, ◌*◌, ◌<◌, ◌≤◌, ℤ, List, [], ◌∷◌, map, length, nat_lt, if◌then◌else◌}
 use Rattle.std.specs.List.{filter, flat_map}
 use Rattle.iso_defs.specs.Lists.{below}
-use Rattle.iso_defs.specs.Grid.{Grid, point_count, is_cell}
+use Rattle.iso_defs.specs.Grid.{Grid, point_count, is_cell, is_crossing}
 use Rattle.iso_defs.specs.Cell.{Triangle}
 use Rattle.iso_defs.specs.Place.{Position, edge_position}
 use Rattle.iso_defs.specs.Scratch.{crossing_edges, cell_centres, cell_triangles, number_of, on_corners}
-use Rattle.iso_defs.specs.Signs.{is_crossing}
 
 -- so many slices of a grid
 abbrev pub slices : Grid → ℕ → Grid

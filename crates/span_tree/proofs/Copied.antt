@@ -10,8 +10,7 @@ use Rattle.std.proofs.Math.Seq.{take-add, take-length}
 use Rattle.iso_defs.proofs.Ranges.{range_append}
 use Rattle.iso_defs.specs.Lists.{below}
 use Rattle.iso_defs.specs.Bricks.{brick_count, brick_point}
-use Rattle.iso_base.specs.Samples.{IsSample}
-use Rattle.iso_base.specs.Volume.{Volume, IsVolume, sample}
+use Rattle.iso_base.specs.Volume.{IsSample, Volume, IsVolume, sample}
 use Rattle.iso_base.proofs.VolumeLaws.{sample_in_range}
 use Rattle.brick_store.specs.Copies.{AreCopiesOf}
 use Rattle.brick_store.specs.Holding.{points_along}

@@ -1,8 +1,7 @@
 -- Bricks that lie in a box of one value.
 use Rattle.std.proofs.Common.{◌≡◌, ℕ, ◌<◌, subst, sym, arith, ℤ, pos}
 use Rattle.iso_defs.specs.Bricks.{brick_count, brick_point}
-use Rattle.iso_base.specs.Samples.{IsSample}
-use Rattle.iso_base.specs.Volume.{Volume, IsVolume, sample}
+use Rattle.iso_base.specs.Volume.{IsSample, Volume, IsVolume, sample}
 use Rattle.iso_base.proofs.VolumeLaws.{sample_in_range}
 use Rattle.voxel_list.specs.Areas.{Area}
 use Rattle.brick_store.specs.Boxes.{AreOne, IsOfBox}

@@ -3,8 +3,7 @@ use Rattle.std.proofs.Common.{◌≡◌, ℕ, zero, suc, ◌<◌, All, List, [],
 use Rattle.std.specs.List.{fold}
 use Rattle.std.specs.Int.{int_max, int_min}
 use Rattle.std.proofs.lemmas.List.{get_or-map}
-use Rattle.iso_base.specs.Samples.{IsSample}
-use Rattle.iso_base.specs.Volume.{sample}
+use Rattle.iso_base.specs.Volume.{IsSample, sample}
 use Rattle.triangle_laws.proofs.Lists.{In}
 use Rattle.span_tree.proofs.Active.{all_in, fold_keeps}
 use Rattle.span_tree.proofs.OneValue.{greatest_first, least_first}

@@ -7,7 +7,7 @@ use Rattle.std.proofs.lemmas.Int.{fold-int_max_bounds, fold-int_min_bounds}
 use Rattle.std.proofs.lemmas.List.FromFn.{get_or-map-range_with_len}
 use Rattle.iso_defs.specs.Grid.{Grid}
 use Rattle.iso_defs.proofs.Points.{index_of_point}
-use Rattle.iso_base.specs.Sizing.{IsGrid}
+use Rattle.iso_base.specs.Volume.{IsGrid, IsSample, Volume, IsVolume, sample}
 use Rattle.iso_base.specs.Points.{IsPoint, point_at}
 use Rattle.iso_base.specs.declared.point.Point.{Point}
 use Rattle.voxel_list.specs.Areas.{Area, IsArea}
@@ -15,8 +15,6 @@ use Rattle.brick_store.specs.Boxes.{AreOne, IsBox}
 use Rattle.brick_store.proofs.BoxPoints.{x_side, y_side, z_side}
 use Rattle.brick_store.proofs.BrickNumbers.{IsIn, brick_in, is_in}
 use Rattle.iso_defs.specs.Bricks.{brick_count, brick_point, bricks_along, in_brick}
-use Rattle.iso_base.specs.Samples.{IsSample}
-use Rattle.iso_base.specs.Volume.{Volume, IsVolume, sample}
 use Rattle.triangle_laws.proofs.Lists.{In}
 use Rattle.brick_store.specs.Copies.{first_brick_along}
 use Rattle.brick_store.specs.Holding.{brick_at}

@@ -6,8 +6,8 @@ use Rattle.std.proofs.lemmas.Bool.{and_parts, cases_Bool, cases_lt}
 use Rattle.std.proofs.lemmas.Int.{clamps, ints}
 use Rattle.std.proofs.lemmas.Nat.{pow_pos}
 use Rattle.std.proofs.Math.Nat.{mul-le-mul_left, pow-succ'}
-use Rattle.iso_defs.specs.Signs.{is_above}
-use Rattle.iso_base.specs.Shifted.{shifted}
+use Rattle.iso_defs.specs.Grid.{is_above}
+use Rattle.iso_base.specs.Volume.{shifted}
 use Rattle.span_tree.specs.Spans.{Span, joined, no_span, straddles}
 use Rattle.span_tree.specs.Nodes.{AreNodes, IsFirstLeaf, IsHigh, IsJoined, IsNextLeaf, node_at}
 

@@ -7,8 +7,7 @@ use Rattle.std.proofs.Math.ListN.{drop_of_length-le}
 use Rattle.std.proofs.lemmas.List.FromFn.{get_or-map-range_with_len, length-map-range_with_len, map-range_with_len_more}
 use Rattle.iso_defs.specs.Grid.{Grid}
 use Rattle.iso_defs.specs.Bricks.{brick_count, is_active}
-use Rattle.iso_base.specs.Shifted.{field}
-use Rattle.iso_base.specs.Volume.{Volume, IsVolume}
+use Rattle.iso_base.specs.Volume.{field, Volume, IsVolume}
 use Rattle.brick_store.specs.declared.numbering.BrickId.{BrickId}
 use Rattle.span_tree.specs.Spans.{IsRightFor, Span, Tree, no_span, span_at, span_of, spans_of, straddles}
 use Rattle.brick_store.specs.Next.{IsFirst, IsNext}

@@ -5,9 +5,7 @@ use Rattle.std.specs.Int.{int_max, int_min}
 use Rattle.iso_defs.specs.Lists.{below}
 use Rattle.iso_defs.specs.Grid.{Grid}
 use Rattle.iso_defs.specs.Bricks.{brick_count, brick_point, brick_start}
-use Rattle.iso_base.specs.Samples.{IsSample}
-use Rattle.iso_base.specs.Shifted.{is_above_level}
-use Rattle.iso_base.specs.Volume.{Volume, sample}
+use Rattle.iso_base.specs.Volume.{IsSample, is_above_level, Volume, sample}
 use Rattle.voxel_list.specs.Areas.{Area}
 use Rattle.brick_store.specs.Holding.{points_along}
 

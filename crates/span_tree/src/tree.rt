@@ -3,8 +3,7 @@
 ghost use Rattle.std.specs.Prelude.{◌≡◌, ℕ, ◌+◌, ◌*◌, ◌^◌, ◌<◌, ◌≤◌, IfOk, IfSome, length, slice_set};
 ghost use Rattle.iso_defs.specs.Bricks.{brick_count, is_active};
 ghost use Rattle.iso_base.specs.Points.{IsPoint};
-ghost use Rattle.iso_base.specs.Shifted.{field};
-ghost use Rattle.iso_base.specs.Volume.{IsVolume, Volume};
+ghost use Rattle.iso_base.specs.Volume.{field, IsVolume, Volume};
 ghost use Rattle.span_tree.specs.Spans.{IsRightFor, no_span, span_at, span_of, straddles};
 ghost use Rattle.brick_store.specs.Boxes.{AreOne};
 ghost use Rattle.brick_store.specs.Next.{IsNext};

@@ -14,7 +14,7 @@ use Rattle.iso_defs.specs.Cell.{cell_signs}
 use Rattle.iso_defs.specs.Bricks.{brick_cell, brick_count, brick_start, bricks_along, cell_case, entries, has_cell, is_active_cell, is_mixed}
 use Rattle.iso_defs.proofs.Points.{x_index, y_index, z_index}
 use Rattle.iso_defs.proofs.Ranges.{range_append}
-use Rattle.iso_base.specs.Sizing.{IsGrid}
+use Rattle.iso_base.specs.Volume.{IsGrid}
 use Rattle.mesh_rows.specs.Counts.{span}
 use Rattle.mesh_rows.proofs.SpanLaws.{length_more, span_none, span_not, span_one}
 use Rattle.brick_rows.proofs.Uptos.{in_eights, upto, upto_same, upto_split, upto_swap, zeros}

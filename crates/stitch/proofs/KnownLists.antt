@@ -5,9 +5,8 @@ use Rattle.std.proofs.lemmas.List.FromFn.{length-range_with_len}
 use Rattle.std.proofs.lemmas.List.Sums.{count_by-le-length, length-filter}
 use Rattle.std.proofs.Math.Nat.{mul-le-mul_left}
 use Rattle.std.specs.List.{range_with_len}
-use Rattle.iso_defs.specs.Grid.{Grid}
+use Rattle.iso_defs.specs.Grid.{Grid, is_crossing}
 use Rattle.iso_defs.specs.Rows.{row_count}
-use Rattle.iso_defs.specs.Signs.{is_crossing}
 use Rattle.crossing_edges.specs.Flags.{names_in, places_in}
 use Rattle.flat_mesh.specs.Lattice.{Leveled, heights}
 use Rattle.flat_mesh.specs.Rows.{row_start}

@@ -1,5 +1,5 @@
 //! The mesh of a volume, row by row.
-ghost use Rattle.iso_base.specs.Shifted.{field};
+ghost use Rattle.iso_base.specs.Volume.{field};
 ghost use Rattle.stitch.specs.Joining.{JoinsRows};
 
 use fan_laws::mesh_by_rows;

@@ -2,7 +2,7 @@
 ghost use Rattle.std.specs.Prelude.{◌≡◌, ◌+◌, ◌*◌, ◌≤◌, IfOk, is_some};
 ghost use Rattle.iso_defs.specs.Bricks.{brick_count};
 ghost use Rattle.iso_defs.specs.Texts.{scratch_ply};
-ghost use Rattle.iso_base.specs.Shifted.{field};
+ghost use Rattle.iso_base.specs.Volume.{field};
 ghost use Rattle.byte_streams.specs.Seen.{Puts};
 ghost use Rattle.flat_mesh.specs.Lattice.{heights};
 ghost use Rattle.flat_mesh.specs.Mesh.{mesh_of};

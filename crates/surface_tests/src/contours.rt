@@ -2,7 +2,7 @@
 
 ghost use Rattle.std.specs.Prelude.{◌<◌, IsTrue};
 ghost use Rattle.iso_defs.specs.Grid.{Grid};
-ghost use Rattle.iso_base.specs.Samples.{IsSample};
+ghost use Rattle.iso_base.specs.Volume.{IsSample};
 
 use byte_streams::MemSink;
 use iso_base::{Level, Sizes};

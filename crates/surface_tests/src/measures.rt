@@ -2,10 +2,9 @@
 
 ghost use Rattle.std.specs.Prelude.{◌≡◌, ◌^◌, ◌<◌, ◌↔◌, IsTrue, None, IfOk, IfSome, length};
 ghost use Rattle.iso_defs.specs.Grid.{Grid};
-ghost use Rattle.iso_base.specs.Samples.{IsOfKind};
-ghost use Rattle.iso_base.specs.Volume.{Volume};
+ghost use Rattle.iso_base.specs.Volume.{IsOfKind, Volume};
 ghost use Rattle.iso_base.specs.declared.kind.SampleKind.TheVariants.{U8};
-ghost use Rattle.measure.specs.Positions.{IsWithin, vector_of};
+ghost use Rattle.measure.specs.Measures.{IsWithin, vector_of};
 
 use crate::grids::{sizes_of, three_a_side, two_a_side};
 use crate::lists::{has_three_corners, surface_of};

@@ -1,6 +1,4 @@
 pub mod Lines
 pub mod Words
 pub mod Numbers
-pub mod Levels
 pub mod Parts
-pub mod Refusals

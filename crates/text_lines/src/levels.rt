@@ -2,7 +2,7 @@
 
 ghost use Rattle.std.specs.Prelude.{◌≡◌, ◌<◌, ◌^◌, ◌==◌, IfSome, pos, neg_ℤ, position};
 ghost use Rattle.iso_defs.specs.Bytes.{dot};
-ghost use Rattle.text_lines.specs.Levels.{decimals_value, level_number_of, thousandths_value};
+ghost use Rattle.text_lines.specs.Numbers.{decimals_value, level_number_of, thousandths_value};
 
 use crate::numbers::digits;
 

@@ -6,7 +6,7 @@ use Rattle.std.proofs.lemmas.List.FromFn.{fill_by_all}
 use Rattle.std.proofs.Math.Seq.{drop-append-add}
 use Rattle.std.proofs.Math.Nat.{mul-suc}
 use Rattle.byteorder.specs.Numbers.{length-bytes_low_first, little_number-reads_back}
-use Rattle.iso_base.specs.Samples.{IsOfKind, width_of}
+use Rattle.iso_base.specs.Volume.{IsOfKind, width_of}
 use Rattle.iso_base.specs.declared.kind.SampleKind.{SampleKind}
 use Rattle.iso_base.specs.SampleBytes.{as_kind, bits_of, number_in, sample_bytes, sample_of, samples_in, samples_text}
 use Rattle.text_samples.proofs.KindBits.{bits_fit, kind_bits}

@@ -3,7 +3,7 @@ use Rattle.std.proofs.Common.{◌≡◌, ℕ, ◌+◌, ◌-◌, ◌*◌, ◌≤�
 use Rattle.std.proofs.lemmas.Bool.Decides.{nat_tests}
 use Rattle.std.proofs.Math.Seq.{take-length}
 use Rattle.text_samples.specs.declared.hex.Wanted.{Wanted}
-use Rattle.text_samples.specs.Words.{is_separator}
+use Rattle.text_samples.specs.Text.{is_separator}
 use Rattle.text_samples.specs.Hex.{hex_value}
 use Rattle.text_samples.specs.HexScan.{digit_read, byte_read}
 

@@ -9,14 +9,14 @@ use Rattle.std.proofs.lemmas.List.Elements.{All-nil}
 use Rattle.std.proofs.Math.Seq.{drop-append-add}
 use Rattle.std.specs.List.{range_with_len}
 use Rattle.byteorder.specs.Endian.{big_from, little_from}
-use Rattle.iso_base.specs.Samples.{IsOfKind, width_of}
+use Rattle.iso_base.specs.Volume.{IsOfKind, width_of}
 use Rattle.iso_base.specs.declared.kind.SampleKind.{SampleKind}
 use Rattle.text_samples.specs.declared.fault.SampleFault.{SampleFault}
 use Rattle.text_samples.specs.declared.fault.SampleFault.TheVariants.{Bad, Short, Memory}
 use Rattle.text_samples.specs.declared.hex.Wanted.{Wanted}
-use Rattle.text_lines.specs.Refusals.{◌>>=◌}
+use Rattle.text_lines.specs.Lines.{◌>>=◌}
 use Rattle.text_samples.specs.Answers.{Fails}
-use Rattle.text_samples.specs.Words.{is_separator}
+use Rattle.text_samples.specs.Text.{is_separator}
 use Rattle.text_samples.specs.Hex.{Mark, marks_in, hex_value, digits_said, paired, after_marks, digits_needed, hex_samples}
 use Rattle.text_samples.specs.HexScan.{digit_of, digit_read, byte_read, bytes_read, number_read, sample_read}
 use Rattle.iso_base.specs.SampleBytes.{as_kind, number_in, sample_of, samples_in}

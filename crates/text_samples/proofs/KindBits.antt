@@ -2,7 +2,7 @@
 use Rattle.std.proofs.Common.{◌≡◌, ◌^◌, ◌<◌, ltb, ℤ, pos, negsuc, refl, arith, inl, inr}
 use Rattle.std.proofs.lemmas.Bool.{cases_Bool, ltb-true, ltb-false}
 use Rattle.std.proofs.lemmas.Int.{ints}
-use Rattle.iso_base.specs.Samples.{IsOfKind, width_of}
+use Rattle.iso_base.specs.Volume.{IsOfKind, width_of}
 use Rattle.iso_base.specs.declared.kind.SampleKind.{SampleKind}
 use Rattle.iso_base.specs.declared.kind.SampleKind.TheVariants.{I8, U8, I16, U16, I32, U32}
 use Rattle.iso_base.specs.SampleBytes.{as_kind, bits_of}

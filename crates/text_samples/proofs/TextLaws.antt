@@ -4,13 +4,12 @@ use Rattle.std.proofs.lemmas.Bool.{le-ltb, lt-ltb}
 use Rattle.std.proofs.lemmas.Bool.Decides.{nat_tests}
 use Rattle.std.proofs.lemmas.List.{append_assoc, append-nil}
 use Rattle.std.proofs.lemmas.List.Elements.{All-nil}
-use Rattle.iso_base.specs.Samples.{IsOfKind}
+use Rattle.iso_base.specs.Volume.{IsOfKind}
 use Rattle.iso_base.specs.declared.kind.SampleKind.{SampleKind}
 use Rattle.text_samples.specs.declared.fault.SampleFault.{SampleFault}
 use Rattle.text_samples.specs.declared.fault.SampleFault.TheVariants.{Bad, Short}
-use Rattle.text_samples.specs.Words.{Word, words_in}
-use Rattle.text_lines.specs.Refusals.{◌>>=◌}
-use Rattle.text_samples.specs.Text.{sample_said, samples_said, after_words, text_samples}
+use Rattle.text_samples.specs.Text.{Word, words_in, sample_said, samples_said, after_words, text_samples}
+use Rattle.text_lines.specs.Lines.{◌>>=◌}
 
 -- what is read on from a place: these samples stand before it, and so many are still wanted
 unfoldable pub onward : SampleKind → List ℤ → ℕ → ℕ → List ℕ → List Word → Result (List ℤ × ℕ) SampleFault

@@ -3,7 +3,7 @@ use Rattle.std.proofs.Common.{◌≡◌, ℕ, zero, suc, true, false, eqb, List,
 use Rattle.std.specs.Prelude.{position}
 use Rattle.std.proofs.lemmas.Bool.{false≢true, eqb-true}
 use Rattle.text_lines.proofs.Places.{decide, FirstAt, NonePass, first_at, none_pass}
-use Rattle.text_samples.specs.Words.{is_separator, longer, words_in, skip_separators}
+use Rattle.text_samples.specs.Text.{is_separator, longer, words_in, skip_separators}
 
 words_skip : (bs : List ℕ) → words_in (skip_separators bs) ≡ words_in bs
 words_skip [] = refl

@@ -1,6 +1,6 @@
 -- What the readers of samples answer: a value, or the first refusal.
 use Rattle.std.specs.Prelude.{Bool, true, false, Result}
-use Rattle.text_lines.specs.Refusals.{FailsBut}
+use Rattle.text_lines.specs.Lines.{FailsBut}
 use Rattle.text_samples.specs.declared.fault.SampleFault.{SampleFault}
 use Rattle.text_samples.specs.declared.fault.SampleFault.TheVariants.{Memory}
 

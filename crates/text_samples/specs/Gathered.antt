@@ -1,6 +1,6 @@
 -- What samples are read into, as the code holds it. No public definition rests on it.
 use Rattle.std.specs.Prelude.{◌≡◌, ℕ, ℤ, List, length, All, Result, Ok}
-use Rattle.iso_base.specs.Samples.{IsOfKind}
+use Rattle.iso_base.specs.Volume.{IsOfKind}
 use Rattle.iso_base.specs.declared.kind.SampleKind.{SampleKind}
 use Rattle.text_samples.specs.declared.fault.SampleFault.{SampleFault}
 

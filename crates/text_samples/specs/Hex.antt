@@ -1,15 +1,14 @@
 -- Samples as the hex digits of their bytes.
-use Rattle.std.specs.Prelude.{ℕ, zero, suc, ◌+◌, ◌-◌, ◌*◌, ◌/◌, Bool, ◌&&◌, nat_le, nat_lt, ℤ, List, [], ◌∷◌, map, take, length, Option, Some, None}
-use Rattle.std.specs.Prelude.{ok_or, Result, Ok, Err, if◌then◌else◌}
+use Rattle.std.specs.Prelude.{ℕ, zero, suc, ◌+◌, ◌-◌, ◌*◌, ◌/◌, Bool, ◌&&◌, nat_le, nat_lt, ℤ, List, [], ◌∷◌, map, take, length, Option, Some, None, ok_or, Result, Ok, Err, if◌then◌else◌}
 use Rattle.std.specs.List.{enumerate_from}
 use Rattle.iso_defs.specs.Bytes.{digit_zero, digit_nine, upper_a, upper_f, lower_a, lower_f}
-use Rattle.iso_base.specs.Samples.{width_of}
+use Rattle.iso_base.specs.Volume.{width_of}
 use Rattle.iso_base.specs.declared.kind.SampleKind.{SampleKind}
 use Rattle.text_samples.specs.declared.fault.SampleFault.{SampleFault}
 use Rattle.text_samples.specs.declared.fault.SampleFault.TheVariants.{Bad, Short}
-use Rattle.text_lines.specs.Refusals.{◌>>=◌, all_or_first}
+use Rattle.text_lines.specs.Lines.{◌>>=◌, all_or_first}
 use Rattle.iso_base.specs.SampleBytes.{samples_in}
-use Rattle.text_samples.specs.Words.{is_separator}
+use Rattle.text_samples.specs.Text.{is_separator}
 
 -- a byte that is no separator, and the bytes after it
 pub record Mark : Type 0 where

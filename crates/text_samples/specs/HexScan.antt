@@ -1,11 +1,11 @@
 -- Hex digits as the code reads them, one after the other. No public definition rests on it.
 use Rattle.std.specs.Prelude.{ℕ, zero, suc, ◌+◌, ◌*◌, ◌/◌, Bool, ℤ, List, [], ◌∷◌, ok_or, Result, Ok, Err}
-use Rattle.iso_base.specs.Samples.{width_of}
+use Rattle.iso_base.specs.Volume.{width_of}
 use Rattle.iso_base.specs.declared.kind.SampleKind.{SampleKind}
 use Rattle.text_samples.specs.declared.fault.SampleFault.{SampleFault}
 use Rattle.text_samples.specs.declared.fault.SampleFault.TheVariants.{Bad, Short}
 use Rattle.text_samples.specs.declared.hex.Wanted.{Wanted}
-use Rattle.text_lines.specs.Refusals.{◌>>=◌}
+use Rattle.text_lines.specs.Lines.{◌>>=◌}
 use Rattle.text_samples.specs.Hex.{Mark, marks_in, hex_value}
 use Rattle.iso_base.specs.SampleBytes.{as_kind, number_in}
 

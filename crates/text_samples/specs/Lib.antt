@@ -1,4 +1,3 @@
-pub mod Words
 pub mod Answers
 pub mod Text
 pub mod Hex

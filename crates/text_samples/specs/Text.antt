@@ -1,14 +1,45 @@
 -- Samples as decimal numbers between separators.
-use Rattle.std.specs.Prelude.{ℕ, zero, suc, ◌&&◌, nat_lt, int_le, ℤ, List, [], ◌∷◌, map, take, length, Option, Some, None, option_and_then, ok_or}
-use Rattle.std.specs.Prelude.{Result, Ok, Err, if◌then◌else◌}
+use Rattle.std.specs.Prelude.{ℕ, Bool, true, ◌==◌, ◌&&◌, ◌||◌, nat_le, List, [], ◌∷◌, if◌then◌else◌, zero, suc, nat_lt, int_le, ℤ, map, take, length, Option, Some, None, option_and_then, ok_or, Result, Ok, Err}
+use Rattle.iso_defs.specs.Bytes.{tab, carriage_return, space, comma}
 use Rattle.std.specs.List.{enumerate_from}
-use Rattle.iso_base.specs.Samples.{least_of, greatest_of}
+use Rattle.iso_base.specs.Volume.{least_of, greatest_of}
 use Rattle.iso_base.specs.declared.kind.SampleKind.{SampleKind}
 use Rattle.text_lines.specs.Numbers.{number_of}
 use Rattle.text_samples.specs.declared.fault.SampleFault.{SampleFault}
 use Rattle.text_samples.specs.declared.fault.SampleFault.TheVariants.{Bad, Short}
-use Rattle.text_samples.specs.Words.{Word, words_in}
-use Rattle.text_lines.specs.Refusals.{◌>>=◌, all_or_first}
+use Rattle.text_lines.specs.Lines.{◌>>=◌, all_or_first}
+
+-- a space, a tab, a line feed, a vertical tab, a form feed, a return or a comma
+abbrev pub is_separator : ℕ → Bool
+is_separator b = b == space || (nat_le tab b && nat_le b carriage_return || b == comma)
+
+-- a word, and the bytes after it
+pub record Word : Type 0 where
+  pub text : List ℕ
+  pub after : List ℕ
+
+-- whether a word ends here
+abbrev pub is_end : List ℕ → Bool
+is_end [] = true
+is_end (b ∷ bs) = is_separator b
+
+-- a byte stands before the first word
+abbrev pub longer : ℕ → List Word → List Word
+longer b [] = []
+longer b (w ∷ ws) = record { text = b ∷ w.text; after = w.after } ∷ ws
+
+-- the runs of bytes that are no separators
+abbrev pub words_in : List ℕ → List Word
+words_in [] = []
+words_in (b ∷ bs) =
+    if is_separator b then words_in bs else
+    if is_end bs then record { text = b ∷ []; after = bs } ∷ words_in bs else
+    longer b (words_in bs)
+
+-- without the separators at the front
+abbrev pub skip_separators : List ℕ → List ℕ
+skip_separators [] = []
+skip_separators (b ∷ bs) = if is_separator b then skip_separators bs else b ∷ bs
 
 -- the number where it is a sample of the kind
 abbrev pub if_of_kind : SampleKind → ℤ → Option ℤ

@@ -1,6 +1,6 @@
 //! The bits of samples.
 ghost use Rattle.std.specs.Prelude.{◌≡◌};
-ghost use Rattle.iso_base.specs.Samples.{IsOfKind};
+ghost use Rattle.iso_base.specs.Volume.{IsOfKind};
 ghost use Rattle.iso_base.specs.SampleBytes.{bits_of};
 
 use iso_base::SampleKind;

@@ -2,9 +2,8 @@
 //!
 //! Digits are decoded without unpredictable branches: three choices side by side, and both digits of a byte are looked
 //! at first.
-ghost use Rattle.std.specs.Prelude.{◌≡◌, ℕ, true, false, nat_le, nat_lt, if◌then◌else◌, Some, None, ◌&&◌, ◌-◌, ◌<◌, ◌≤◌, ◌+◌, ◌*◌, ◌^◌, ◌∷◌, []};
-ghost use Rattle.std.specs.Prelude.{length, Ok, IfOk, IfErr, IfSome, MatchOption, All};
-ghost use Rattle.iso_base.specs.Samples.{IsOfKind, width_of};
+ghost use Rattle.std.specs.Prelude.{◌≡◌, ℕ, true, false, nat_le, nat_lt, if◌then◌else◌, Some, None, ◌&&◌, ◌-◌, ◌<◌, ◌≤◌, ◌+◌, ◌*◌, ◌^◌, ◌∷◌, [], length, Ok, IfOk, IfErr, IfSome, MatchOption, All};
+ghost use Rattle.iso_base.specs.Volume.{IsOfKind, width_of};
 ghost use Rattle.text_samples.specs.Answers.{Fails};
 ghost use Rattle.text_samples.specs.Gathered.{IsReadInto};
 ghost use Rattle.iso_base.specs.SampleBytes.{as_kind, number_in, samples_in};

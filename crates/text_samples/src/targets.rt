@@ -2,7 +2,7 @@
 //!
 //! Text and hex samples are each read by one body, over a trait of what they are gathered into: a list, or bytes.
 ghost use Rattle.std.specs.Prelude.{◌≡◌, ◌≤◌, ◌++◌, ◌∷◌, [], ℤ, IfOk, List};
-ghost use Rattle.iso_base.specs.Samples.{IsOfKind};
+ghost use Rattle.iso_base.specs.Volume.{IsOfKind};
 ghost use Rattle.iso_base.specs.declared.kind.SampleKind.{SampleKind};
 ghost use Rattle.iso_base.specs.SampleBytes.{samples_text};
 

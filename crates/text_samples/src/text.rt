@@ -1,6 +1,6 @@
 //! Samples as decimal numbers.
 ghost use Rattle.std.specs.Prelude.{◌≡◌, ◌≤◌, ◌+◌, ◌*◌, false, length, Ok, IfOk, IfErr, IfSome, All};
-ghost use Rattle.iso_base.specs.Samples.{IsOfKind, width_of};
+ghost use Rattle.iso_base.specs.Volume.{IsOfKind, width_of};
 ghost use Rattle.text_samples.specs.Answers.{Fails};
 ghost use Rattle.text_samples.specs.Gathered.{IsReadInto};
 ghost use Rattle.iso_base.specs.SampleBytes.{samples_in};

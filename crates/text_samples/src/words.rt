@@ -1,6 +1,6 @@
 //! The words of a text of samples.
 ghost use Rattle.std.specs.Prelude.{◌≡◌, ◌∷◌, [], position, MatchOption};
-ghost use Rattle.text_samples.specs.Words.{is_separator, skip_separators, words_in};
+ghost use Rattle.text_samples.specs.Text.{is_separator, skip_separators, words_in};
 
 /// Whether a byte stands between words: a space, a tab, a line feed, a vertical tab, a form feed, a return or a comma.
 #[inline(always)]

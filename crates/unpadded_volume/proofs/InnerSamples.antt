@@ -6,12 +6,9 @@ use Rattle.std.proofs.Math.Nat.{mul-le-mul_left}
 use Rattle.iso_defs.specs.Grid.{Grid, index, coordinate, point_count}
 use Rattle.iso_defs.proofs.Points.{x_index, y_index, z_index, index_in}
 use Rattle.iso_base.specs.Points.{index_of}
-use Rattle.iso_base.specs.Samples.{IsOfKind}
-use Rattle.iso_base.specs.Sizing.{IsGrid}
-use Rattle.iso_base.specs.Volume.{Volume, IsVoxels, IsVolume, inner_grid, layer, sample}
+use Rattle.iso_base.specs.Volume.{IsOfKind, IsGrid, Volume, IsVoxels, IsVolume, inner_grid, layer, sample}
 use Rattle.iso_base.specs.declared.point.Point.{Point}
-use Rattle.unpadded_volume.specs.Places.{IsInside}
-use Rattle.unpadded_volume.specs.Unpadded.{inner_samples, inner_voxels, stored_index}
+use Rattle.unpadded_volume.specs.Unpadded.{IsInside, inner_samples, inner_voxels, stored_index}
 use Rattle.unpadded_volume.proofs.Insides.{inside_is_inner}
 
 pub length-inner_samples : (v : Volume) → length (inner_samples v) ≡ point_count (inner_grid v)

@@ -2,14 +2,13 @@
 use Rattle.std.proofs.Common.{◌≡◌, ◌+◌, ◌-◌, ◌<◌, ◌≤◌, true, false, refl, sym, ap, subst, arith, ne_eqb, eqb, ℤ}
 use Rattle.std.specs.Prelude.{Option, Some, None, IfSome, MatchOption, ◌&&◌, nat_le, not}
 use Rattle.std.proofs.lemmas.Bool.{and_parts, leb-true}
-use Rattle.iso_defs.specs.Grid.{Grid, coordinate}
-use Rattle.iso_defs.specs.Outside.{is_outer}
+use Rattle.iso_defs.specs.Grid.{Grid, coordinate, is_outer}
 use Rattle.iso_defs.proofs.Points.{x_index, y_index, z_index}
 use Rattle.iso_base.specs.Points.{index_of}
 use Rattle.iso_base.specs.declared.point.Point.{Point}
 use Rattle.iso_base.specs.Volume.{Volume, IsInner, layer}
 use Rattle.voxel_list.specs.Areas.{Area, is_within}
-use Rattle.unpadded_volume.specs.Places.{IsInside}
+use Rattle.unpadded_volume.specs.Unpadded.{IsInside}
 
 inner : (g : Grid) (p : Point) → 1 ≤ p.x → p.x + 1 < g.nx → 1 ≤ p.y → p.y + 1 < g.ny → 1 ≤ p.z → p.z + 1 < g.nz → is_outer g (index_of g p) ≡ false
 inner g p lx hx ly hy lz hz =

@@ -2,8 +2,7 @@
 use Rattle.std.proofs.Common.{◌≡◌, Bool, [], Ok, refl, sym, ap, ◌∙◌, le-ltb}
 use Rattle.std.proofs.lemmas.List.{append-nil}
 use Rattle.iso_defs.specs.Grid.{Grid, point_count}
-use Rattle.iso_base.specs.Sizing.{IsGrid, sized}
-use Rattle.iso_base.specs.Volume.{Volume, IsVolume}
+use Rattle.iso_base.specs.Volume.{IsGrid, sized, Volume, IsVolume}
 use Rattle.nrrd_read.specs.Nrrd.{nrrd_of}
 use Rattle.nrrd.specs.Writing as nrrd
 use Rattle.nrrd.proofs.RoundTrip.{coded_again, save_again}

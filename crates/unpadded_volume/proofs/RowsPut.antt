@@ -8,7 +8,7 @@ use Rattle.std.proofs.lemmas.Grind.{flat_map-append}
 use Rattle.std.proofs.Math.Nat.{mul-le-mul_left}
 use Rattle.byte_streams.specs.Seen.{Tape, Puts}
 use Rattle.byte_streams.proofs.Putting.{HasPut, has_none, has_put, has_all, put_failed}
-use Rattle.iso_base.specs.Samples.{IsOfKind}
+use Rattle.iso_base.specs.Volume.{IsOfKind}
 use Rattle.iso_base.specs.declared.kind.SampleKind.{SampleKind}
 use Rattle.iso_base.specs.SampleBytes.{sample_bytes}
 use Rattle.nrrd.specs.Writing.{samples_text}

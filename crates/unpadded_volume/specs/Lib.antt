@@ -1,4 +1,3 @@
-pub mod Places
 pub mod Unpadded
 pub mod Rows
 pub mod Held

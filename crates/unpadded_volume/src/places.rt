@@ -2,7 +2,7 @@
 
 ghost use Rattle.std.specs.Prelude.{◌≡◌, ◌+◌, ◌<◌, ◌≤◌, IfSome};
 ghost use Rattle.iso_base.specs.Volume.{inner_grid, layer};
-ghost use Rattle.unpadded_volume.specs.Places.{IsInside, place_of, plane_of, stored_coordinate};
+ghost use Rattle.unpadded_volume.specs.Unpadded.{IsInside, place_of, plane_of, stored_coordinate};
 
 use brick_store::BrickStore;
 use iso_base::{Point, Sizes};
@@ -41,7 +41,7 @@ pub fn plane_in(store: &BrickStore, k: i64) -> Option<u32>
 }
 
 /// The stored point of coordinates, where the volume without its pad has it.
-#[tactic(auto, unfolding(crate::specs::Places::place_of))]
+#[tactic(auto, unfolding(crate::specs::Unpadded::place_of))]
 pub fn place_in(store: &BrickStore, x: i64, y: i64, z: i64) -> Option<Point>
     ensures place { result ≡ place_of store.now (x, y, z) }
     ensures inside { IfSome result (IsInside store.now) }

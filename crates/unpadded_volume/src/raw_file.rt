@@ -1,8 +1,7 @@
 //! A volume without its pad, as a file of a shelf.
 
 ghost use Rattle.std.specs.Prelude.{◌≡◌, ◌⊎◌, ◌+◌, ◌-◌, ◌≤◌, length, map, take, All, Ok, IfOk, OnErr};
-ghost use Rattle.iso_base.specs.Volume.{inner_grid};
-ghost use Rattle.iso_base.specs.Samples.{IsOfKind};
+ghost use Rattle.iso_base.specs.Volume.{inner_grid, IsOfKind};
 ghost use Rattle.byte_streams.specs.Seen.{Puts};
 ghost use Rattle.iso_io.specs.Shelves.{Stores};
 ghost use Rattle.nrrd_read.specs.Nrrd.{nrrd_of};

@@ -1,8 +1,7 @@
 //! A volume without its pad in print, as a file of a shelf: a row of samples in a line.
 
 ghost use Rattle.std.specs.Prelude.{◌≡◌, ◌+◌, ◌*◌, ◌<◌, ◌≤◌, length, map, take, drop, flat_map, All, Ok, IfOk};
-ghost use Rattle.iso_base.specs.Volume.{inner_grid};
-ghost use Rattle.iso_base.specs.Samples.{IsOfKind};
+ghost use Rattle.iso_base.specs.Volume.{inner_grid, IsOfKind};
 ghost use Rattle.byte_streams.specs.Seen.{Puts, Stages};
 ghost use Rattle.iso_io.specs.Shelves.{Stores};
 ghost use Rattle.nrrd_read.specs.Nrrd.{nrrd_of};

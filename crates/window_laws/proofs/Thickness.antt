@@ -2,8 +2,7 @@
 use Rattle.std.proofs.Common.{◌≡◌, ltb, inl, inr, refl, sym, ◌∙◌}
 use Rattle.std.specs.Prelude.{None, Some}
 use Rattle.std.proofs.lemmas.Bool.{cases_Bool, ltb-false}
-use Rattle.iso_defs.specs.Grid.{Grid}
-use Rattle.iso_defs.specs.Outside.{IsThick}
+use Rattle.iso_defs.specs.Grid.{Grid, IsThick}
 use Rattle.window_laws.specs.Windows.{thin_axis}
 
 pub thick_of : (g : Grid) → thin_axis g ≡ None → IsThick g

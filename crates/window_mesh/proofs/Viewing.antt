@@ -5,9 +5,7 @@ use Rattle.std.proofs.lemmas.List.FromFn.{get_or-map-range_with_len, length-map-
 use Rattle.iso_defs.specs.Grid.{Grid, coordinate, index, point_count}
 use Rattle.iso_defs.proofs.Points.{x_index, y_index, z_index}
 use Rattle.iso_base.specs.Points.{IsPoint, index_of}
-use Rattle.iso_base.specs.Samples.{IsSample}
-use Rattle.iso_base.specs.Sizing.{IsGrid}
-use Rattle.iso_base.specs.Volume.{IsVolume, sample}
+use Rattle.iso_base.specs.Volume.{IsSample, IsGrid, IsVolume, sample}
 use Rattle.iso_base.specs.declared.point.Point.{Point}
 use Rattle.iso_base.proofs.VolumeLaws.{grid_is_solid, sample_in_range}
 use Rattle.samples.proofs.Rows.{row_in}

@@ -5,7 +5,7 @@ use Rattle.std.proofs.Math.Nat.{mul-le-mul_left, mul-le-mul_right}
 use Rattle.std.proofs.lemmas.Bool.{cases_Bool, le-ltb}
 use Rattle.iso_defs.specs.Grid.{Grid, point_count, size}
 use Rattle.iso_base.specs.Points.{IsPoint}
-use Rattle.iso_base.specs.Sizing.{IsGrid, sized}
+use Rattle.iso_base.specs.Volume.{IsGrid, sized}
 use Rattle.iso_base.specs.declared.point.Point.{Point}
 use Rattle.iso_base.specs.declared.sizes.SizeFault.{SizeFault}
 use Rattle.iso_base.specs.declared.sizes.SizeFault.TheVariants.{TooThin, AxisTooLong, TooMany}

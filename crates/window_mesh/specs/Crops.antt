@@ -2,9 +2,7 @@
 use Rattle.std.specs.Prelude.{◌≡◌, ℕ, ◌+◌, ◌-◌, ◌<◌, true, List, ℤ, map, None, Some}
 use Rattle.iso_defs.specs.Lists.{below}
 use Rattle.iso_defs.specs.Grid.{Grid, point_count, size}
-use Rattle.iso_base.specs.Samples.{IsOfKind}
-use Rattle.iso_base.specs.Shifted.{field}
-use Rattle.iso_base.specs.Volume.{Volume, sample}
+use Rattle.iso_base.specs.Volume.{IsOfKind, field, Volume, sample}
 use Rattle.iso_base.specs.declared.fault.BenchFault.{BenchFault}
 use Rattle.iso_base.specs.declared.fault.BenchFault.TheVariants as refusals
 use Rattle.voxel_list.specs.Areas.{Area, is_in_area}

@@ -1,7 +1,7 @@
 //! The mesh of a window.
 ghost use Rattle.std.specs.Prelude.{◌≡◌, None, IfErr, IfOk, OnOk};
 ghost use Rattle.iso_base.specs.Points.{IsPoint};
-ghost use Rattle.iso_base.specs.Shifted.{field};
+ghost use Rattle.iso_base.specs.Volume.{field};
 ghost use Rattle.flat_mesh.specs.Mesh.{mesh_of};
 ghost use Rattle.window_laws.specs.Windows.{thin_axis};
 ghost use Rattle.window_mesh.specs.Crops.{IsBoxOfKind, IsFaultOf, IsWindowOfMesh, cropped, window_of};

@@ -4,8 +4,7 @@
 ghost use Rattle.std.specs.Prelude.{◌≡◌, ◌≢◌, ℕ, ◌+◌, ◌<◌, ◌≤◌, All, IfErr, IfOk, None, OnOk, drop, length, map, slice_index, take, true};
 ghost use Rattle.iso_defs.specs.Grid.{point_count};
 ghost use Rattle.iso_base.specs.Points.{IsPoint, index_of};
-ghost use Rattle.iso_base.specs.Samples.{IsSample};
-ghost use Rattle.iso_base.specs.Volume.{IsVolume, sample};
+ghost use Rattle.iso_base.specs.Volume.{IsSample, IsVolume, sample};
 ghost use Rattle.samples.specs.Signs.{sign_of};
 ghost use Rattle.window_laws.specs.Windows.{IsWindow, thin_axis};
 ghost use Rattle.window_mesh.specs.Crops.{IsFaultOf, window_of};

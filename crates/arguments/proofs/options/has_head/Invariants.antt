@@ -1,5 +1,5 @@
 use Rattle.std.proofs.Common.{◌≡◌, map, drop}
-use Rattle.arguments.specs.Options.{has_head}
+use Rattle.arguments.specs.Words.{has_head}
 use Rattle.arguments.proofs.options.has_head.Given as goal
 
 abbrev pub invariant-loop-head : goal.invariant-loop-head

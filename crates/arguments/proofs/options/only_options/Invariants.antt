@@ -1,5 +1,5 @@
 use Rattle.std.proofs.Common.{◌≡◌, map, drop, string_bytes}
-use Rattle.arguments.specs.Options.{only_options}
+use Rattle.arguments.specs.Words.{only_options}
 use Rattle.arguments.proofs.options.only_options.Given as goal
 
 abbrev pub invariant-loop-word : goal.invariant-loop-word

@@ -1,5 +1,5 @@
 use Rattle.std.proofs.Common.{map, take, string_bytes}
-use Rattle.arguments.specs.Options.{IsFound, plain_words}
+use Rattle.arguments.specs.Words.{IsFound, plain_words}
 use Rattle.arguments.proofs.options.plain_word.Given as goal
 
 abbrev pub invariant-loop-word : goal.invariant-loop-word

@@ -1,7 +1,7 @@
 use Rattle.std.proofs.Common.{arith}
 use Rattle.std.proofs.lemmas.Grind.{common_steps}
 use Rattle.std.proofs.lemmas.List.Elements.{filter_map-append}
-use Rattle.arguments.specs.Options.{values}
+use Rattle.arguments.specs.Words.{values}
 use Rattle.arguments.proofs.options.value_of.Goals as goal
 
 pub loop-word-preserved : goal.loop-word-preserved

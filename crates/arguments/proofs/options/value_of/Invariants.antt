@@ -1,5 +1,5 @@
 use Rattle.std.proofs.Common.{map, take, string_bytes}
-use Rattle.arguments.specs.Options.{IsFound, values}
+use Rattle.arguments.specs.Words.{IsFound, values}
 use Rattle.arguments.proofs.options.value_of.Given as goal
 
 abbrev pub invariant-loop-word : goal.invariant-loop-word

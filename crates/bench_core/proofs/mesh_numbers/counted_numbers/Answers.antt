@@ -1,5 +1,5 @@
 use Rattle.std.proofs.Common.{subst, sym}
-use Rattle.iso_base.specs.Shifted.{field}
+use Rattle.iso_base.specs.Volume.{field}
 use Rattle.brick_rows.specs.Named.{NamesCases}
 use Rattle.cached_mesh.specs.Kept.{Kept, named_by}
 use Rattle.cached_mesh.proofs.Names.{names_cases}

@@ -1,4 +1,4 @@
-use Rattle.iso_base.specs.Shifted.{field}
+use Rattle.iso_base.specs.Volume.{field}
 use Rattle.bench_tests.proofs.Triangles.{all_different, few_triangles}
 use Rattle.bench_tests.proofs.random_volumes.report_by_triangles.Goals as goal
 

@@ -2,9 +2,8 @@ use Rattle.std.proofs.Common.{◌≡◌, ◌∙◌, rules, ℤ, List, map, w64, 
 use Rattle.std.proofs.lemmas.Int.{to_z-of_z}
 use Rattle.std.proofs.lemmas.List.{length-map}
 use Rattle.iso_defs.specs.Place.{place}
-use Rattle.iso_defs.specs.Signs.{differ}
-use Rattle.iso_base.specs.Samples.{IsSample}
-use Rattle.iso_base.specs.Shifted.{is_above_level, shifted}
+use Rattle.iso_defs.specs.Grid.{differ}
+use Rattle.iso_base.specs.Volume.{IsSample, is_above_level, shifted}
 use Rattle.brick_rows.proofs.EdgeEnds.{ends_of}
 use Rattle.brick_rows.proofs.Places.{few_bricks}
 use Rattle.brick_rows.proofs.crossings.place_of.Goals as goal

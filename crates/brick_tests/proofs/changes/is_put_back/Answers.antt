@@ -1,9 +1,8 @@
 use Rattle.std.proofs.Common.{◌≡◌, ◌∙◌, length, All, ap, sym, subst, true, ℤ}
 use Rattle.std.specs.Prelude.{Option, MatchOption, not}
-use Rattle.iso_defs.specs.Outside.{is_outer}
-use Rattle.iso_base.specs.Samples.{IsOfKind}
-use Rattle.iso_base.specs.Volume.{Volume}
-use Rattle.edit_log.specs.Boxes.{IsBox, IsInnerArea}
+use Rattle.iso_defs.specs.Grid.{is_outer}
+use Rattle.iso_base.specs.Volume.{IsOfKind, Volume}
+use Rattle.edit_log.specs.Log.{IsBox, IsInnerArea}
 use Rattle.edit_log.proofs.Inverses.{length-area_samples, area_samples_are}
 use Rattle.brick_tests.proofs.changes.is_put_back.Goals as goal
 

@@ -1,6 +1,6 @@
 use Rattle.std.proofs.Common.{◌+◌, ◌*◌, ◌≤◌, ◌∙◌, ap, subst, sym}
 use Rattle.iso_defs.specs.Bricks.{brick_count}
-use Rattle.iso_base.specs.Shifted.{field}
+use Rattle.iso_base.specs.Volume.{field}
 use Rattle.brick_rows.specs.Named.{NamesCases, asked_among}
 use Rattle.cached_mesh.specs.Kept.{Kept, named_by}
 use Rattle.cached_mesh.specs.Texts.{scratch_text}

@@ -1,5 +1,5 @@
 use Rattle.std.proofs.Common.{refl}
-use Rattle.commands.specs.Meaning.{mesh_given}
+use Rattle.commands.specs.Headline.{mesh_given}
 use Rattle.command_terms.specs.Outcome.{streams_between}
 use Rattle.commands.proofs.Written.{converts, not_held, not_held_done, shows}
 use Rattle.commands.proofs.extracting.extract.Goals as goal

@@ -3,7 +3,7 @@ use Rattle.iso_base.specs.Volume.{unpadded}
 use Rattle.iso_base.proofs.VolumeLaws.{unpadded_is}
 use Rattle.nrrd_read.specs.Files.{IsRead, file_voxels}
 use Rattle.nrrd_read.specs.Nrrd.{nrrd_of, Fails}
-use Rattle.commands.specs.Meaning.{mesh_given}
+use Rattle.commands.specs.Headline.{mesh_given}
 use Rattle.command_terms.specs.Outcome.{WritesGiven}
 use Rattle.command_terms.specs.Volumes.{volume_answer, volume_refusal}
 use Rattle.command_terms.proofs.ReadVolumes.{no_volume}

@@ -2,14 +2,12 @@ use Rattle.std.proofs.Common.{◌≡◌, ◌∙◌, All, Ok, Some, ap, length, r
 use Rattle.std.specs.Prelude.{Option, is_some}
 use Rattle.std.proofs.lemmas.Int.{to_z-of_z}
 use Rattle.iso_defs.specs.Grid.{Grid, point_count}
-use Rattle.iso_base.specs.Samples.{IsSample}
-use Rattle.iso_base.specs.Padding.{first_padded, grown, padded_volume}
+use Rattle.iso_base.specs.Volume.{IsSample, first_padded, grown, padded_volume}
 use Rattle.padded_samples.specs.Pads.{InPad, padded_list}
 use Rattle.padded_samples.proofs.PadRows.{padded_length}
-use Rattle.command_terms.specs.Volumes.{text_by}
+use Rattle.command_terms.specs.Volumes.{text_by, with_pad}
 use Rattle.command_terms.specs.Outcome.{WritesGiven}
-use Rattle.command_terms.specs.Volumes.{with_pad}
-use Rattle.commands.specs.Meaning.{mesh_in, text_of_volume}
+use Rattle.commands.specs.Headline.{mesh_in, text_of_volume}
 use Rattle.commands.specs.Volumes.{IsNotTaken}
 use Rattle.commands.proofs.Taken.{all_padded}
 use Rattle.commands.proofs.Written.{refused_in}

@@ -1,9 +1,8 @@
 use Rattle.std.proofs.Common.{◌≡◌, ◌∙◌, Ok, ap, sym, subst, ℤ}
 use Rattle.std.specs.Prelude.{Option, is_some}
-use Rattle.command_terms.specs.Volumes.{text_by}
+use Rattle.command_terms.specs.Volumes.{text_by, with_pad}
 use Rattle.command_terms.specs.Outcome.{WritesGiven}
-use Rattle.command_terms.specs.Volumes.{with_pad}
-use Rattle.commands.specs.Meaning.{mesh_in, text_of_volume}
+use Rattle.commands.specs.Headline.{mesh_in, text_of_volume}
 use Rattle.commands.proofs.extracting.extract_samples.Goals as goal
 
 pub returns-in-None : goal.returns-in-None

@@ -1,5 +1,5 @@
 use Rattle.std.proofs.Common.{◌≡◌, ◌∙◌, ap₂, refl, sym}
-use Rattle.commands.specs.Meaning.{text_of_volume}
+use Rattle.commands.specs.Headline.{text_of_volume}
 use Rattle.commands.proofs.extracting.write_mesh.Goals as goal
 
 pub returns-in-Ok-put_text : goal.returns-in-Ok-put_text

@@ -1,8 +1,7 @@
 use Rattle.std.proofs.Common.{◌≡◌, ◌∙◌, None, Ok, Some, ap, refl, rules, sym, subst, to_z, of_z, w64, ℤ}
 use Rattle.std.specs.Prelude.{IfSome, Option}
 use Rattle.std.proofs.lemmas.Int.{to_z-of_z}
-use Rattle.iso_base.specs.Samples.{IsSample}
-use Rattle.iso_base.specs.Volume.{Volume, unpadded}
+use Rattle.iso_base.specs.Volume.{IsSample, Volume, unpadded}
 use Rattle.iso_base.proofs.VolumeLaws.{unpadded_is}
 use Rattle.command_terms.specs.Volumes.{with_pad}
 use Rattle.command_terms.proofs.Passed.{passed_on}

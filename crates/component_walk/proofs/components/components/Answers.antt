@@ -1,6 +1,6 @@
 use Rattle.std.proofs.Common.{◌≡◌, ◌∙◌, ℕ, ◌<◌, List, length, get_or, ap, ap₂, sym, subst, arith}
 use Rattle.std.specs.List.{sum_by}
-use Rattle.iso_base.specs.Sizing.{IsGrid}
+use Rattle.iso_base.specs.Volume.{IsGrid}
 use Rattle.iso_defs.specs.Lists.{below}
 use Rattle.crossing_edges.specs.Flags.{rank}
 use Rattle.flat_mesh.specs.Lattice.{heights}

@@ -5,7 +5,7 @@ use Rattle.std.proofs.lemmas.List.Elements.{All-get_or}
 use Rattle.iso_defs.specs.Cell.{edge_corner, signs_of}
 use Rattle.iso_defs.specs.Face.{holds_at}
 use Rattle.iso_defs.specs.Place.{place}
-use Rattle.iso_defs.specs.Signs.{differ, is_above}
+use Rattle.iso_defs.specs.Grid.{differ, is_above}
 use Rattle.mesh_laws.proofs.Apart.{by_twelve}
 use Rattle.measure.proofs.Exact.{stored, stored_is}
 use Rattle.component_walk.specs.Local.{IsNear, lanes_of, local_place, local_vertex, lower_value, upper_corner, upper_value, vertex_at}

@@ -1,6 +1,6 @@
 use Rattle.std.proofs.Common.{◌≡◌, ◌∙◌, ℕ, ℤ, List, sym, ◌+◌, ◌-◌, ◌*◌, ◌<◌, ◌≤◌, All, ap, subst, arith, get_or, length, take}
 use Rattle.iso_defs.specs.Place.{Position}
-use Rattle.measure.specs.Positions.{IsWithin, coordinates, vector_of}
+use Rattle.measure.specs.Measures.{IsWithin, coordinates, vector_of}
 use Rattle.measure_laws.specs.Vectors.{Vector, cross, plus}
 use Rattle.component_walk.specs.Local.{IsNear, lanes_of, listed, local_vertex, position_of, position_sum}
 use Rattle.component_walk.specs.Sweep.{vector_at}

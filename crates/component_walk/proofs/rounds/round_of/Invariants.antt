@@ -1,5 +1,5 @@
 use Rattle.std.proofs.Common.{◌≡◌, ◌-◌, ◌*◌, ◌^◌, ◌<◌, ◌≤◌, All, get_or}
-use Rattle.measure.specs.Positions.{IsWithin, vector_of}
+use Rattle.measure.specs.Measures.{IsWithin, vector_of}
 use Rattle.measure_laws.specs.Vectors.{plus}
 use Rattle.part_laws.specs.Swept.{swept}
 use Rattle.component_walk.specs.Local.{listed, local_vertex}

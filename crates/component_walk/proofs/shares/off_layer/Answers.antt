@@ -1,4 +1,4 @@
-use Rattle.measure.specs.Positions.{vector_of}
+use Rattle.measure.specs.Measures.{vector_of}
 use Rattle.component_walk.proofs.ShareLaws.{difference_fits, difference_is}
 use Rattle.component_walk.proofs.shares.off_layer.Goals as goal
 

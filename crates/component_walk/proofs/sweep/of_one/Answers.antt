@@ -3,7 +3,7 @@ use Rattle.std.proofs.lemmas.Int.{ints}
 use Rattle.iso_defs.specs.Cell.{cell_values, crosses, signs_of}
 use Rattle.iso_defs.specs.Grid.{Grid}
 use Rattle.iso_defs.specs.Place.{Position}
-use Rattle.measure.specs.Positions.{coordinates, vector_of}
+use Rattle.measure.specs.Measures.{coordinates, vector_of}
 use Rattle.measure.proofs.Exact.{kept, stored}
 use Rattle.measure_laws.specs.Vectors.{Vector, dot}
 use Rattle.flat_mesh.specs.Cases.{values_at}

@@ -2,7 +2,7 @@ use Rattle.std.proofs.Common.{◌≡◌, ◌∙◌, ℕ, ◌+◌, ◌-◌, ◌�
 use Rattle.std.proofs.lemmas.List.{take_all}
 use Rattle.std.specs.List.{sum_by}
 use Rattle.iso_defs.specs.Lists.{below}
-use Rattle.measure_laws.specs.Totals.{total}
+use Rattle.measure_laws.specs.Vectors.{total}
 use Rattle.component_walk.proofs.SumLaws.{sum_more, sum_within, total_more}
 use Rattle.component_walk.proofs.tally.sum_of.Goals as goal
 

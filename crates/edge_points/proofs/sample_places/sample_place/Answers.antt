@@ -1,6 +1,6 @@
 use Rattle.std.proofs.Common.{◌≡◌, ◌∙◌, ◌+◌, ◌*◌, ◌/◌, ◌-ℤ◌, ℤ, nat_abs, w64, to_z, of_z, ap, ap₂, arith}
 use Rattle.std.proofs.lemmas.Int.{to_z-of_z}
-use Rattle.iso_base.specs.Shifted.{shifted}
+use Rattle.iso_base.specs.Volume.{shifted}
 use Rattle.edge_points.proofs.BetweenSamples.{by_samples}
 use Rattle.edge_points.proofs.sample_places.sample_place.Goals as goal
 

@@ -1,7 +1,7 @@
 use Rattle.std.proofs.Common.{◌≡◌, ◌<◌, ◌++◌, ◌∙◌, arith, ap, subst}
 use Rattle.iso_base.specs.Points.{IsPoint, index_of}
 use Rattle.voxel_list.specs.Areas.{area_count}
-use Rattle.edit_log.specs.Boxes.{IsBox, area_index, row_samples}
+use Rattle.edit_log.specs.Log.{IsBox, area_index, row_samples}
 use Rattle.brick_store.proofs.BoxPoints.{row_fits}
 use Rattle.edit_log.proofs.RunLaws.{first_all, first_row}
 use Rattle.edit_log.proofs.runs.each_sample.Goals as goal

@@ -4,7 +4,7 @@ use Rattle.std.proofs.lemmas.List.FromFn.{length-map-range_with_len}
 use Rattle.iso_base.specs.Points.{IsPoint, index_of}
 use Rattle.iso_base.specs.Volume.{sample}
 use Rattle.voxel_list.specs.Areas.{area_count}
-use Rattle.edit_log.specs.Boxes.{IsBox, area_grid, area_index, row_samples}
+use Rattle.edit_log.specs.Log.{IsBox, area_grid, area_index, row_samples}
 use Rattle.brick_store.proofs.BoxPoints.{row_fits}
 use Rattle.edit_log.specs.Runs.{values_of}
 use Rattle.edit_log.proofs.RunLaws.{first_all, first_row, gathered_run}

@@ -1,5 +1,5 @@
 use Rattle.std.proofs.Common.{◌∙◌, ap, arith, ℤ, pos, List}
-use Rattle.iso_base.specs.Samples.{IsOfKind}
+use Rattle.iso_base.specs.Volume.{IsOfKind}
 use Rattle.edit_log.proofs.RunLaws.{area_some, one_run_is, one_run_restored}
 use Rattle.edit_log.proofs.runs.write_equal.Goals as goal
 

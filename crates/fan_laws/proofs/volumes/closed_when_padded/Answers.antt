@@ -1,7 +1,7 @@
 use Rattle.std.proofs.Common.{ℕ, ℤ}
 use Rattle.iso_base.proofs.VolumeLaws.{grid_is_solid, pad_is_below}
-use Rattle.iso_base.specs.Shifted.{field}
-use Rattle.iso_defs.specs.Outside.{IsBelowOutside, IsSolid}
+use Rattle.iso_base.specs.Volume.{field}
+use Rattle.iso_defs.specs.Grid.{IsBelowOutside, IsSolid}
 use Rattle.mesh_laws.proofs.Padded.{closed, run_off_border}
 use Rattle.fan_laws.proofs.volumes.closed_when_padded.Goals as goal
 

@@ -1,4 +1,4 @@
-use Rattle.iso_base.specs.Shifted.{field}
+use Rattle.iso_base.specs.Volume.{field}
 use Rattle.mesh_laws.proofs.Numbers.{directed_once as once}
 use Rattle.fan_laws.proofs.volumes.directed_once.Goals as goal
 

@@ -1,6 +1,6 @@
 use Rattle.std.proofs.Common.{ℕ, ℤ}
 use Rattle.iso_base.proofs.VolumeLaws.{grid_is_thick}
-use Rattle.iso_base.specs.Shifted.{field}
+use Rattle.iso_base.specs.Volume.{field}
 use Rattle.iso_defs.specs.Verdict.{IsOrientedSurface}
 use Rattle.mesh_laws.proofs.OneVertex.{one_vertex_per_crossing}
 use Rattle.mesh_laws.proofs.Used.{oriented_surface}

@@ -1,7 +1,7 @@
 use Rattle.std.proofs.Common.{◌≡◌, ℕ, ℤ, ◌+◌, ◌-◌, ◌*◌, ◌<◌, ◌≤◌, not, false, List, length, is_some, sym, ap, subst, ◌∙◌, arith}
 use Rattle.iso_defs.specs.Bricks.{brick_count, is_active}
 use Rattle.iso_defs.specs.Grid.{Grid}
-use Rattle.iso_base.specs.Shifted.{field}
+use Rattle.iso_base.specs.Volume.{field}
 use Rattle.mesh_cache.specs.Cache.{Cache, kept_at}
 use Rattle.mesh_cache.specs.Offering.{Offers}
 use Rattle.mesh_cache.specs.Economy.{Refresh, is_fresh, item_for, done}

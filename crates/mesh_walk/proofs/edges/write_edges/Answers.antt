@@ -1,9 +1,8 @@
 use Rattle.std.proofs.Common.{rules, ◌≡◌, ◌+◌, ◌*◌, ◌<◌, ◌≤◌, ◌∙◌, suc, ap, subst, sym, refl, arith}
 use Rattle.std.proofs.lemmas.Result.{err_from_is_err_and}
 use Rattle.std.proofs.Math.Nat.{mul-le-mul_left}
-use Rattle.iso_defs.specs.Grid.{Grid}
+use Rattle.iso_defs.specs.Grid.{Grid, is_crossing}
 use Rattle.iso_defs.specs.Rows.{row_count}
-use Rattle.iso_defs.specs.Signs.{is_crossing}
 use Rattle.flat_mesh.specs.Lattice.{Leveled, heights}
 use Rattle.mesh_walk.specs.Numbers.{AreRowRanks, row_number}
 use Rattle.mesh_walk.specs.Spans.{edge_line, edges_text, row_edges_text}

@@ -2,7 +2,7 @@ use Rattle.std.proofs.Common.{◌≡◌, ◌+◌, ◌*◌, ◌<◌, get_or, leng
 use Rattle.std.specs.Int.{w16}
 use Rattle.std.proofs.lemmas.Int.{to_z-of_z}
 use Rattle.std.proofs.lemmas.List.{length-map}
-use Rattle.iso_base.specs.Samples.{IsOfKind}
+use Rattle.iso_base.specs.Volume.{IsOfKind}
 use Rattle.iso_base.specs.declared.kind.SampleKind.TheVariants.{I16}
 use Rattle.nrrd.proofs.Texts.{stepped, wide}
 use Rattle.nrrd.proofs.writing.fill_i16.Goals as goal

@@ -1,6 +1,6 @@
 use Rattle.std.proofs.Common.{◌≡◌, ◌+◌, ◌*◌, ◌<◌, get_or, length, map, sym, subst, ℤ, pos, arith, ◌∙◌}
 use Rattle.std.proofs.lemmas.List.{length-map}
-use Rattle.iso_base.specs.Samples.{IsOfKind}
+use Rattle.iso_base.specs.Volume.{IsOfKind}
 use Rattle.iso_base.specs.declared.kind.SampleKind.TheVariants.{U32}
 use Rattle.nrrd.proofs.Texts.{stepped, wide}
 use Rattle.nrrd.proofs.writing.fill_u32.Goals as goal

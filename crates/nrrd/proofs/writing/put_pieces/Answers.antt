@@ -3,7 +3,7 @@ use Rattle.std.specs.List.{drop-map, take-map}
 use Rattle.std.proofs.lemmas.List.Elements.{All-take}
 use Rattle.std.proofs.lemmas.Result.{err_from_is_err_and}
 use Rattle.byte_streams.proofs.Putting.{HasPut, has_put, put_failed}
-use Rattle.iso_base.specs.Samples.{IsOfKind}
+use Rattle.iso_base.specs.Volume.{IsOfKind}
 use Rattle.nrrd.specs.Writing.{samples_text}
 use Rattle.nrrd.proofs.Texts.{two_parts, all_behind}
 use Rattle.nrrd.proofs.writing.put_pieces.Goals as goal

@@ -1,5 +1,5 @@
 use Rattle.std.proofs.Common.{◌≡◌, ◌*◌, ◌∙◌, length, sym, ap, arith, length-append}
-use Rattle.iso_base.specs.Samples.{width_of}
+use Rattle.iso_base.specs.Volume.{width_of}
 use Rattle.nrrd.specs.Writing.{head_text, samples_text}
 use Rattle.text_samples.proofs.BytesAgain.{length_samples}
 use Rattle.nrrd.proofs.writing.volume_bytes.Goals as goal

@@ -1,6 +1,6 @@
 use Rattle.std.proofs.Common.{◌≡◌, ◌≤◌, length}
 use Rattle.text_lines.specs.Lines.{lines_of}
-use Rattle.nrrd_read.specs.HeaderLines.{sample_bytes}
+use Rattle.nrrd_read.specs.Fields.{sample_bytes}
 use Rattle.nrrd_read.proofs.header.behind_header.Given as goal
 
 abbrev pub invariant-loop-text : goal.invariant-loop-text

@@ -1,8 +1,7 @@
 use Rattle.std.proofs.Common.{◌≡◌, length, sym, ap, ◌∙◌, arith}
 use Rattle.std.proofs.lemmas.Result.{err_from_is_err_and}
 use Rattle.text_lines.specs.Lines.{lines_of}
-use Rattle.nrrd_read.specs.HeaderLines.{header_texts, sample_bytes}
-use Rattle.nrrd_read.specs.Fields.{meanings}
+use Rattle.nrrd_read.specs.Fields.{header_texts, sample_bytes, meanings}
 use Rattle.nrrd_read.specs.Scanning.{seen_fields, after_lines}
 use Rattle.nrrd_read.proofs.Folding.{all_lines, refused_line}
 use Rattle.nrrd_read.proofs.HeaderLaws.{samples_within}

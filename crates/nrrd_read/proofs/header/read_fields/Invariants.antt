@@ -1,7 +1,6 @@
 use Rattle.std.proofs.Common.{◌≡◌, ◌+◌, ◌≤◌, length}
 use Rattle.text_lines.specs.Lines.{lines_of}
-use Rattle.nrrd_read.specs.HeaderLines.{header_texts, sample_bytes}
-use Rattle.nrrd_read.specs.Fields.{meanings}
+use Rattle.nrrd_read.specs.Fields.{header_texts, sample_bytes, meanings}
 use Rattle.nrrd_read.specs.Scanning.{seen_fields, no_fields, after_lines}
 use Rattle.nrrd_read.proofs.header.read_fields.Given as goal
 

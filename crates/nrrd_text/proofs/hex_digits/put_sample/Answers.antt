@@ -1,6 +1,6 @@
 use Rattle.std.proofs.Common.{◌≡◌, ◌≢◌, ◌∙◌, sym, take, rules, w64, to_z, of_z}
 use Rattle.std.proofs.lemmas.Int.{to_z-of_z}
-use Rattle.iso_base.specs.Samples.{width_of}
+use Rattle.iso_base.specs.Volume.{width_of}
 use Rattle.nrrd_text.proofs.SampleDigits.{four_written, two_written}
 use Rattle.nrrd_text.proofs.hex_digits.put_sample.Goals as goal
 

@@ -1,6 +1,6 @@
 use Rattle.std.proofs.Common.{◌+◌, ◌*◌, ◌∙◌, ◌∷◌, [], ap, sym, length, map}
 use Rattle.std.proofs.lemmas.List.{length-map}
-use Rattle.iso_base.specs.Samples.{width_of}
+use Rattle.iso_base.specs.Volume.{width_of}
 use Rattle.std.proofs.lemmas.Result.{err_from_is_err_and}
 use Rattle.byte_streams.proofs.Staging.{staged_first, staged_front, staged_more, staged_whole}
 use Rattle.nrrd_text.specs.Writing.{hex_line}

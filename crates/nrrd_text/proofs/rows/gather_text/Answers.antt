@@ -3,7 +3,7 @@ use Rattle.std.specs.Fmt.{signed_decimal}
 use Rattle.std.proofs.lemmas.Int.{to_z-of_z}
 use Rattle.std.proofs.lemmas.Result.{err_from_is_err_and}
 use Rattle.byte_streams.proofs.Staging.{staged_front, staged_more, staged_whole}
-use Rattle.iso_base.specs.Samples.{IsOfKind}
+use Rattle.iso_base.specs.Volume.{IsOfKind}
 use Rattle.nrrd_text.proofs.Lines.{each_later, length-text_line, line_begins}
 use Rattle.nrrd_text.proofs.rows.gather_text.Goals as goal
 

@@ -2,7 +2,7 @@ use Rattle.std.proofs.Common.{◌≡◌, Bool, true, false, ◌&&◌, List, [], 
 use Rattle.iso_defs.specs.Bricks.{bits_of}
 use Rattle.iso_defs.specs.Face.{is_ambiguous, is_joined, segments}
 use Rattle.iso_defs.specs.Lists.{has_pair}
-use Rattle.iso_defs.specs.Signs.{is_above}
+use Rattle.iso_defs.specs.Grid.{is_above}
 use Rattle.plane_contour.proofs.Planes.{exact_above, exact_joined, four_same}
 use Rattle.plane_contour.proofs.plane.square_segments.Goals as goal
 use Rattle.plane_contour.proofs.plane.square_segments.Goals.{then-is_ambiguous, else-is_ambiguous}

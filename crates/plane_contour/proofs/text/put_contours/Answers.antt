@@ -3,8 +3,7 @@ use Rattle.std.proofs.lemmas.List.{at_drop_all}
 use Rattle.std.proofs.lemmas.Result.{err_from_is_err_and}
 use Rattle.byte_streams.specs.Seen.{Puts}
 use Rattle.byte_streams.proofs.Staging.{HasStaged, staged_more, staged_not, staged_end}
-use Rattle.plane_contour.specs.Points.{DrawnLine}
-use Rattle.plane_contour.specs.Texts.{contours_text}
+use Rattle.plane_contour.specs.Texts.{DrawnLine, contours_text}
 use Rattle.plane_contour.proofs.Texts.{lines_from}
 use Rattle.plane_contour.proofs.text.put_contours.Goals as goal
 

@@ -4,7 +4,7 @@ use Rattle.std.proofs.lemmas.Int.{to_z-of_z}
 use Rattle.std.proofs.lemmas.List.{length-drop, length-set, map-id}
 use Rattle.std.proofs.lemmas.List.Edits.{fill_by_more}
 use Rattle.std.proofs.lemmas.List.FromFn.{fill_by_all}
-use Rattle.iso_base.specs.Samples.{width_of}
+use Rattle.iso_base.specs.Volume.{width_of}
 use Rattle.iso_base.specs.SampleBytes.{sample_of}
 use Rattle.raw_samples.proofs.Parts.{behind, room_for}
 use Rattle.raw_samples.proofs.in_bytes.read_known.Goals as goal

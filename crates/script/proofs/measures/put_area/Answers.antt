@@ -1,7 +1,7 @@
 use Rattle.std.proofs.Common.{rules, pos, FitsSigned, slice_index_or, append_assoc}
 use Rattle.std.specs.Int.{w128}
 use Rattle.std.proofs.lemmas.Int.{to_z-of_z}
-use Rattle.script.specs.Measures.{area_text}
+use Rattle.script.specs.Replies.{area_text}
 use Rattle.script.proofs.measures.put_area.Goals as goal
 
 pub returns-clause-text : goal.returns-clause-text

@@ -1,6 +1,6 @@
 use Rattle.std.proofs.Common.{◌≡◌, ◌∙◌, ap, subst, sym, rules, to_z, of_z, w64}
 use Rattle.std.proofs.lemmas.Int.{to_z-of_z}
-use Rattle.iso_base.specs.Samples.{IsSample}
+use Rattle.iso_base.specs.Volume.{IsSample}
 use Rattle.span_tree.specs.Spans.{one_span}
 use Rattle.span_tree.proofs.FilledBricks.{filled_span_is, value_is_sample}
 use Rattle.span_tree.proofs.bricks.filled_span.Goals as goal

@@ -4,7 +4,7 @@ use Rattle.std.proofs.lemmas.List.{length-map, take_all}
 use Rattle.std.proofs.lemmas.List.Sums.{fold_more}
 use Rattle.std.specs.List.{fold}
 use Rattle.std.specs.Int.{int_max, int_min}
-use Rattle.iso_base.specs.Samples.{IsSample}
+use Rattle.iso_base.specs.Volume.{IsSample}
 use Rattle.span_tree.proofs.ListSpans.{greatest_of, item_value, least_of}
 use Rattle.span_tree.proofs.bricks.list_span.Goals as goal
 

@@ -1,6 +1,6 @@
 use Rattle.std.proofs.Common.{◌∙◌, All, ap, subst, sym}
 use Rattle.std.specs.List.{fold}
-use Rattle.iso_base.specs.Samples.{IsSample}
+use Rattle.iso_base.specs.Volume.{IsSample}
 use Rattle.span_tree.specs.Spans.{list_span, row_of, with_sample}
 use Rattle.span_tree.proofs.SpanLaws.{fold_lists}
 use Rattle.span_tree.proofs.bricks.with_rows.Goals as goal

@@ -1,5 +1,5 @@
 use Rattle.std.proofs.Common.{◌∙◌, All, ap, subst, sym}
-use Rattle.iso_base.specs.Samples.{IsSample}
+use Rattle.iso_base.specs.Volume.{IsSample}
 use Rattle.span_tree.specs.Spans.{slice_of, list_span}
 use Rattle.span_tree.proofs.bricks.with_slice.Goals as goal
 

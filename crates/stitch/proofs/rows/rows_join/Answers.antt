@@ -1,4 +1,4 @@
-use Rattle.iso_base.specs.Shifted.{field}
+use Rattle.iso_base.specs.Volume.{field}
 use Rattle.stitch.proofs.rows.rows_join.Goals as goal
 
 pub returns : goal.returns

@@ -1,6 +1,6 @@
 use Rattle.std.proofs.Common.{◌≡◌, ◌∙◌, ap, ap₂, sym, subst, arith}
 use Rattle.iso_defs.specs.Bricks.{brick_count}
-use Rattle.iso_base.specs.Sizing.{IsGrid}
+use Rattle.iso_base.specs.Volume.{IsGrid}
 use Rattle.std.specs.Prelude.{IfOk}
 use Rattle.byte_streams.specs.Seen.{Puts}
 use Rattle.flat_mesh.specs.Lattice.{Leveled, heights}

@@ -2,7 +2,7 @@ use Rattle.std.proofs.Common.{◌≡◌, ℕ, ◌+◌, ◌*◌, ◌∷◌, ◌++
 use Rattle.std.proofs.lemmas.Int.{to_z-of_z}
 use Rattle.std.proofs.lemmas.List.Elements.{All-push}
 use Rattle.std.proofs.lemmas.Result.{err_from_is_err_and}
-use Rattle.iso_base.specs.Samples.{IsOfKind, width_of}
+use Rattle.iso_base.specs.Volume.{IsOfKind, width_of}
 use Rattle.text_samples.specs.declared.hex.Wanted.{Wanted}
 use Rattle.text_samples.proofs.HexLaws.{begins, ends_bad, ends_here, fails_at, goes_on}
 use Rattle.text_samples.proofs.hex.gather.Goals as goal

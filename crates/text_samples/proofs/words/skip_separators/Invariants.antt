@@ -1,5 +1,5 @@
 use Rattle.std.proofs.Common.{◌≡◌, length}
-use Rattle.text_samples.specs.Words.{skip_separators}
+use Rattle.text_samples.specs.Text.{skip_separators}
 use Rattle.text_samples.proofs.words.skip_separators.Given as goal
 
 abbrev pub invariant-loop-rest : goal.invariant-loop-rest

@@ -4,7 +4,7 @@ use Rattle.std.proofs.lemmas.List.{length-map}
 use Rattle.std.proofs.lemmas.Result.{err_from_is_err_and}
 use Rattle.std.proofs.Math.Nat.{mul-le-mul_left}
 use Rattle.iso_defs.specs.Grid.{point_count}
-use Rattle.iso_base.specs.Samples.{IsOfKind}
+use Rattle.iso_base.specs.Volume.{IsOfKind}
 use Rattle.unpadded_volume.specs.Unpadded.{inner_samples}
 use Rattle.unpadded_volume.proofs.InnerSamples.{each_inner, length-inner_samples}
 use Rattle.unpadded_volume.proofs.Pieces.{map_put}

@@ -1,7 +1,7 @@
 use Rattle.std.proofs.Common.{◌*◌, ◌+◌, ◌-◌, ◌≤◌, ◌≡◌, ◌∙◌, drop, map, All, sym, ap, subst, arith}
 use Rattle.std.proofs.lemmas.List.{length-map}
 use Rattle.std.proofs.lemmas.List.Elements.{All-take, All-drop}
-use Rattle.iso_base.specs.Samples.{IsOfKind}
+use Rattle.iso_base.specs.Volume.{IsOfKind}
 use Rattle.unpadded_volume.specs.Unpadded.{inner_samples}
 use Rattle.unpadded_volume.proofs.InnerSamples.{each_inner}
 use Rattle.unpadded_volume.proofs.Pieces.{piece_is}

@@ -2,7 +2,7 @@ use Rattle.std.proofs.Common.{◌≡◌, ◌<◌, ◌∙◌, ap, subst, rules, t
 use Rattle.std.proofs.lemmas.Int.{to_z-of_z}
 use Rattle.std.specs.Prelude.{IfSome}
 use Rattle.bench_core.specs.Keeping.{Workbench}
-use Rattle.unpadded_volume.specs.Places.{plane_of}
+use Rattle.unpadded_volume.specs.Unpadded.{plane_of}
 use Rattle.bench_core.proofs.bench.Bench.plane.Goals as goal
 
 pub returns-clause-plane : goal.returns-clause-plane

@@ -1,7 +1,6 @@
 use Rattle.std.proofs.Common.{◌≡◌, subst}
 use Rattle.iso_defs.specs.Bricks.{entries}
-use Rattle.iso_base.specs.Shifted.{field}
-use Rattle.iso_base.specs.Volume.{Volume}
+use Rattle.iso_base.specs.Volume.{field, Volume}
 use Rattle.cached_mesh.proofs.refresh.SpannedBricks.extract.Goals as goal
 
 pub returns-clause-entries : goal.returns-clause-entries

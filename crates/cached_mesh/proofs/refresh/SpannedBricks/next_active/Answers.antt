@@ -1,8 +1,7 @@
 use Rattle.std.proofs.Common.{◌<◌, ◌^◌, Some, None, subst, arith}
 use Rattle.std.specs.Prelude.{IfSome, Option}
 use Rattle.iso_defs.specs.Bricks.{brick_count, is_active}
-use Rattle.iso_base.specs.Shifted.{field}
-use Rattle.iso_base.specs.Volume.{Volume}
+use Rattle.iso_base.specs.Volume.{field, Volume}
 use Rattle.brick_store.specs.Next.{IsNext}
 use Rattle.brick_store.specs.declared.numbering.BrickId.{BrickId}
 use Rattle.brick_store.proofs.Standing.{few_bricks}

@@ -1,6 +1,6 @@
 use Rattle.std.proofs.Common.{◌≡◌, ◌∙◌, true, false, cond, ℕ, Bool, ap, subst, sym, arith}
 use Rattle.iso_defs.specs.Bricks.{row_cases}
-use Rattle.iso_base.specs.Shifted.{field}
+use Rattle.iso_base.specs.Volume.{field}
 use Rattle.mesh_cache.specs.Economy.{is_fresh}
 use Rattle.brick_rows.specs.Named.{IsCellRow}
 use Rattle.cached_mesh.specs.Kept.{Kept, looped_cases, named_by}

@@ -1,10 +1,8 @@
 use Rattle.std.proofs.Common.{◌≡◌, ◌+◌, ◌*◌, ◌/◌, ◌%◌, ◌<◌, ◌∙◌, ℤ, sym, subst, ap, ap₂, arith, to_z, of_z, w64}
 use Rattle.std.proofs.lemmas.Int.{ints}
-use Rattle.iso_defs.specs.Grid.{point_count}
+use Rattle.iso_defs.specs.Grid.{point_count, differ, is_above, is_crossing}
 use Rattle.iso_defs.specs.Place.{place}
-use Rattle.iso_defs.specs.Signs.{differ, is_above, is_crossing}
-use Rattle.iso_base.specs.Samples.{IsSample}
-use Rattle.iso_base.specs.Shifted.{shifted}
+use Rattle.iso_base.specs.Volume.{IsSample, shifted}
 use Rattle.crossing_edges.specs.Flags.{edge_place}
 use Rattle.crossing_edges.specs.Leveled.{Leveled, heights}
 use Rattle.crossing_edges.proofs.NextPoints.{Ends, ends, next_in, place_at}

@@ -1,6 +1,6 @@
 use Rattle.std.proofs.Common.{◌≡◌, ◌∙◌, [], ◌∷◌, ◌++◌, replicate, ap, ap₂, subst, rules, to_z, of_z, w64}
 use Rattle.std.proofs.lemmas.Int.{to_z-of_z}
-use Rattle.edit_log.specs.Boxes.{IsBox}
+use Rattle.edit_log.specs.Log.{IsBox}
 use Rattle.edit_log.specs.declared.runs.Run.{Run}
 use Rattle.edit_log.specs.Runs.{values_of}
 use Rattle.edit_log.proofs.Inverses.{samples_of_one}

@@ -3,7 +3,7 @@ use Rattle.std.proofs.lemmas.Int.{to_z-of_z}
 use Rattle.iso_defs.specs.Grid.{Grid, point_count}
 use Rattle.iso_defs.proofs.Points.{index_in}
 use Rattle.iso_base.specs.Points.{index_of}
-use Rattle.iso_base.specs.Padding.{grown}
+use Rattle.iso_base.specs.Volume.{grown}
 use Rattle.padded_samples.specs.Pads.{InPad, padded_at}
 use Rattle.padded_samples.proofs.PadRows.{listed, padded_length}
 use Rattle.padded_samples.proofs.pad.PaddedSamples.at_point.Goals as goal

@@ -3,7 +3,7 @@ use Rattle.std.proofs.lemmas.List.{ext_get_or, length-map}
 use Rattle.iso_defs.specs.Grid.{Grid, point_count}
 use Rattle.iso_base.specs.Points.{index_of}
 use Rattle.samples.proofs.Rows.{row_in}
-use Rattle.iso_base.specs.Padding.{grown}
+use Rattle.iso_base.specs.Volume.{grown}
 use Rattle.padded_samples.specs.Pads.{InPad, padded_at, padded_list}
 use Rattle.padded_samples.proofs.PadRows.{padded_length, run_at, run_length}
 use Rattle.padded_samples.proofs.pad.PaddedSamples.copy_row.Goals as goal

@@ -1,7 +1,7 @@
 use Rattle.std.proofs.Common.{arith, ◌≡◌, ◌∙◌, ◌+◌, ◌*◌, ◌≤◌, ◌/◌, ◌%◌, ℕ, ap, length, subst, sym}
 use Rattle.std.proofs.Math.Nat.{div-le_self}
 use Rattle.iso_defs.specs.Grid.{Grid, point_count}
-use Rattle.iso_base.specs.Padding.{grown}
+use Rattle.iso_base.specs.Volume.{grown}
 use Rattle.padded_samples.specs.Pads.{InPad, padded_at}
 use Rattle.samples.specs.Signs.{sign_of}
 use Rattle.padded_samples.proofs.PadRows.{AreRows, padded_length, signs_are, whole_rows}

@@ -8,7 +8,7 @@ use Rattle.triangle_laws.proofs.Lists.{In}
 use Rattle.triangle_laws.proofs.Counts.{pair_in}
 use Rattle.triangle_laws.proofs.FanWalk.{ends_from}
 use Rattle.plane_contour.specs.Planes.{field_of, name_at, pairs_of}
-use Rattle.plane_contour.specs.Points.{point_at}
+use Rattle.plane_contour.specs.Texts.{point_at}
 use Rattle.plane_contour.proofs.Texts.{near_more}
 use Rattle.plane_contour.proofs.Walks.{line, slot_is, points_step, points_end, marks_step, marks_end}
 use Rattle.plane_contour.proofs.plane.Plane.follow.Goals as goal

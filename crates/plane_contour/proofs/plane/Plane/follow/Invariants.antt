@@ -4,7 +4,7 @@ use Rattle.iso_defs.specs.Lists.{is_in}
 use Rattle.plane_laws.specs.Sides.{slot_name}
 use Rattle.plane_laws.proofs.Steps.{Going}
 use Rattle.plane_contour.specs.Planes.{IsActive, IsEdge, field_of, name_at, pairs_of}
-use Rattle.plane_contour.specs.Points.{IsNear, point_at}
+use Rattle.plane_contour.specs.Texts.{IsNear, point_at}
 use Rattle.plane_contour.proofs.plane.Plane.follow.Given as goal
 
 abbrev pub invariant-loop-next : goal.invariant-loop-next

@@ -6,7 +6,7 @@ use Rattle.plane_laws.specs.Sides.{slot_name}
 use Rattle.plane_laws.proofs.Homes.{start_active}
 use Rattle.plane_laws.proofs.Squares.{single}
 use Rattle.plane_contour.specs.Planes.{IsActive, AreMarked, field_of, line_at, name_at, pairs_of}
-use Rattle.plane_contour.specs.Points.{DrawnLine, point_at}
+use Rattle.plane_contour.specs.Texts.{DrawnLine, point_at}
 use Rattle.plane_contour.proofs.plane.Plane.line_at.Goals as goal
 
 pub follow-requires-clause-active : goal.follow-requires-clause-active

@@ -1,11 +1,10 @@
 use Rattle.std.proofs.Common.{◌≡◌, ℕ, ◌+◌, ◌*◌, ℤ, pos, true, sym, ap, ◌∙◌, to_z, of_z, w64}
 use Rattle.iso_base.specs.declared.edge.EdgeName.{EdgeName}
 use Rattle.iso_base.specs.declared.decimal.Thousandth.{Thousandth}
-use Rattle.iso_defs.specs.Grid.{edge_lower, edge_upper}
+use Rattle.iso_defs.specs.Grid.{edge_lower, edge_upper, is_above, differ}
 use Rattle.iso_defs.specs.Place.{place, edge_coordinate}
-use Rattle.iso_defs.specs.Signs.{is_above, differ}
 use Rattle.plane_contour.specs.Planes.{field_of, name_at}
-use Rattle.plane_contour.specs.Points.{Point}
+use Rattle.plane_contour.specs.Texts.{Point}
 use Rattle.plane_contour.proofs.Planes.{exact}
 use Rattle.plane_contour.proofs.Walks.{active_differs, coordinates}
 use Rattle.plane_contour.proofs.plane.Plane.point.Goals as goal

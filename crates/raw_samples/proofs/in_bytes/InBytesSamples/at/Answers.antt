@@ -1,7 +1,6 @@
 use Rattle.std.proofs.Common.{◌≡◌, ◌+◌, ◌∙◌, length, arith, ap, sym, rules, to_z, of_z, w64}
 use Rattle.std.proofs.lemmas.Int.{to_z-of_z}
-use Rattle.iso_base.specs.Samples.{width_of}
-use Rattle.iso_base.specs.Volume.{sample}
+use Rattle.iso_base.specs.Volume.{width_of, sample}
 use Rattle.raw_samples.proofs.SampleLaws.{length_samples}
 use Rattle.raw_samples.proofs.Parts.{one_sample, room_for}
 use Rattle.raw_samples.proofs.in_bytes.InBytesSamples.at.Goals as goal

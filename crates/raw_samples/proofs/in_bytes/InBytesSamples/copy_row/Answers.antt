@@ -1,7 +1,7 @@
 use Rattle.std.proofs.Common.{◌≡◌, ◌+◌, ◌≤◌, ◌∙◌, All, List, ℤ, ℕ, length, arith, ap, sym, subst, take, drop}
 use Rattle.iso_defs.specs.Grid.{point_count}
 use Rattle.iso_base.specs.Points.{index_of}
-use Rattle.iso_base.specs.Samples.{width_of}
+use Rattle.iso_base.specs.Volume.{width_of}
 use Rattle.samples.proofs.Rows.{row_in}
 use Rattle.raw_samples.proofs.SampleLaws.{length_samples}
 use Rattle.raw_samples.proofs.Parts.{room_for, run_at}

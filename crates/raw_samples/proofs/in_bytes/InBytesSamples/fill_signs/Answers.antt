@@ -1,7 +1,7 @@
 use Rattle.std.proofs.Common.{◌≡◌, ◌+◌, ◌∙◌, ℕ, ℤ, length, arith, ap, sym, map, take, drop}
 use Rattle.std.specs.List.{range_with_len}
 use Rattle.std.proofs.lemmas.Simd.{map-map}
-use Rattle.iso_base.specs.Samples.{width_of}
+use Rattle.iso_base.specs.Volume.{width_of}
 use Rattle.iso_base.specs.SampleBytes.{sample_of}
 use Rattle.samples.specs.Signs.{sign_of}
 use Rattle.raw_samples.proofs.SampleLaws.{length_samples}

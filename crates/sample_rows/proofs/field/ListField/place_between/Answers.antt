@@ -1,6 +1,6 @@
 use Rattle.std.proofs.Common.{◌∙◌, ◌+◌, ap, ap₂, refl, subst}
 use Rattle.iso_defs.specs.Place.{place}
-use Rattle.iso_defs.specs.Signs.{differ, is_above}
+use Rattle.iso_defs.specs.Grid.{differ, is_above}
 use Rattle.flat_mesh.specs.Lattice.{IsLeveled}
 use Rattle.sample_rows.proofs.PointEnds.{apart, end_there, lower_at, read_height, upper_at}
 use Rattle.sample_rows.proofs.field.ListField.place_between.Goals as goal

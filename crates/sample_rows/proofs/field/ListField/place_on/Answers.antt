@@ -1,6 +1,6 @@
 use Rattle.std.proofs.Common.{◌∙◌, refl, ap₂, subst}
 use Rattle.iso_defs.specs.Place.{place}
-use Rattle.iso_defs.specs.Signs.{differ, is_above}
+use Rattle.iso_defs.specs.Grid.{differ, is_above}
 use Rattle.flat_mesh.specs.Lattice.{IsLeveled}
 use Rattle.sample_rows.proofs.Ends.{end_height, end_sample, ends_of}
 use Rattle.sample_rows.proofs.field.ListField.place_on.Goals as goal

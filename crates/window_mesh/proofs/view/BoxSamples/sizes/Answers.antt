@@ -1,6 +1,6 @@
 use Rattle.std.proofs.Common.{◌∙◌, All, ap, subst, sym}
 use Rattle.iso_defs.specs.Grid.{point_count}
-use Rattle.iso_base.specs.Samples.{IsSample}
+use Rattle.iso_base.specs.Volume.{IsSample}
 use Rattle.window_mesh.specs.Views.{InBox, boxed_list, window_at}
 use Rattle.window_mesh.proofs.Viewing.{boxed_length, boxed_range}
 use Rattle.window_mesh.proofs.view.BoxSamples.sizes.Goals as goal
