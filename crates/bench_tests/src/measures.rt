@@ -1,6 +1,6 @@
 //! What is measured of the mesh of a volume from scratch, at its printed positions.
 
-ghost use Rattle.std.specs.Prelude.{◌≡◌, ◌^◌, ◌<◌, ◌↔◌, IsTrue, length};
+ghost use Rattle.std.specs.Prelude.{◌^◌, ◌<◌, ◌↔◌, IsTrue, length};
 ghost use Rattle.iso_defs.specs.Manifold.{HasThreeCorners};
 ghost use Rattle.iso_base.specs.Triangles.{triangle_of};
 ghost use Rattle.measure.specs.Measures.{IsWithin, vector_of};

@@ -18,12 +18,12 @@ use std::alloc::Global;
 /// Appends the points of the volume of the bytes of a file.
 fn put_text<K: Sink>(
     alloc: Global,
-    bytes: &[u8],
+    bytes: Vec<u8>,
     level: Level,
     output: &mut K,
 ) -> Result<Result<(), Failed>, NoVolume>
-    ensures text { IfOk result (PutsPointsOf bytes.now level (K.seen output.old) (K.seen output.new)) }
-    ensures fault { IfErr result (IsNoVolume None level bytes.now) }
+    ensures text { IfOk result (PutsPointsOf bytes.items level (K.seen output.old) (K.seen output.new)) }
+    ensures fault { IfErr result (IsNoVolume None level bytes.items) }
     ensures nothing { IfErr result (λ _. K.seen output.new ≡ K.seen output.old) }
 {
     Ok(put_points_of_file(alloc, bytes, level, output)?)
@@ -43,11 +43,11 @@ fn put_points_of_input<S: Source, K: Sink>(
     ensures nothing { IfErr result (λ _. K.seen output.new ≡ K.seen output.old) }
 {
     let bytes = bytes_of_input(alloc, input)?;
-    Ok(put_text(alloc, &bytes, level, output)?)
+    Ok(put_text(alloc, bytes, level, output)?)
 }
 
-/// Writes the points at which the surface of a volume crosses lattice edges. The samples are not copied out of the bytes of the
-/// file. Nothing is written before all but the output can no longer fail.
+/// Writes the points at which the surface of a volume crosses lattice edges. Raw samples are not copied out of the bytes of the
+/// file; where samples in print were read, these bytes are freed. Nothing is written before all but the output can no longer fail.
 pub fn points<S: Source, K: Sink>(
     alloc: Global,
     level: Level,

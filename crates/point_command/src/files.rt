@@ -1,7 +1,6 @@
 //! The points of a volume in its file, as a text.
 ghost use Rattle.std.specs.Prelude.{◌≡◌, IfOk, IfErr};
 ghost use Rattle.byte_streams.specs.Seen.{Puts};
-ghost use Rattle.nrrd_read.specs.Files.{file_voxels};
 ghost use Rattle.nrrd_read.specs.Nrrd.{Fails, nrrd_of};
 ghost use Rattle.point_command.specs.Texts.{PutsPointsOf, text_of};
 
@@ -45,36 +44,25 @@ fn put_points_of_raw<K: Sink>(
     with_samples!(volume.samples(), samples => put_points_from(alloc, volume, &samples, level, sink))
 }
 
-/// Appends that of a volume, wherever its samples lie.
-fn put_points_of<K: Sink>(
-    alloc: Global,
-    volume: &FileVolume<'_>,
-    level: Level,
-    sink: &mut K,
-) -> Result<Result<(), Failed>, Memory>
-    ensures text { IfOk result (λ written. Puts (K.seen sink.old) (K.seen sink.new) written
-        (text_of (file_voxels volume.now) level)) }
-    ensures nothing { IfErr result (λ _. K.seen sink.new ≡ K.seen sink.old) }
-{
-    match volume {
-        FileVolume::Raw(raw) => put_points_of_raw(alloc, raw, level, sink),
-        FileVolume::Read(read) => put_points_of_raw(alloc, &read.raw(), level, sink),
-    }
-}
-
-/// Appends the text of the points at a level of the volume in a file. Raw samples are not copied out of the bytes; bytes after
-/// the samples are not read. The refusals are those of the reader of volumes, and last `Memory`: then nothing was appended.
+/// Appends the text of the points at a level of the volume in a file. Raw samples are not copied out of the bytes; where samples
+/// in print were read into bytes of their own, those of the file are freed first. Bytes after the samples are not read. The
+/// refusals are those of the reader of volumes, and last `Memory`: then nothing was appended.
 /// Within, `Failed` comes only where the sink's count rose; a front of the text was then taken.
 pub fn put_points_of_file<K: Sink>(
     alloc: Global,
-    bytes: &[u8],
+    bytes: Vec<u8>,
     level: Level,
     sink: &mut K,
 ) -> Result<Result<(), Failed>, NrrdFault>
-    ensures text { IfOk result (PutsPointsOf bytes.now level (K.seen sink.old) (K.seen sink.new)) }
-    ensures fault { IfErr result (λ fault. Fails fault (nrrd_of bytes.now)) }
+    ensures text { IfOk result (PutsPointsOf bytes.items level (K.seen sink.old) (K.seen sink.new)) }
+    ensures fault { IfErr result (λ fault. Fails fault (nrrd_of bytes.items)) }
     ensures nothing { IfErr result (λ _. K.seen sink.new ≡ K.seen sink.old) }
 {
-    let (volume, _) = read_file_volume(alloc, bytes)?;
-    Ok(put_points_of(alloc, &volume, level, sink)?)
+    let (volume, _) = read_file_volume(alloc, &bytes)?;
+    let read = match volume {
+        FileVolume::Raw(raw) => return Ok(put_points_of_raw(alloc, &raw, level, sink)?),
+        FileVolume::Read(read) => read,
+    };
+    drop(bytes);
+    Ok(put_points_of_raw(alloc, &read.raw(), level, sink)?)
 }

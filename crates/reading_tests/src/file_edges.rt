@@ -11,7 +11,7 @@ use std::test::Fail;
 fn check_points(rt: &impl Abort, alloc: Global, text: &[u8], points: &str) -> Result<(), Fail> {
     let level = Level::new(2_500).ok_or("2.5 is a level")?;
     let mut sink = MemSink::new(alloc, 200, Vec::new(alloc))?;
-    put_points_of_file(alloc, text, level, &mut sink)??;
+    put_points_of_file(alloc, Vec::from_slice(alloc, text)?, level, &mut sink)??;
     assert!(rt; sink.bytes() == points.as_bytes());
     Ok(())
 }
