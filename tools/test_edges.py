@@ -8,7 +8,6 @@ PROGRAM is a built isobench, without it the one of this checkout. Ends with 1 wh
 import os
 import pathlib
 import resource
-import select
 import shutil
 import subprocess
 import sys
@@ -115,13 +114,15 @@ class Targets(Edges):
     def test_a_named_pipe_is_open_until_another_file_is_written(self):
         pipe = self.folder / "pipe"
         os.mkfifo(pipe)
+        reader = os.open(pipe, os.O_RDONLY | os.O_NONBLOCK)
+        self.addCleanup(os.close, reader)
         with subprocess.Popen([PROGRAM, *self.words], cwd=self.folder, stdin=subprocess.PIPE, stdout=subprocess.PIPE, bufsize=0) as ran:
             ran.stdin.write(b"ply pipe\n")
-            with open(pipe, "rb", buffering=0) as reader:
-                self.assertEqual((ran.stdout.readline(), reader.read(4096)), (PLY_REPLY, self.mesh))
-                self.assertEqual(select.select([reader], [], [], 0.1)[0], [])
-                ran.stdin.write(b"ply a.ply\n")
-                self.assertEqual((ran.stdout.readline(), reader.read(4096)), (PLY_REPLY, b""))
+            self.assertEqual((ran.stdout.readline(), os.read(reader, 4096)), (PLY_REPLY, self.mesh))
+            with self.assertRaises(BlockingIOError):  # (at its end it would give no bytes)
+                os.read(reader, 4096)
+            ran.stdin.write(b"ply a.ply\n")
+            self.assertEqual((ran.stdout.readline(), os.read(reader, 4096)), (PLY_REPLY, b""))
             ran.stdin.close()
 
     def test_a_full_file_and_a_full_output(self):
