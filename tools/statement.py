@@ -1,8 +1,11 @@
 #!/usr/bin/env python3
 """Lists the definitions that a clause of `run` rests on, each once, those that it uses before it.
 
-    python3 tools/statement.py headline session_headline     the list: file, line, how many lines, name
+    python3 tools/statement.py headline session_headline     the list: file, line, name, how many lines
     python3 tools/statement.py --count headline               the numbers of definitions, lines and files
+    python3 tools/statement.py --files headline               the files, each with its number of lines
+    python3 tools/statement.py --check                        ends with 1 if docs/audit.md does not name what it should
+    python3 tools/statement.py --write                        names it there, between the marks, chapter by chapter
 
 A clause is a field of the record RunsAs in crates/commands/specs/Promise.antt; the name of any other definition of a
 specs/ folder does as well, as CRATE/FILE.NAME. Lines are those of definitions with the comments above them; blank lines,
@@ -17,7 +20,35 @@ from functools import lru_cache
 from pathlib import Path
 
 ROOT = Path(__file__).resolve().parents[1]
+PAGE = ROOT / "docs" / "audit.md"
 PROMISE = ("commands", "Promise", "RunsAs")
+TOLD = ["headline", "session_headline"]
+MARK = re.compile(r"<!-- drawn by tools/statement.py: (\w+) -->\n.*?<!-- end of what is drawn -->", re.S)
+# The chapters of the page, each with the files whose definitions it names.
+CHAPTERS = {
+    "mesh": ["iso_defs/Lists", "iso_defs/Grid", "iso_defs/Face", "iso_defs/Cell", "iso_defs/Place", "iso_defs/Scratch"],
+    "watertight": ["iso_defs/Manifold", "iso_defs/Verdict", "iso_base/Triangles", "bench_core/Surface"],
+    "text": ["iso_defs/Bytes", "iso_defs/Texts", "mesh_lines/Padded", "bench_core/Texts"],
+    "volume": ["iso_base/Volume", "command_terms/Volumes"],
+    "streams": ["byte_streams/Seen", "byte_streams/Causes", "command_terms/Outcome", "commands/Headline"],
+    "session": [
+        "voxel_list/Areas", "edit_log/Log", "bench_core/Machine", "script/Names", "script/Commands", "session/Lines",
+        "session/Table", "session/Following", "session/Worlds", "session/Sessions", "iso_io/Shelves", "program/Status",
+        "commands/Outcome", "commands/Volumes", "commands/Sessions", "commands/Serving", "commands/SessionMeshes",
+    ],
+    "words": ["program/Questions", "arguments/Words", "text_lines/Numbers"],
+    "file": [
+        "text_lines/Lines", "text_lines/Words", "text_samples/Text", "text_samples/Hex", "iso_base/SampleBytes",
+        "nrrd_read/Fields", "nrrd_read/Checks", "nrrd_read/Nrrd",
+    ],
+    "cache": ["iso_defs/Bricks", "mesh_cache/Cache", "bench_core/Keeping", "session/Kept"],
+    "replies": [
+        "iso_base/Points", "script/Replies", "iso_defs/Contours", "plane_contour/Texts", "mesh_report/Report",
+        "measure_laws/Vectors", "measure/Measures", "part_laws/Printed", "iso_defs/MeshLists", "flat_mesh/Mesh",
+        "window_laws/Windows", "window_mesh/Crops", "mesh_more/Texts", "bench_core/Windows", "unpadded_volume/Unpadded",
+        "nrrd/Writing", "nrrd_text/Writing",
+    ],
+}
 BEGINS = re.compile(r"(?:(?:abbrev|unfoldable)\s+)?(?:pub\s+)?(?:(record|data)\s+)?([^\s:(]+)")
 OPENS = re.compile(r"^(abbrev|unfoldable|pub|record|data)\b")
 IMPORT = re.compile(r"^use\s+Rattle\.(\w+)\.specs\.([\w.]+?)(?:\.\{(.*)\}|\s+as\s+([\w-]+))?$")
@@ -185,12 +216,59 @@ def in_order(names):
     return ordered, types
 
 
+def drawn(chapter, ordered):
+    """Returns the lines of a chapter: each of its files, with the definitions that the clauses rest on."""
+    lines = ["| file | definitions, each with its line |", "|---|---|"]
+    for place in CHAPTERS[chapter]:
+        crate, file = place.split("/")
+        found = [f"`{one.name.replace('|', '&#124;')}` {one.line}" for one in ordered if one.key[:2] == (crate, file)]
+        if not found:
+            sys.exit(f"tools/statement.py: nothing rests on {place}, which the chapter {chapter} has")
+        lines.append(f"| [{place}](../crates/{crate}/specs/{file}.antt) | {', '.join(found)} |")
+    return lines
+
+
+def page_with(ordered):
+    """Returns the page with what it is to name between its marks."""
+    known = {place for places in CHAPTERS.values() for place in places}
+    for place in sorted({f"{one.crate}/{one.file}" for one in ordered} - known):
+        sys.exit(f"tools/statement.py: no chapter of docs/audit.md has {place}")
+    page = PAGE.read_text(encoding="utf-8")
+    marks = [found[1] for found in MARK.finditer(page)]
+    if sorted(marks) != sorted(CHAPTERS):
+        sys.exit(f"docs/audit.md has other marks than the chapters {' '.join(CHAPTERS)}")
+
+    def draw(found):
+        begin = f"<!-- drawn by tools/statement.py: {found[1]} -->"
+        return "\n".join([begin, "", *drawn(found[1], ordered), "", "<!-- end of what is drawn -->"])
+
+    return page, MARK.sub(draw, page)
+
+
+def draw_page(writes):
+    """Writes the page, or looks whether it is as it would be written."""
+    page, wanted = page_with(in_order(TOLD)[0])
+    if page == wanted:
+        return 0
+    if writes:
+        PAGE.write_text(wanted, encoding="utf-8")
+        return 0
+    print("docs/audit.md does not name the definitions of now: python3 tools/statement.py --write")
+    return 1
+
+
 def main():
     parser = argparse.ArgumentParser(description=__doc__, formatter_class=argparse.RawDescriptionHelpFormatter)
-    parser.add_argument("clause", nargs="+", help="headline, session_headline, .., or CRATE/FILE.NAME")
+    parser.add_argument("clause", nargs="*", help="headline, session_headline, .., or CRATE/FILE.NAME")
     parser.add_argument("--count", action="store_true", help="print the numbers alone")
     parser.add_argument("--files", action="store_true", help="print the files with their numbers of lines")
+    parser.add_argument("--check", action="store_true", help="look whether docs/audit.md names them")
+    parser.add_argument("--write", action="store_true", help="have docs/audit.md name them")
     words = parser.parse_args()
+    if words.check or words.write:
+        sys.exit(draw_page(words.write))
+    if not words.clause:
+        parser.error("which clause?")
     ordered, types = in_order(words.clause)
     files = {}
     for one in ordered:
