@@ -20,6 +20,9 @@ Of README.md and docs/ the second and third form are looked up, and this one, wh
 
 A comment of the code cites a decision by the heading of its entry, as `DECISIONS.md, "Ties"`.
 
+A function `put_x` takes a sink, a short text, or bytes and the place from which on it appends; a function `fill_x` takes none of these,
+and something that it may change.
+
 A line of code or of a contract has at most 120 characters; comments, imports and lines with a text in quotes may have more.
 """
 import functools
@@ -36,6 +39,10 @@ NAME = r"`[\w:]+`"
 PATH = re.compile(rf"`(\w+/[\w/.-]+)`(?:: ({NAME}(?:(?:, | and ){NAME})*))?")
 MODULE = re.compile(rf"`(\w+)/(\w+)`(?:: ({NAME}(?:(?:, | and ){NAME})*))?")
 CITED = re.compile(r'DECISIONS\.md, "([^"]+)"')
+PUT_INTO = re.compile(r"Sink\b|ArrayString<|\bText\b|room: &mut \[u8\], at: usize")
+VERB = re.compile(r"(?m)^ *(?:pub(?:\([a-z]+\))? )?(?:const )?fn ((put|fill)_\w+)((?:<[^(]*>)?\((?:[^()]|\([^()]*\))*\))")
+# `fill` is a word of scripts here
+FILLS_NOTHING = {"script::fill_line"}
 FREE = re.compile(r"//|(?:pub |ghost )?use |[^\"]*\"")
 BRACKET = re.compile(rf"\(({NAME}(?:, {NAME})*)\)")
 QUOTED = re.compile(r"`([^`]+)`")
@@ -214,6 +221,19 @@ def wide_lines():
                 yield f"{file.relative_to(TOP)}:{number}: more than {MOST_COLUMNS} characters"
 
 
+def wrong_verbs():
+    """The functions that put what is no text, and those that fill what is no list."""
+    for file in sorted(CRATES.glob("*/src/**/*.rt")):
+        text, crate = file.read_text(encoding="utf-8"), file.relative_to(CRATES).parts[0]
+        for found in VERB.finditer(text):
+            name, verb, into = found[1], found[2], re.sub(r"\s+", " ", found[3])
+            where = f"{file.relative_to(TOP)}:{text.count(chr(10), 0, found.start(1)) + 1}"
+            if verb == "put" and not PUT_INTO.search(into):
+                yield f"{where}: {name} puts into neither a sink, a short text nor bytes from a place on"
+            elif verb == "fill" and (PUT_INTO.search(into) or "&mut " not in into) and f"{crate}::{name}" not in FILLS_NOTHING:
+                yield f"{where}: {name} fills nothing that is handed in"
+
+
 def lost_in_readme(crate, page, crates):
     """What is wrong with the README.md of a crate, and what it names and is not there."""
     name = f"crates/{crate}/README.md"
@@ -239,7 +259,7 @@ def main():
     crates = names()
     page = (CRATES / "README.md").read_text(encoding="utf-8")
     wrong = [it for crate in crates for it in lost_in_readme(crate, page, set(crates))]
-    wrong += [*lost_in_pages(set(crates)), *lost_decisions(), *wide_lines()]
+    wrong += [*lost_in_pages(set(crates)), *lost_decisions(), *wide_lines(), *wrong_verbs()]
     print("".join(f"{it}\n" for it in wrong), end="")
     sys.exit(1 if wrong else 0)
 

@@ -43,7 +43,8 @@ CHAPTERS = {
     ],
     "cache": ["iso_defs/Bricks", "mesh_cache/Cache", "bench_core/Keeping", "session/Kept"],
     "replies": [
-        "iso_base/Points", "script/Replies", "iso_defs/Contours", "plane_contour/Texts", "mesh_report/Report",
+        "iso_base/Points", "script/Replies", "iso_defs/Contours", "plane_contour/Texts", "plane_contour/Drawn",
+        "mesh_report/Report",
         "measure_laws/Vectors", "measure/Measures", "part_laws/Printed", "iso_defs/MeshLists", "flat_mesh/Mesh",
         "window_laws/Windows", "window_mesh/Crops", "mesh_more/Texts", "bench_core/Windows", "unpadded_volume/Unpadded",
         "nrrd/Writing", "nrrd_text/Writing",

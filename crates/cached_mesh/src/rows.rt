@@ -53,7 +53,7 @@ fn hold_anew(
     match cache.kept_entries(brick, level) {
         Some(entries) => {
             let across = across_of(z, has_few_bricks(store));
-            held[(brick.0 % SLICE_BRICKS) as usize].turn_to(store, brick, across, level, entries);
+            held[(brick.0 % SLICE_BRICKS) as usize].move_to(store, brick, across, level, entries);
             true
         }
         None => false,

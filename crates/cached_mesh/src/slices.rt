@@ -69,7 +69,7 @@ impl Slices {
 
     /// Turns to some slices of a brick, by its entries: wherever these are kept at the level.
     #[inline(always)]
-    pub fn turn_to(
+    pub fn move_to(
         &mut self,
         store: &BrickStore,
         brick: BrickId,

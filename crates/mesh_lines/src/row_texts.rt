@@ -363,7 +363,7 @@ impl RowTexts {
     }
 
     /// Turns to a row.
-    pub fn turn_to(&mut self, y: u32, z: u32, block: &LineBuffer)
+    pub fn move_to(&mut self, y: u32, z: u32, block: &LineBuffer)
         requires y { y ≤ 1026 }
         requires z { z ≤ 1026 }
         ensures { self.new ≡ record { style = self.old.style; count = self.old.count; y = y; z = z } }

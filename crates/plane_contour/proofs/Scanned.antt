@@ -17,7 +17,8 @@ use Rattle.plane_laws.proofs.Squares.{single, low}
 use Rattle.plane_laws.proofs.Slots.{lines_more, lines_stay, covered_more}
 use Rattle.plane_contour.specs.declared.plane.Plane.{Plane}
 use Rattle.plane_contour.specs.Planes.{IsPlane, IsActive, field_of, pairs_of, plane_size}
-use Rattle.plane_contour.specs.Texts.{DrawnLine, Point, point_at, drawn, IsLineMet, IsNumbered}
+use Rattle.plane_contour.specs.Texts.{DrawnLine, Point, point_at}
+use Rattle.plane_contour.specs.Drawn.{drawn, IsLineMet, IsNumbered}
 
 -- the lines that are met before the edge of a number
 abbrev pub met_before : Plane → ℕ → List (Bool × List ℕ)

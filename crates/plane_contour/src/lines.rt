@@ -5,7 +5,7 @@ ghost use Rattle.iso_defs.specs.Contours.{contours};
 ghost use Rattle.iso_base.specs.Volume.{IsSample};
 ghost use Rattle.iso_defs.specs.Lists.{ends};
 ghost use Rattle.plane_contour.specs.Planes.{IsActive, IsEdge, IsPlane, name_at, pairs_of, plane_size};
-ghost use Rattle.plane_contour.specs.Texts.{HasPlane, IsLineMet, IsNumbered, drawn};
+ghost use Rattle.plane_contour.specs.Drawn.{HasPlane, IsLineMet, IsNumbered, drawn};
 
 use crate::line::{Contours, Line};
 use crate::plane::{Edge, Plane};

@@ -106,7 +106,7 @@ impl PointRow {
             return Ok(());
         }
         let (y, z) = row_at(&rows.sizes(), row);
-        self.texts.turn_to(y, z, block);
+        self.texts.move_to(y, z, block);
         let edges = &self.edges.edges[..count];
         let places = &self.edges.places[..count];
         write_edges(&self.texts, edges, places, block, sink)

@@ -7,7 +7,8 @@ use Rattle.plane_laws.proofs.Slots.{lines_start, lines_end}
 use Rattle.plane_laws.proofs.SameField.{same_lines}
 use Rattle.plane_contour.specs.declared.plane.Plane.{Plane}
 use Rattle.plane_contour.specs.Planes.{IsPlane, field_of, plane_size}
-use Rattle.plane_contour.specs.Texts.{IsLineMet, drawn, point_at}
+use Rattle.plane_contour.specs.Texts.{point_at}
+use Rattle.plane_contour.specs.Drawn.{IsLineMet, drawn}
 use Rattle.plane_contour.proofs.Scanned.{met_before, passed, grown, more_marked, same_points, written_back}
 use Rattle.plane_contour.proofs.lines.contours.Goals as goal
 use Rattle.plane_contour.proofs.lines.contours.Goals.{in-Some+in_ok-push, in_default}

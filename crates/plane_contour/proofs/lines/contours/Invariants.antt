@@ -2,7 +2,7 @@ use Rattle.std.proofs.Common.{◌≡◌, ℕ, ◌*◌, ◌<◌, false, get_or, m
 use Rattle.plane_laws.specs.Sides.{slot_name}
 use Rattle.plane_laws.proofs.Scan.{covered}
 use Rattle.plane_contour.specs.Planes.{plane_size, field_of}
-use Rattle.plane_contour.specs.Texts.{drawn}
+use Rattle.plane_contour.specs.Drawn.{drawn}
 use Rattle.plane_contour.proofs.Scanned.{met_before}
 use Rattle.plane_contour.proofs.lines.contours.Given as goal
 

@@ -22,7 +22,7 @@ pub write_edges-requires-clause-edges : goal.write_edges-requires-clause-edges
 write_edges-requires-clause-edges g c =
     let v = c.args.rows.now in
     let edges = take c.list_row-count.result c.list_row-count.new.room.edges in
-    subst (λ n. All (λ e. e < 3 * n) edges) (sym (ap (λ (t : RowPlace). t.count) c.turn_to.ensures ∙ c.requires.texts.width))
+    subst (λ n. All (λ e. e < 3 * n) edges) (sym (ap (λ (t : RowPlace). t.count) c.move_to.ensures ∙ c.requires.texts.width))
     (offsets_low v.grid (heights v) (v.grid.nx * c.args.row) v.grid.nx edges c.list_row-count.ensures.edges)
 
 pub write_edges-requires-clause-places : goal.write_edges-requires-clause-places
@@ -35,13 +35,13 @@ returns-clause-lines g c =
     let v = c.args.rows.now in
     let s = heights v in
     let start = v.grid.nx * c.args.row in
-    let row = c.turn_to.new.self in
+    let row = c.move_to.new.self in
     let y = c.row_at-y.result.0 in
     let z = c.row_at-y.result.1 in
     let ny : c.sizes.result.ny ≡ v.grid.ny = ap (λ (g : Grid). g.ny) c.sizes.ensures.value in
     let nz : c.sizes.result.nz ≡ v.grid.nz = ap (λ (g : Grid). g.nz) c.sizes.ensures.value in
-    let ey : row.y ≡ y = ap (λ (t : RowPlace). t.y) c.turn_to.ensures in
-    let ez : row.z ≡ z = ap (λ (t : RowPlace). t.z) c.turn_to.ensures in
+    let ey : row.y ≡ y = ap (λ (t : RowPlace). t.y) c.move_to.ensures in
+    let ez : row.z ≡ z = ap (λ (t : RowPlace). t.z) c.move_to.ensures in
     let hy : row.y < v.grid.ny = omega (arith, ey, ny, c.row_at-y.ensures.y) in
     let hz : row.z < v.grid.nz = omega (arith, ez, nz, c.row_at-y.ensures.z) in
     let here : y + v.grid.ny * z ≡ c.args.row = subst (λ n. y + n * z ≡ c.args.row) ny c.row_at-y.ensures.row in
@@ -49,6 +49,6 @@ returns-clause-lines g c =
     let edges = take c.list_row-count.result c.list_row-count.new.room.edges in
     let places = take c.list_row-count.result c.list_row-count.new.room.places in
     subst (λ (text : List ℕ). Stages {T = Unit {0}} {E = Failed} (g.K.Sink.seen c.args.sink.now) (g.K.Sink.seen c.write_edges.new.sink) c.args.block.now.waiting c.write_edges.new.block.waiting c.write_edges.result text)
-    (lines_are v.grid s row start (ap (λ (t : RowPlace). t.style) c.turn_to.ensures ∙ c.requires.texts.style) hy hz at edges places c.list_row-count.ensures.edges c.list_row-count.ensures.places
+    (lines_are v.grid s row start (ap (λ (t : RowPlace). t.style) c.move_to.ensures ∙ c.requires.texts.style) hy hz at edges places c.list_row-count.ensures.edges c.list_row-count.ensures.places
     (λ i low. (offset_at v.grid s start v.grid.nx edges c.list_row-count.ensures.edges i low).low))
     c.write_edges.ensures

@@ -5,7 +5,7 @@ use Rattle.brick_mesh.specs.Block.{BrickAt}
 use Rattle.brick_mesh.proofs.Spans.{offsets}
 use Rattle.cached_mesh.proofs.Ascending.{low_entries, parted}
 use Rattle.cached_mesh.proofs.Filled.{slices_row}
-use Rattle.cached_mesh.proofs.slices.Slices.turn_to.Goals as goal
+use Rattle.cached_mesh.proofs.slices.Slices.move_to.Goals as goal
 
 pub overflow_sub-self : goal.overflow_sub-self
 overflow_sub-self c =
