@@ -1,7 +1,7 @@
 -- The lines of triangles, loop by loop and cell by cell.
-use Rattle.std.proofs.Common.{◌≡◌, ℕ, ◌+◌, ◌-◌, ◌*◌, ◌≤◌, Bool, true, false, cond, List, [], ◌∷◌, ◌++◌, map, take, length, refl, sym, ◌∙◌, ap, arith, ltb, zero-add, append-nil, append_assoc}
+use Rattle.std.proofs.Common.{◌≡◌, ℕ, ◌+◌, ◌*◌, ◌≤◌, Bool, true, false, cond, List, [], ◌∷◌, ◌++◌, map, length, refl, sym, ◌∙◌, ap, arith, ltb, zero-add, append-nil}
 use Rattle.std.specs.List.{count_by, enumerate_from, filter, flat_map, sum_by}
-use Rattle.std.proofs.lemmas.List.{length-append, length-map, take_at}
+use Rattle.std.proofs.lemmas.List.{length-map}
 use Rattle.std.proofs.lemmas.List.Concat.{flat_map-append}
 use Rattle.std.proofs.lemmas.List.Sums.{sum_by-cons}
 use Rattle.iso_defs.specs.Lists.{below}
@@ -10,7 +10,7 @@ use Rattle.iso_defs.specs.Rows.{row_count}
 use Rattle.iso_defs.specs.Cell.{Triangle, case_loops}
 use Rattle.case_table.specs.Cases.{case_joined, case_signs}
 use Rattle.cell_loops.specs.Loops.{row_centres, row_loops}
-use Rattle.iso_defs.specs.Scratch.{cell_centres, cell_loops, crossing_edges, has_centre}
+use Rattle.iso_defs.specs.Scratch.{cell_centres, cell_loops, crossing_edges, has_centre, on_corners}
 use Rattle.iso_base.specs.Triangles.{triangle_of}
 use Rattle.triangle_laws.proofs.Lists.{In}
 use Rattle.triangle_laws.proofs.Counts.{count-cons}
@@ -20,10 +20,8 @@ use Rattle.flat_mesh.specs.Faces.{cell_faces, centres_of, corners_of, loops_at}
 use Rattle.flat_mesh.specs.Found.{centres_below, numbered}
 use Rattle.flat_mesh.specs.Numbers.{AreNumbers}
 use Rattle.flat_mesh.proofs.CellAdds.{no_triangles, triangles_are}
-use Rattle.iso_defs.specs.Texts.{line}
 use Rattle.mesh_text.specs.Lines.{letter_line}
 use Rattle.mesh_text.proofs.Counting.{numbers_ended}
-use Rattle.mesh_text.specs.Numbers.{numbers_line}
 use Rattle.iso_base.specs.declared.format.MeshFormat.{MeshFormat}
 use Rattle.iso_base.specs.declared.format.MeshFormat.TheVariants.{Ply, Obj, Off, Vtk}
 use Rattle.mesh_lines.specs.Lines.{face_line}
@@ -31,7 +29,8 @@ use Rattle.mesh_lines.specs.Blocks.{Gathered, IsBehind}
 use Rattle.mesh_lines.specs.Triangles.{corner_text, letter_of}
 use Rattle.mesh_walk.specs.Numbers.{AreQuiet, HasNumber}
 use Rattle.mesh_rows.specs.Counts.{centres_among, span}
-use Rattle.mesh_walk.specs.Spans.{edge_count, face_lines, faces_text, triangle_lines}
+use Rattle.mesh_walk.specs.declared.walk.Numbering.{Numbering}
+use Rattle.mesh_walk.specs.Spans.{edge_count, face_lines, faces_text, numbered_from, renumbered, triangle_lines}
 use Rattle.mesh_walk.proofs.Adding.{behind_as}
 use Rattle.mesh_walk.proofs.CellRuns.{no_centres_among}
 use Rattle.mesh_rows.proofs.SpanLaws.{length_more, span_none, span_one, span_quiet}
@@ -110,24 +109,35 @@ centres_are_below : (v : Leveled) (q : ℕ) → length (centres_below v q) ≡ c
 unfolding centres_below span
 centres_are_below v q = refl
 
-module _ (format : MeshFormat) (v : Leveled) (q next : ℕ) (is : is_cell v.grid q ≡ true) (number : HasNumber v q next) where
-  -- the lines of a cell
-  pub cell_lines : (numbers : List ℕ) (ls : List (List ℕ)) → In q (cells v.grid) → AreNumbers v q numbers → ls ≡ loops_at v q
-      → face_lines format (cell_faces numbers ls next) ≡ faces_text format v q 1
-  unfolding triangle_lines
-  cell_lines numbers ls known are same =
-      let first : next ≡ length (crossing_edges v.grid (heights v)) + length (centres_below v q) = omega (arith, number.number, total_is v (edge_count v) refl, centres_are_below v q) in
-      ap (λ ls. face_lines format (cell_faces numbers ls next)) same
-      ∙ (ap (face_lines format) (triangles_are v q numbers known are next first)
-      ∙ (lines_back format (numbered v q) ∙ sym (span_one (triangle_lines format v) (is_cell v.grid) q is)))
+-- the corners of triangles by other numbers
+corners_moved : (f : ℕ → ℕ) (ts : List Triangle) → map (map f) (map corners_of ts) ≡ map corners_of (map (on_corners f) ts)
+corners_moved f [] = refl
+corners_moved f (t ∷ ts) = ap (λ l. corners_of (on_corners f t) ∷ l) (corners_moved f ts)
 
-  pub next_number : (ls : List (List ℕ)) (after : ℕ) → ls ≡ loops_at v q → length ls ≤ 4 → sum_by centres_of ls ≤ length ls → after ≡ next + sum_by centres_of ls → HasNumber v (q + 1) after
-  next_number ls after same few low e =
-      let c : centres_among v 0 (q + 1) ≡ centres_among v 0 q + length (cell_centres v.grid (heights v) q)
-      = length_more (cell_centres v.grid (heights v)) (is_cell v.grid) 0 q 1
-      ∙ ap (λ n. centres_among v 0 q + n) (ap (λ k. centres_among v k 1) (zero-add q) ∙ ap length (span_one (cell_centres v.grid (heights v)) (is_cell v.grid) q is)) in
-      let s : sum_by centres_of ls ≡ sum_by centres_of (loops_at v q) = ap (sum_by centres_of) same in
-      record { number = omega (arith, number.number, c, s, centres_of_cell v q); few = omega (arith, number.few) }
+module _ (numbers : Numbering) (v : Leveled) (q : ℕ) (is : is_cell v.grid q ≡ true) where
+  abbrev moved : List ℕ → List ℕ
+  moved = map (renumbered numbers (edge_count v))
+
+  -- the lines of a cell
+  pub cell_lines : (format : MeshFormat) (next : ℕ) → next ≡ edge_count v + centres_among v 0 q → (edges : List ℕ) (ls : List (List ℕ)) → In q (cells v.grid) → AreNumbers v q edges
+      → ls ≡ loops_at v q → face_lines format (map moved (cell_faces edges ls next)) ≡ faces_text format numbers v q 1
+  unfolding triangle_lines
+  cell_lines format next number edges ls known are same =
+      let first : next ≡ length (crossing_edges v.grid (heights v)) + length (centres_below v q) = omega (arith, number, total_is v (edge_count v) refl, centres_are_below v q) in
+      ap (λ ls. face_lines format (map moved (cell_faces edges ls next))) same
+      ∙ (ap (λ fs. face_lines format (map moved fs)) (triangles_are v q edges known are next first)
+      ∙ (ap (face_lines format) (corners_moved (renumbered numbers (edge_count v)) (numbered v q))
+      ∙ (lines_back format (numbered_from numbers v q) ∙ sym (span_one (triangle_lines format numbers v) (is_cell v.grid) q is))))
+
+-- the number of the first centre behind a cell
+pub next_number : (first : ℕ) (v : Leveled) (q next : ℕ) → is_cell v.grid q ≡ true → HasNumber first v q next
+    → (ls : List (List ℕ)) (after : ℕ) → ls ≡ loops_at v q → length ls ≤ 4 → sum_by centres_of ls ≤ length ls → after ≡ next + sum_by centres_of ls → HasNumber first v (q + 1) after
+next_number first v q next is number ls after same few low e =
+    let c : centres_among v 0 (q + 1) ≡ centres_among v 0 q + length (cell_centres v.grid (heights v) q)
+    = length_more (cell_centres v.grid (heights v)) (is_cell v.grid) 0 q 1
+    ∙ ap (λ n. centres_among v 0 q + n) (ap (λ k. centres_among v k 1) (zero-add q) ∙ ap length (span_one (cell_centres v.grid (heights v)) (is_cell v.grid) q is)) in
+    let s : sum_by centres_of ls ≡ sum_by centres_of (loops_at v q) = ap (sum_by centres_of) same in
+    record { number = omega (arith, number.number, c, s, centres_of_cell v q); few = omega (arith, number.few) }
 
 pub few_centres_of : (ls : List (List ℕ)) → sum_by centres_of ls ≤ length ls
 few_centres_of [] = omega arith
@@ -136,19 +146,20 @@ few_centres_of (l ∷ ls) =
     omega (arith, sum_by-cons centres_of l ls, few_centres_of ls)
 
 -- a run whose cells have no loops
-pub quiet_faces : (format : MeshFormat) (v : Leveled) (a n : ℕ) → AreQuiet v a n → faces_text format v a n ≡ []
+pub quiet_faces : (format : MeshFormat) (numbers : Numbering) (v : Leveled) (a n : ℕ) → AreQuiet v a n → faces_text format numbers v a n ≡ []
 unfolding triangle_lines
-quiet_faces format v a n quiet =
-    span_quiet (triangle_lines format v) (is_cell v.grid) a n (λ q least most is. ap (flat_map (face_line format)) (no_triangles v q (quiet.none q least most is)))
+quiet_faces format numbers v a n quiet =
+    span_quiet (triangle_lines format numbers v) (is_cell v.grid) a n
+    (λ q least most is. ap (λ ts. flat_map (face_line format) (map (on_corners (renumbered numbers (edge_count v))) ts)) (no_triangles v q (quiet.none q least most is)))
 
-pub quiet_number : (v : Leveled) (a n b next : ℕ) → AreQuiet v a n → b ≡ a + n → HasNumber v a next → HasNumber v b next
-quiet_number v a n b next quiet e number =
+pub quiet_number : (first : ℕ) (v : Leveled) (a n b next : ℕ) → AreQuiet v a n → b ≡ a + n → HasNumber first v a next → HasNumber first v b next
+quiet_number first v a n b next quiet e number =
     let c : centres_among v 0 b ≡ centres_among v 0 a + centres_among v a n
     = ap (centres_among v 0) e ∙ (length_more (cell_centres v.grid (heights v)) (is_cell v.grid) 0 a n ∙ ap (λ k. centres_among v 0 a + centres_among v k n) (zero-add a)) in
     record { number = omega (arith, number.number, c, no_centres_among v a n quiet); few = omega (arith, number.few) }
 
-pub first_number : (v : Leveled) (total : ℕ) → total ≡ edge_count v → HasNumber v 0 total
-first_number v total all = record {
-  number = let none : centres_among v 0 0 ≡ 0 = ap length (span_none (cell_centres v.grid (heights v)) (is_cell v.grid) 0) in omega (arith, none, all);
-  few = omega (arith, all);
+pub first_number : (v : Leveled) (first : ℕ) → HasNumber first v 0 first
+first_number v first = record {
+  number = let none : centres_among v 0 0 ≡ 0 = ap length (span_none (cell_centres v.grid (heights v)) (is_cell v.grid) 0) in omega (arith, none);
+  few = omega arith;
 }

@@ -1,11 +1,13 @@
 -- The lines of all vertices and triangles are those of the mesh.
-use Rattle.std.proofs.Common.{◌≡◌, ℕ, ◌+◌, ◌*◌, List, [], ◌∷◌, ◌++◌, map, length, refl, sym, ◌∙◌, ap, ap₂, arith, ℤ, append_assoc, length-append}
+use Rattle.std.proofs.Common.{◌≡◌, ℕ, ◌+◌, ◌-◌, ◌*◌, inl, inr, if◌then◌else◌, zero-add, List, [], ◌∷◌, ◌++◌, map, length, refl, sym, ◌∙◌, ap, ap₂, arith, ℤ, append_assoc, length-append}
 use Rattle.std.specs.List.{filter, flat_map}
+use Rattle.std.proofs.lemmas.Bool.{cases_lt, le-ltb, lt-ltb}
 use Rattle.std.proofs.lemmas.List.{length-map, map-append}
 use Rattle.std.proofs.lemmas.List.Concat.{flat_map-append}
 use Rattle.iso_defs.specs.Lists.{below}
 use Rattle.iso_defs.specs.Grid.{Grid, cells, is_cell, point_count, is_crossing}
 use Rattle.iso_defs.specs.Rows.{row_count}
+use Rattle.iso_defs.specs.Cell.{Triangle}
 use Rattle.iso_defs.specs.Place.{Position, edge_position}
 use Rattle.iso_defs.specs.Scratch.{cell_centres, cell_triangles, crossing_edges, number_of, on_corners, triangles, vertices}
 use Rattle.mesh_laws.proofs.Rows.{flat_flat}
@@ -16,7 +18,7 @@ use Rattle.flat_mesh.specs.Mesh.{mesh_of}
 use Rattle.mesh_lines.specs.declared.style.Style.{Style}
 use Rattle.mesh_rows.specs.Counts.{centres_among, span, triangles_among}
 use Rattle.mesh_lines.specs.Lines.{face_line, head_of, middle_of, text_of, vertex_line}
-use Rattle.mesh_walk.specs.Spans.{centre_lines, centres_text, edge_line, edges_text, faces_text, lines_text, triangle_lines}
+use Rattle.mesh_walk.specs.Spans.{centre_lines, centres_text, edge_count, edge_line, edges_text, faces_text, lines_text, numbered_from, own_numbers, renumbered, triangle_lines}
 use Rattle.mesh_walk.proofs.FaceLines.{total_is}
 
 flat_of_map : {A B : Type 0} (f : B → List ℕ) (h : A → B) (xs : List A) → flat_map f (map h xs) ≡ flat_map (λ x. f (h x)) xs
@@ -50,6 +52,23 @@ module _ (v : Leveled) where
   all_triangles =
       ap (λ n. flat_map (numbered v) (filter (is_cell g) (below n))) points_are ∙ sym (map_flat (on_corners (number_of g s)) (cell_triangles g s) (cells g))
 
+  -- in a mesh by itself vertices keep their numbers
+  own_number : (n : ℕ) → renumbered (own_numbers v) (edge_count v) n ≡ n
+  own_number n = elim (cases_lt n (edge_count v)) [
+    | inl low ↦ ap (λ b. if b then 0 + n else edge_count v + (n - edge_count v)) (lt-ltb n (edge_count v) low) ∙ zero-add n
+    | inr high ↦ ap (λ b. if b then 0 + n else edge_count v + (n - edge_count v)) (le-ltb n (edge_count v) high) ∙ omega (arith, high)
+  ]
+
+  own_corners : (ts : List Triangle) → map (on_corners (renumbered (own_numbers v) (edge_count v))) ts ≡ ts
+  own_corners [] = refl
+  own_corners ((a, b, c) ∷ ts) = ap₂ (λ t ts. t ∷ ts) (ap (λ n. (n, moved b, moved c)) (own_number a) ∙ (ap (λ n. (a, n, moved c)) (own_number b) ∙ ap (λ n. (a, b, n)) (own_number c))) (own_corners ts)
+    where
+      moved : ℕ → ℕ
+      moved = renumbered (own_numbers v) (edge_count v)
+
+  own_triangles : (q : ℕ) → numbered_from (own_numbers v) v q ≡ numbered v q
+  own_triangles q = own_corners (numbered v q)
+
   pub vertex_count : (total centres : ℕ) → total ≡ rank g s (3 * (g.nx * row_count g)) → centres ≡ centres_among v 0 (g.nx * row_count g) → total + centres ≡ length (vertices g s)
   vertex_count total centres t c =
       let edges : total ≡ length (crossing_edges g s) = total_is v total t in
@@ -75,11 +94,16 @@ module _ (v : Leveled) where
         ap (λ n. flat_map (centre_lines style v) (filter (is_cell g) (below n))) points_are
         ∙ sym (flat_flat (vertex_line style) (cell_centres g s) (cells g))
 
-    all_face_lines : faces_text style.format v 0 (g.nx * row_count g) ≡ flat_map (face_line style.format) (triangles g s)
+    all_face_lines : faces_text style.format (own_numbers v) v 0 (g.nx * row_count g) ≡ flat_map (face_line style.format) (triangles g s)
     unfolding span triangle_lines
     all_face_lines =
-        ap (λ n. flat_map (triangle_lines style.format v) (filter (is_cell g) (below n))) points_are
-        ∙ (sym (flat_flat (face_line style.format) (numbered v) (cells g)) ∙ ap (flat_map (face_line style.format)) (sym (map_flat (on_corners (number_of g s)) (cell_triangles g s) (cells g))))
+        ap (λ n. flat_map (triangle_lines style.format (own_numbers v) v) (filter (is_cell g) (below n))) points_are
+        ∙ (same_lines (λ q. ap (flat_map (face_line style.format)) (own_triangles q)) (cells g)
+        ∙ (sym (flat_flat (face_line style.format) (numbered v) (cells g)) ∙ ap (flat_map (face_line style.format)) (sym (map_flat (on_corners (number_of g s)) (cell_triangles g s) (cells g)))))
+      where
+        same_lines : {f h : ℕ → List ℕ} → ((q : ℕ) → f q ≡ h q) → (qs : List ℕ) → flat_map f qs ≡ flat_map h qs
+        same_lines same [] = refl
+        same_lines same (q ∷ qs) = ap₂ ◌++◌ (same q) (same_lines same qs)
 
     -- the head and the lines are the text
     pub whole_text : head_of style.format (length (vertices g s)) (length (triangles g s)) ++ lines_text style v (length (triangles g s)) ≡ text_of style (mesh_of g s)
@@ -90,8 +114,8 @@ module _ (v : Leveled) where
         let vs : edges_text style v 0 (3 * (g.nx * row_count g)) ++ centres_text style v 0 (g.nx * row_count g) ≡ flat_map (vertex_line style) (vertices g s)
         = ap₂ ◌++◌ edge_lines all_centre_lines ∙ sym (flat_map-append (vertex_line style) us cs) in
         let middle : List ℕ = middle_of style.format (length (triangles g s)) in
-        let fs : middle ++ faces_text style.format v 0 (g.nx * row_count g) ≡ middle ++ flat_map (face_line style.format) (triangles g s) = ap (λ l. middle ++ l) all_face_lines in
+        let fs : middle ++ faces_text style.format (own_numbers v) v 0 (g.nx * row_count g) ≡ middle ++ flat_map (face_line style.format) (triangles g s) = ap (λ l. middle ++ l) all_face_lines in
         let all : lines_text style v (length (triangles g s)) ≡ flat_map (vertex_line style) (vertices g s) ++ (middle ++ flat_map (face_line style.format) (triangles g s))
-        = sym (append_assoc (edges_text style v 0 (3 * (g.nx * row_count g))) (centres_text style v 0 (g.nx * row_count g)) (middle ++ faces_text style.format v 0 (g.nx * row_count g)))
+        = sym (append_assoc (edges_text style v 0 (3 * (g.nx * row_count g))) (centres_text style v 0 (g.nx * row_count g)) (middle ++ faces_text style.format (own_numbers v) v 0 (g.nx * row_count g)))
         ∙ ap₂ ◌++◌ vs fs in
         ap (λ l. head_of style.format (length (vertices g s)) (length (triangles g s)) ++ l) all

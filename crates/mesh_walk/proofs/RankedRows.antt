@@ -181,3 +181,14 @@ row_of_same v w row y z same at = subst (λ (v : Leveled). RowAt v row y z) (sym
 -- how many rows a walk goes through
 pub rows_are : (v : Leveled) (g : Grid) (ny nz : ℕ) → g ≡ v.grid → ny ≡ g.ny → nz ≡ g.nz → ny * nz ≡ row_count v.grid
 rows_are v g ny nz same ey ez = ap (λ n. n * nz) ey ∙ (ap (λ n. g.ny * n) ez ∙ ap row_count same)
+
+-- how many rows the lowest slices have, and that these are rows of the grid
+pub record AreOwned (v : Leveled) (slices rows : ℕ) : Type 0 where
+  pub count : rows ≡ v.grid.ny * slices
+  pub few : v.grid.ny * slices ≤ row_count v.grid
+
+pub owned_are : (v : Leveled) (g : Grid) (ny slices : ℕ) → g ≡ v.grid → ny ≡ g.ny → slices ≤ v.grid.nz → AreOwned v slices (ny * slices)
+owned_are v g ny slices same width few = record {
+  count = ap (λ n. n * slices) width ∙ ap (λ (g : Grid). g.ny * slices) same;
+  few = mul-le-mul_left v.grid.ny few;
+}

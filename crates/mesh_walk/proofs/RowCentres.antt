@@ -13,24 +13,23 @@ use Rattle.cell_loops.specs.Loops.{row_centres}
 use Rattle.case_faces.proofs.Corners.{flat_at, flat_more, flat_upto}
 use Rattle.case_faces.proofs.Tables.{row_at}
 use Rattle.flat_mesh.specs.Faces.{centres_of, loops_at}
-use Rattle.flat_mesh.specs.Lattice.{Leveled, heights}
+use Rattle.flat_mesh.specs.Lattice.{Leveled}
 use Rattle.flat_mesh.specs.Rows.{row_start}
 use Rattle.flat_mesh.proofs.CellPlaces.{cell_placed}
-use Rattle.flat_mesh.proofs.Known.{few_edges}
 use Rattle.flat_mesh.proofs.Loops.{few_loops}
 use Rattle.mesh_text.specs.declared.number.Number.{Number}
 use Rattle.mesh_text.specs.Numbers.{text_at}
 use Rattle.mesh_lines.specs.Triangles.{corner_text}
 use Rattle.mesh_walk.specs.Cells.{AreCells}
 use Rattle.mesh_walk.specs.Listed.{AreLow, cell_centre_slots, centre_slots_to}
-use Rattle.mesh_walk.specs.Numbers.{HasNumber}
+use Rattle.mesh_walk.specs.Numbers.{AreFirst, HasNumber}
+use Rattle.mesh_walk.specs.declared.walk.Numbering.{Numbering}
 use Rattle.mesh_walk.specs.Slots.{AreApart}
-use Rattle.mesh_walk.specs.Spans.{edge_count}
 use Rattle.mesh_walk.specs.Texts.{HasCentres}
 use Rattle.mesh_walk.specs.declared.cells.RowCells.{RowCells}
 use Rattle.mesh_walk.proofs.ActiveCells.{case_of, cell_low, gap, gap_before, gap_low, place_low, quiet_gap, quiet_rest}
 use Rattle.mesh_walk.proofs.CellRuns.{cell_in, cell_of}
-use Rattle.mesh_walk.proofs.FaceLines.{centres_counted, few_centres_of, next_number, quiet_number, total_is}
+use Rattle.mesh_walk.proofs.FaceLines.{centres_counted, few_centres_of, next_number, quiet_number}
 
 -- numbers in order, all below a bound
 record IsOrdered (xs : List ℕ) (bound : ℕ) : Type 0 where
@@ -140,17 +139,17 @@ module _ (v : Leveled) (is : IsGrid v.grid) (cells : RowCells) (are : AreCells v
   centres_apart = ordered_apart all (3 * gap v cells are cells.count) (ordered cells.count (omega arith))
 
   -- the number of the first centre of each cell
-  module _ (format : MeshFormat) (first : ℕ) (number : HasNumber v start first) where
-    behind_gap : (n next : ℕ) → n < cells.count → HasNumber v (start + gap v cells are n) next → HasNumber v (start + place n) next
+  module _ (format : MeshFormat) (numbers : Numbering) (firsts : AreFirst numbers) (first : ℕ) (number : HasNumber numbers.first_centre v start first) where
+    behind_gap : (n next : ℕ) → n < cells.count → HasNumber numbers.first_centre v (start + gap v cells are n) next → HasNumber numbers.first_centre v (start + place n) next
     behind_gap n next low has =
-        quiet_number v (start + gap v cells are n) (place n - gap v cells are n) (start + place n) next (quiet_gap v cells are n low) (omega (arith, gap_before v cells are n low)) has
+        quiet_number numbers.first_centre v (start + gap v cells are n) (place n - gap v cells are n) (start + place n) next (quiet_gap v cells are n low) (omega (arith, gap_before v cells are n low)) has
 
-    number_to : (n : ℕ) → n ≤ cells.count → HasNumber v (start + gap v cells are n) (first + length (centre_slots_to cells n))
+    number_to : (n : ℕ) → n ≤ cells.count → HasNumber numbers.first_centre v (start + gap v cells are n) (first + length (centre_slots_to cells n))
     unfolding centre_slots_to
     number_to zero few =
         let here : start ≡ start + 0 = omega arith in
         let none : first ≡ first + 0 = omega arith in
-        subst (λ q. HasNumber v q (first + 0)) here (subst (HasNumber v start) none number)
+        subst (λ q. HasNumber numbers.first_centre v q (first + 0)) here (subst (HasNumber numbers.first_centre v start) none number)
     number_to (suc n) few =
         let low : n < cells.count = omega (arith, few) in
         let next : n + 1 ≡ suc n = omega arith in
@@ -161,29 +160,29 @@ module _ (v : Leveled) (is : IsGrid v.grid) (cells : RowCells) (are : AreCells v
         let placed = cell_placed v.grid (cell_of v cells are (place n)) (cell_in v cells are (place n) (cell_low v cells are n low)) in
         let loops : List (List ℕ) = loops_at v (start + place n) in
         let has = behind_gap n before low (number_to n (omega arith)) in
-        let after = next_number format v (start + place n) before placed.tested has loops (first + length (flat_map (cell_centre_slots cells) (below (suc n)))) refl (few_loops v (start + place n)) (few_centres_of loops) (omega (arith, total, count, count_is n low)) in
+        let after = next_number numbers.first_centre v (start + place n) before placed.tested has loops (first + length (flat_map (cell_centre_slots cells) (below (suc n)))) refl (few_loops v (start + place n)) (few_centres_of loops) (omega (arith, total, count, count_is n low)) in
         let to : start + place n + 1 ≡ start + gap v cells are (suc n) = omega arith in
-        subst (λ q. HasNumber v q (first + length (flat_map (cell_centre_slots cells) (below (suc n))))) to after
+        subst (λ q. HasNumber numbers.first_centre v q (first + length (flat_map (cell_centre_slots cells) (below (suc n))))) to after
 
-    number_at : (n : ℕ) → n < cells.count → HasNumber v (start + place n) (first + length (centre_slots_to cells n))
+    number_at : (n : ℕ) → n < cells.count → HasNumber numbers.first_centre v (start + place n) (first + length (centre_slots_to cells n))
     number_at n low = behind_gap n (first + length (centre_slots_to cells n)) low (number_to n (omega (arith, low)))
 
     -- and that of the first centre behind the row
-    pub number_behind : HasNumber v (start + v.grid.nx) (first + length all)
+    pub number_behind : HasNumber numbers.first_centre v (start + v.grid.nx) (first + length all)
     number_behind =
         let far = gap_low v cells are some cells.count (omega arith) in
-        quiet_number v (start + gap v cells are cells.count) (v.grid.nx - gap v cells are cells.count) (start + v.grid.nx) (first + length all)
+        quiet_number numbers.first_centre v (start + gap v cells are cells.count) (v.grid.nx - gap v cells are cells.count) (start + v.grid.nx) (first + length all)
         (quiet_rest v cells are some) (omega (arith, far)) (number_to cells.count (omega arith))
 
     pub few_numbers : first + length all < 2 ^ 32
     few_numbers =
         let last : index v.grid (v.grid.nx - 1) cells.y cells.z < point_count v.grid = index_in v.grid (v.grid.nx - 1) cells.y cells.z (omega (arith, some)) (omega (arith, are.y)) (omega (arith, are.z)) in
         let q : index v.grid (v.grid.nx - 1) cells.y cells.z + 1 ≡ start + v.grid.nx = omega (arith, some) in
-        omega (arith, number_behind.few, last, q, is.count, total_is v (edge_count v) refl, few_edges v.grid (heights v))
+        omega (arith, number_behind.few, last, q, is.count, firsts.centre)
 
     -- so their texts are set
     pub centres_set : (texts : List Number) → ((j : ℕ) → j < length all → text_at texts (12312 + get_or all j 0) ≡ corner_text format (first + j))
-        → (k : ℕ) → k < cells.count → HasCentres format v cells texts k
+        → (k : ℕ) → k < cells.count → HasCentres format numbers v cells texts k
     unfolding centre_slots_to
     centres_set texts set k low = record {
       first = first + length (flat_map (cell_centre_slots cells) (below k));

@@ -15,10 +15,9 @@ use Rattle.case_faces.proofs.Corners.{cell_three, faces_named, flat_more}
 use Rattle.flat_mesh.specs.Centres.{IsCellAt}
 use Rattle.flat_mesh.specs.declared.centres.Cell.{Cell}
 use Rattle.flat_mesh.specs.Faces.{cell_faces, centres_of, loops_at}
-use Rattle.flat_mesh.specs.Lattice.{Leveled, heights}
+use Rattle.flat_mesh.specs.Lattice.{Leveled}
 use Rattle.flat_mesh.specs.Rows.{row_start}
 use Rattle.flat_mesh.proofs.CellPlaces.{cell_placed}
-use Rattle.flat_mesh.proofs.Known.{few_edges}
 use Rattle.flat_mesh.proofs.Loops.{few_loops}
 use Rattle.mesh_text.specs.declared.number.Number.{Number}
 use Rattle.mesh_text.specs.Numbers.{text_at}
@@ -27,14 +26,15 @@ use Rattle.mesh_lines.specs.Triangles.{corner_text}
 use Rattle.mesh_rows.specs.Counts.{centres_among}
 use Rattle.mesh_walk.specs.Cells.{AreCells}
 use Rattle.mesh_walk.specs.Listed.{cell_corner_slots, corner_slots_to}
-use Rattle.mesh_walk.specs.Numbers.{HasNumber}
+use Rattle.mesh_walk.specs.Numbers.{AreFirst}
+use Rattle.mesh_walk.specs.declared.walk.Numbering.{Numbering}
 use Rattle.mesh_walk.specs.Slots.{AreAround, corner_slot}
-use Rattle.mesh_walk.specs.Spans.{edge_count, face_lines, faces_text, triangle_lines}
+use Rattle.mesh_walk.specs.Spans.{edge_count, face_lines, faces_text, renumbered, triangle_lines}
 use Rattle.mesh_walk.specs.Texts.{HasCentres, HasText, number_due}
 use Rattle.mesh_walk.specs.declared.cells.RowCells.{RowCells}
 use Rattle.mesh_walk.proofs.ActiveCells.{case_of, cell_low, gap, gap_before, gap_low, quiet_gap, quiet_rest}
 use Rattle.mesh_walk.proofs.CellRuns.{cell_in, cell_of}
-use Rattle.mesh_walk.proofs.FaceLines.{cell_lines, few_centres_of, lines_append, lines_none, quiet_faces, total_is}
+use Rattle.mesh_walk.proofs.FaceLines.{cell_lines, few_centres_of, lines_append, lines_none, quiet_faces}
 use Rattle.mesh_rows.proofs.SpanLaws.{span_more, span_none}
 use Rattle.mesh_walk.proofs.TextSlots.{IsNumbered, corners_named, named, numbers, numbers_are}
 
@@ -92,16 +92,23 @@ module _ (texts : List Number) (format : MeshFormat) (slots : List ℕ) (faces :
       ∙ (get_or-map (corner_text format) (concat faces) (3 * i + j) 0 [] (omega (arith, low, few, joined_count faces three))
       ∙ ap (corner_text format) (joined_at faces three i j (omega (arith, low)) few)))
 
-module _ (v : Leveled) (is : IsGrid v.grid) (style : Style) (cells : RowCells) (are : AreCells v cells) where
+module _ (v : Leveled) (is : IsGrid v.grid) (style : Style) (base : Numbering) (firsts : AreFirst base) (cells : RowCells) (are : AreCells v cells) where
   abbrev start : ℕ
   start = row_start v.grid cells.y cells.z
 
   abbrev place : ℕ → ℕ
   place k = get_or cells.places k 0
 
-  -- the triangles of the cell listed at a place, by the numbers of their corners
+  abbrev moved : ℕ → ℕ
+  moved = renumbered base (edge_count v)
+
+  -- the triangles of the cell listed at a place, by the numbers of their corners in the mesh
+  abbrev own_faces : ℕ → List (List ℕ)
+  own_faces k = cell_faces (numbers v (start + place k)) (loops_at v (start + place k)) (edge_count v + centres_among v 0 (start + place k))
+
+  -- and by those that they get
   abbrev faces_of : ℕ → List (List ℕ)
-  faces_of k = cell_faces (numbers v (start + place k)) (loops_at v (start + place k)) (edge_count v + centres_among v 0 (start + place k))
+  faces_of k = map (map moved) (own_faces k)
 
   -- those of the first cells that are listed
   unfoldable pub faces_to : ℕ → List (List ℕ)
@@ -120,10 +127,12 @@ module _ (v : Leveled) (is : IsGrid v.grid) (style : Style) (cells : RowCells) (
   faces_three (suc n) =
       subst (All (λ t. length t ≡ 3)) (sym (faces_next n))
       (All-append (λ t. length t ≡ 3) (faces_to n) (faces_of n) (faces_three n)
-      (cell_three (numbers v (start + place n)) (loops_at v (start + place n)) (edge_count v + centres_among v 0 (start + place n))))
+      (All-map (λ t. length t ≡ 3) (map moved) (own_faces n)
+      (All-weaker (λ t. length t ≡ 3) (λ t. length (map moved t) ≡ 3) (λ t three. length-map t moved ∙ three) (own_faces n)
+      (cell_three (numbers v (start + place n)) (loops_at v (start + place n)) (edge_count v + centres_among v 0 (start + place n))))))
 
-  module _ (texts : List Number) (around : AreAround (text_at texts) (number_due style v) v cells.y cells.z)
-      (centres : (k : ℕ) → k < cells.count → HasCentres style.format v cells texts k) where
+  module _ (texts : List Number) (around : AreAround (text_at texts) (number_due style base v) v cells.y cells.z)
+      (centres : (k : ℕ) → k < cells.count → HasCentres style.format base v cells texts k) where
     module _ (k : ℕ) (low : k < cells.count) where
       abbrev q : ℕ
       q = start + place k
@@ -137,47 +146,53 @@ module _ (v : Leveled) (is : IsGrid v.grid) (style : Style) (cells : RowCells) (
       here : IsCellAt v.grid cell
       here = cell_in v cells are (place k) (cell_low v cells are k low)
 
-      abbrev first : ℕ
-      first = (centres k low).first
+      abbrev before : ℕ
+      before = centres_among v 0 q
+
+      first_is : (centres k low).first ≡ base.first_centre + before
+      first_is = (centres k low).number.number
 
       count_few : sum_by centres_of (loops_at v q) ≤ 4
       count_few = omega (arith, few_centres_of (loops_at v q), few_loops v q)
 
-      first_low : first + 4 ≤ 2 ^ 32
-      first_low = omega (arith, (cell_placed v.grid cell here).low, is.count, total_is v (edge_count v) refl, few_edges v.grid (heights v), (centres k low).number.few)
+      first_low : base.first_centre + before + 4 ≤ 2 ^ 32
+      first_low = omega (arith, (cell_placed v.grid cell here).low, is.count, firsts.centre, first_is, (centres k low).number.few)
+
+      each_centre : (i : ℕ) → i < sum_by centres_of (loops_at v q) → text_at texts (12312 + 3 * place k + i) ≡ corner_text style.format (base.first_centre + before + i)
+      each_centre i h = (centres k low).each i h ∙ ap (λ n. corner_text style.format (n + i)) first_is
 
       abbrev name_of : ℕ → ℕ
-      name_of = named v is style cell here texts around first (sum_by centres_of (loops_at v q)) count_few first_low (centres k low).each
+      name_of = named v is style base firsts cell here texts around before (sum_by centres_of (loops_at v q)) count_few first_low each_centre
 
       abbrev slot_of : ℕ → ℕ
       slot_of c = corner_slot cells.y cells.z c + 3 * place k
 
-      each : All (λ c. IsNumbered v is style cell here texts around c (name_of c)) (case_corners case)
+      each : All (λ c. IsNumbered v is style base firsts cell here texts around c (moved (name_of c))) (case_corners case)
       unfolding case_corners
       each =
           let is_case = case_of v cells are k low in
-          all_joined (λ c. IsNumbered v is style cell here texts around c (name_of c)) (row_faces case)
-          (corners_named v is style cell here texts around first (sum_by centres_of (loops_at v q)) count_few first_low (centres k low).each case is_case.small is_case.loops (ap (sum_by centres_of) (sym is_case.loops)))
+          all_joined (λ c. IsNumbered v is style base firsts cell here texts around c (moved (name_of c))) (row_faces case)
+          (corners_named v is style base firsts cell here texts around before (sum_by centres_of (loops_at v q)) count_few first_low each_centre case is_case.small is_case.loops (ap (sum_by centres_of) (sym is_case.loops)))
 
       cell_has : All (HasText texts) (cell_corner_slots cells k)
       cell_has =
           All-map (HasText texts) slot_of (case_corners case)
-          (All-weaker (λ c. IsNumbered v is style cell here texts around c (name_of c)) (λ c. HasText texts (slot_of c)) (λ c n. n.has) (case_corners case) each)
+          (All-weaker (λ c. IsNumbered v is style base firsts cell here texts around c (moved (name_of c))) (λ c. HasText texts (slot_of c)) (λ c n. n.has) (case_corners case) each)
 
-      faces_are : map (map name_of) (row_faces case) ≡ faces_of k
+      faces_are : map (map name_of) (row_faces case) ≡ own_faces k
       faces_are =
           let is_case = case_of v cells are k low in
-          faces_named (numbers v q) first case is_case.small
-          ∙ ap₂ (λ ls n. cell_faces (numbers v q) ls n) is_case.loops (centres k low).number.number
+          faces_named (numbers v q) (edge_count v + before) case is_case.small ∙ ap (λ ls. cell_faces (numbers v q) ls (edge_count v + before)) is_case.loops
 
       cell_texts : map (text_at texts) (cell_corner_slots cells k) ≡ map (corner_text style.format) (concat (faces_of k))
       unfolding case_corners
       cell_texts =
           map-map (text_at texts) slot_of (case_corners case)
-          ∙ (maps_agree (λ c. text_at texts (slot_of c)) (λ c. corner_text style.format (name_of c)) (case_corners case)
-          (All-weaker (λ c. IsNumbered v is style cell here texts around c (name_of c)) (λ c. text_at texts (slot_of c) ≡ corner_text style.format (name_of c)) (λ c n. n.text) (case_corners case) each)
-          ∙ (sym (map-map (corner_text style.format) name_of (case_corners case))
-          ∙ ap (map (corner_text style.format)) (map_joined name_of (row_faces case) ∙ ap concat faces_are)))
+          ∙ (maps_agree (λ c. text_at texts (slot_of c)) (λ c. corner_text style.format (moved (name_of c))) (case_corners case)
+          (All-weaker (λ c. IsNumbered v is style base firsts cell here texts around c (moved (name_of c))) (λ c. text_at texts (slot_of c) ≡ corner_text style.format (moved (name_of c))) (λ c n. n.text) (case_corners case) each)
+          ∙ (sym (map-map (λ n. corner_text style.format (moved n)) name_of (case_corners case))
+          ∙ (sym (map-map (corner_text style.format) moved (map name_of (case_corners case)))
+          ∙ ap (map (corner_text style.format)) (ap (map moved) (map_joined name_of (row_faces case) ∙ ap concat faces_are) ∙ map_joined moved (own_faces k)))))
 
     none_listed : corner_slots_to cells 0 ≡ []
     unfolding corner_slots_to
@@ -205,33 +220,31 @@ module _ (v : Leveled) (is : IsGrid v.grid) (style : Style) (cells : RowCells) (
         ∙ ap (map (corner_text style.format)) (sym (ap concat (faces_next n) ∙ concat-append (faces_to n) (faces_of n))))))
 
     -- the lines of the triangles of the row
-    lines_to : (n : ℕ) → n ≤ cells.count → face_lines style.format (faces_to n) ≡ faces_text style.format v start (gap v cells are n)
-    lines_to zero few = ap (face_lines style.format) faces_none ∙ (lines_none style.format ∙ sym (span_none (triangle_lines style.format v) (is_cell v.grid) start))
+    lines_to : (n : ℕ) → n ≤ cells.count → face_lines style.format (faces_to n) ≡ faces_text style.format base v start (gap v cells are n)
+    lines_to zero few = ap (face_lines style.format) faces_none ∙ (lines_none style.format ∙ sym (span_none (triangle_lines style.format base v) (is_cell v.grid) start))
     lines_to (suc n) few =
         let low : n < cells.count = omega (arith, few) in
         let from : ℕ = gap v cells are n in
         let upto = gap_before v cells are n low in
         let placed = cell_placed v.grid (cell n low) (here n low) in
-        let number : HasNumber v (start + place n) (edge_count v + centres_among v 0 (start + place n))
-        = record { number = refl; few = omega (arith, (centres n low).number.few, (centres n low).number.number) } in
-        let one = cell_lines style.format v (start + place n) (edge_count v + centres_among v 0 (start + place n)) placed.tested number (numbers v (start + place n)) (loops_at v (start + place n)) placed.known (numbers_are v (start + place n)) refl in
-        let none = quiet_faces style.format v (start + from) (place n - from) (quiet_gap v cells are n low) in
+        let one = cell_lines base v (start + place n) placed.tested style.format (edge_count v + centres_among v 0 (start + place n)) refl (numbers v (start + place n)) (loops_at v (start + place n)) placed.known (numbers_are v (start + place n)) refl in
+        let none = quiet_faces style.format base v (start + from) (place n - from) (quiet_gap v cells are n low) in
         let reach : from + (place n - from) ≡ place n = omega (arith, upto) in
         ap (face_lines style.format) (faces_next n)
         ∙ (lines_append style.format (faces_to n) (faces_of n)
         ∙ (ap₂ (λ a b. a ++ b)
-        (lines_to n (omega arith) ∙ sym (ap (faces_text style.format v start) (sym reach) ∙ (span_more (triangle_lines style.format v) (is_cell v.grid) start from (place n - from)
-        ∙ (ap (λ l. faces_text style.format v start from ++ l) none ∙ append-nil (faces_text style.format v start from)))))
+        (lines_to n (omega arith) ∙ sym (ap (faces_text style.format base v start) (sym reach) ∙ (span_more (triangle_lines style.format base v) (is_cell v.grid) start from (place n - from)
+        ∙ (ap (λ l. faces_text style.format base v start from ++ l) none ∙ append-nil (faces_text style.format base v start from)))))
         one
-        ∙ sym (span_more (triangle_lines style.format v) (is_cell v.grid) start (place n) 1)))
+        ∙ sym (span_more (triangle_lines style.format base v) (is_cell v.grid) start (place n) 1)))
 
-    pub row_lines : face_lines style.format (faces_to cells.count) ≡ faces_text style.format v start v.grid.nx
+    pub row_lines : face_lines style.format (faces_to cells.count) ≡ faces_text style.format base v start v.grid.nx
     row_lines =
         let some : 0 < v.grid.nx = omega (arith, is.x.least) in
         let from : ℕ = gap v cells are cells.count in
         let far = gap_low v cells are some cells.count (omega arith) in
-        let none = quiet_faces style.format v (start + from) (v.grid.nx - from) (quiet_rest v cells are some) in
+        let none = quiet_faces style.format base v (start + from) (v.grid.nx - from) (quiet_rest v cells are some) in
         let reach : from + (v.grid.nx - from) ≡ v.grid.nx = omega (arith, far) in
         lines_to cells.count (omega arith)
-        ∙ sym (ap (faces_text style.format v start) (sym reach) ∙ (span_more (triangle_lines style.format v) (is_cell v.grid) start from (v.grid.nx - from)
-        ∙ (ap (λ l. faces_text style.format v start from ++ l) none ∙ append-nil (faces_text style.format v start from))))
+        ∙ sym (ap (faces_text style.format base v start) (sym reach) ∙ (span_more (triangle_lines style.format base v) (is_cell v.grid) start from (v.grid.nx - from)
+        ∙ (ap (λ l. faces_text style.format base v start from ++ l) none ∙ append-nil (faces_text style.format base v start from))))

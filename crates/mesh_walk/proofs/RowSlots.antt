@@ -41,6 +41,14 @@ module _ (g : Grid) (s : ℕ → ℤ) where
       ∙ ap (λ k. count_by p (range_with_len 0 a) + k)
       (ap (λ b. count_by p (range_with_len b n)) (zero-add a) ∙ sym (length-filter p (range_with_len a n))))
 
+  -- a crossing edge has a lower rank than those behind it
+  pub rank_before : (n behind : ℕ) → n < behind → is_crossing g s n ≡ true → rank g s n < rank g s behind
+  rank_before n behind low h =
+      let rest : ℕ = behind - (n + 1) in
+      let cut : behind ≡ n + 1 + rest = omega (arith, low) in
+      let here : length (names_in g s n 1) ≡ 1 = ap length (one n h) in
+      omega (arith, ap (rank g s) cut, names_count (n + 1) rest, names_count n 1, here)
+
   listed : (a n k : ℕ) → k < length (names_in g s a n) → IsListed g s a n k (get_or (names_in g s a n) k 0)
   listed a zero k low = absurd (let none : length (names_in g s a 0) ≡ 0 = ap length (names_empty g s a) in omega arith)
   listed a (suc n) k low =

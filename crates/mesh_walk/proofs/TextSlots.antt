@@ -8,6 +8,7 @@ use Rattle.std.proofs.lemmas.List.FromFn.{get_or-map-range_with_len}
 use Rattle.iso_defs.specs.Cell.{cell_edge, cell_signs, crosses}
 use Rattle.iso_defs.specs.Grid.{name_bound, is_crossing}
 use Rattle.iso_defs.specs.Lists.{below}
+use Rattle.iso_defs.specs.Rows.{row_count}
 use Rattle.iso_base.specs.Volume.{IsGrid}
 use Rattle.iso_base.specs.declared.format.MeshFormat.{MeshFormat}
 use Rattle.iso_base.specs.declared.format.MeshFormat.TheVariants.{Ply, Obj, Off, Vtk}
@@ -34,7 +35,10 @@ use Rattle.mesh_lines.specs.declared.style.Style.{Style}
 use Rattle.mesh_lines.specs.Triangles.{corner_text, first_of}
 use Rattle.mesh_walk.specs.Slots.{AreApart, AreAround, AreLaid, IsReady, corner_slot, edge_slot, row_slot}
 use Rattle.mesh_walk.specs.Texts.{HasText, number_due}
-use Rattle.mesh_walk.proofs.RowSlots.{edge_is}
+use Rattle.mesh_walk.specs.Numbers.{AreFirst}
+use Rattle.mesh_walk.specs.Spans.{edge_count, renumbered}
+use Rattle.mesh_walk.specs.declared.walk.Numbering.{Numbering}
+use Rattle.mesh_walk.proofs.RowSlots.{edge_is, rank_before}
 use Rattle.mesh_walk.proofs.SlotRows.{edge_laid, slot_low}
 
 -- one text more is set
@@ -113,8 +117,11 @@ module _ (v : Leveled) (q : ℕ) where
   numbers_are e low = get_or-map-range_with_len number 0 12 e e 0 low (zero-add e)
 
 -- the texts of the corners of a cell
-module _ (v : Leveled) (is : IsGrid v.grid) (style : Style) (cell : Cell) (h : IsCellAt v.grid cell) (texts : List Number)
-    (around : AreAround (text_at texts) (number_due style v) v cell.low.y cell.low.z) where
+module _ (v : Leveled) (is : IsGrid v.grid) (style : Style) (base : Numbering) (firsts : AreFirst base) (cell : Cell) (h : IsCellAt v.grid cell) (texts : List Number)
+    (around : AreAround (text_at texts) (number_due style base v) v cell.low.y cell.low.z) where
+  abbrev moved : ℕ → ℕ
+  moved = renumbered base (edge_count v)
+
   abbrev pub slot : ℕ → ℕ
   slot c = corner_slot cell.low.y cell.low.z c + 3 * cell.low.x
 
@@ -135,36 +142,55 @@ module _ (v : Leveled) (is : IsGrid v.grid) (style : Style) (cell : Cell) (h : I
     slot_is : corner_slot cell.low.y cell.low.z e ≡ edge_slot cell.low.y cell.low.z e
     slot_is = ap (λ b. if b then edge_slot cell.low.y cell.low.z e else 12300 + e) (lt-ltb e 12 low)
 
-    number_low : number v cell.index e < 2 ^ 32
+    number_low : base.first_edge + number v cell.index e < 2 ^ 32
     number_low =
         let count = is.count in
-        omega (arith, rank_low v.grid (heights v) (cell_edge v.grid cell.index e), edge_in v.grid cell.index e (cell_placed v.grid cell h).known low)
+        omega (arith, firsts.edge, rank_low v.grid (heights v) (cell_edge v.grid cell.index e), edge_in v.grid cell.index e (cell_placed v.grid cell h).known low)
 
-    edge_numbered : IsNumbered e (number v cell.index e)
+    -- it is one of the crossing edges
+    number_in : number v cell.index e < edge_count v
+    number_in =
+        let all : 3 * (v.grid.nx * row_count v.grid) ≡ name_bound v.grid = size v.grid.nx v.grid.ny v.grid.nz in
+        rank_before v.grid (heights v) (cell_edge v.grid cell.index e) (3 * (v.grid.nx * row_count v.grid))
+        (omega (arith, all, edge_in v.grid cell.index e (cell_placed v.grid cell h).known low)) crossing
+      where
+        size : (x y z : ℕ) → 3 * (x * (y * z)) ≡ 3 * (x * y * z)
+        size x y z = omega arith
+
+    edge_numbered : IsNumbered e (base.first_edge + number v cell.index e)
     edge_numbered =
-        numbered_by e (number v cell.index e) (omega (arith, slot_is, slot_low cell.low.y cell.low.z e low, h.x, is.x.most)) number_low
+        numbered_by e (base.first_edge + number v cell.index e) (omega (arith, slot_is, slot_low cell.low.y cell.low.z e low, h.x, is.x.most)) number_low
         (ap (text_at texts) (ap (λ n. n + 3 * cell.low.x) slot_is) ∙ edge_laid _ _ v cell h around e low crossing)
 
-  -- the centres, from the number of the first one
-  module _ (first count : ℕ) (few : count ≤ 4) (small : first + 4 ≤ 2 ^ 32)
-      (centres : (i : ℕ) → i < count → text_at texts (12312 + 3 * cell.low.x + i) ≡ corner_text style.format (first + i)) where
+  -- the centres, so many behind the first one of the mesh
+  module _ (before count : ℕ) (few : count ≤ 4) (small : base.first_centre + before + 4 ≤ 2 ^ 32)
+      (centres : (i : ℕ) → i < count → text_at texts (12312 + 3 * cell.low.x + i) ≡ corner_text style.format (base.first_centre + before + i)) where
+    -- the numbers of the corners in the mesh, and those that they get
     abbrev pub named : ℕ → ℕ
-    named = corner_number (numbers v cell.index) first
+    named = corner_number (numbers v cell.index) (edge_count v + before)
 
-    centre_named : (c : ℕ) → 12 ≤ c → c < 12 + count → IsNumbered c (named c)
+    centre_named : (c : ℕ) → 12 ≤ c → c < 12 + count → IsNumbered c (moved (named c))
     centre_named c from to =
         let slot_is : corner_slot cell.low.y cell.low.z c ≡ 12300 + c = ap (λ b. if b then edge_slot cell.low.y cell.low.z c else 12300 + c) (le-ltb c 12 from) in
         let there : slot c ≡ 12312 + 3 * cell.low.x + (c - 12) = omega (arith, slot_is, from) in
-        let name : first + (c - 12) ≡ named c = sym (ap (λ b. if b then get_or (numbers v cell.index) c 0 else first + (c - 12)) (le-ltb c 12 from)) in
-        subst (IsNumbered c) name
-        (numbered_by c (first + (c - 12)) (omega (arith, slot_is, to, few, h.x, is.x.most)) (omega (arith, small, to, few, from))
+        let name : named c ≡ edge_count v + before + (c - 12) = ap (λ b. if b then get_or (numbers v cell.index) c 0 else edge_count v + before + (c - 12)) (le-ltb c 12 from) in
+        let behind : edge_count v ≤ named c = omega (arith, name) in
+        let gets : moved (named c) ≡ base.first_centre + (named c - edge_count v)
+        = ap (λ b. if b then base.first_edge + named c else base.first_centre + (named c - edge_count v)) (le-ltb (named c) (edge_count v) behind) in
+        let is_moved : base.first_centre + before + (c - 12) ≡ moved (named c) = omega (arith, gets, name) in
+        subst (IsNumbered c) is_moved
+        (numbered_by c (base.first_centre + before + (c - 12)) (omega (arith, slot_is, to, few, h.x, is.x.most)) (omega (arith, small, to, few, from))
         (ap (text_at texts) there ∙ centres (c - 12) (omega (arith, from, to))))
 
-    edge_named : (e : ℕ) → e < 12 → crosses (cell_signs v.grid (heights v) cell.index) e ≡ true → IsNumbered e (named e)
+    edge_named : (e : ℕ) → e < 12 → crosses (cell_signs v.grid (heights v) cell.index) e ≡ true → IsNumbered e (moved (named e))
     edge_named e low c =
-        let name : number v cell.index e ≡ named e
-        = sym (ap (λ b. if b then get_or (numbers v cell.index) e 0 else first + (e - 12)) (lt-ltb e 12 low) ∙ numbers_are v cell.index e low) in
-        subst (IsNumbered e) name (edge_numbered e low c)
+        let name : named e ≡ number v cell.index e
+        = ap (λ b. if b then get_or (numbers v cell.index) e 0 else edge_count v + before + (e - 12)) (lt-ltb e 12 low) ∙ numbers_are v cell.index e low in
+        let within : named e < edge_count v = omega (arith, name, number_in e low c) in
+        let gets : moved (named e) ≡ base.first_edge + named e
+        = ap (λ b. if b then base.first_edge + named e else base.first_centre + (named e - edge_count v)) (lt-ltb (named e) (edge_count v) within) in
+        let is_moved : base.first_edge + number v cell.index e ≡ moved (named e) = omega (arith, gets, name) in
+        subst (IsNumbered e) is_moved (edge_numbered e low c)
 
     module _ (n : ℕ) (case : n < 656) (same : row_loops n ≡ loops_at v cell.index) (all : count ≡ sum_by centres_of (row_loops n)) where
       loop_at : (i : ℕ) (d : List ℕ) → i < length (row_loops n) → get_or (row_loops n) i d ≡ get_or (loops_at v cell.index) i []
@@ -173,15 +199,15 @@ module _ (v : Leveled) (is : IsGrid v.grid) (style : Style) (cell : Cell) (h : I
       low_at : (i : ℕ) → i < length (row_loops n) → i < length (loops_at v cell.index)
       low_at i low = subst (λ n. i < n) (ap length same) low
 
-      each_edge : All (All (λ e. IsNumbered e (named e))) (row_loops n)
+      each_edge : All (All (λ e. IsNumbered e (moved (named e)))) (row_loops n)
       each_edge i d low =
           let loop = loop_is v cell.index i (low_at i low) in
           let cross = loop_crosses v cell.index i (low_at i low) in
-          subst (All (λ e. IsNumbered e (named e))) (sym (loop_at i d low)) (λ k d below. edge_named _ (loop.low k d below) (cross.each k d below))
+          subst (All (λ e. IsNumbered e (moved (named e)))) (sym (loop_at i d low)) (λ k d below. edge_named _ (loop.low k d below) (cross.each k d below))
 
       -- each corner of the triangles of the cell has the text of its number
-      pub corners_named : All (All (λ c. IsNumbered c (named c))) (row_faces n)
-      corners_named = corners_each (λ c. IsNumbered c (named c)) n case each_edge (λ c from to. centre_named c from (omega (arith, to, all)))
+      pub corners_named : All (All (λ c. IsNumbered c (moved (named c)))) (row_faces n)
+      corners_named = corners_each (λ c. IsNumbered c (moved (named c))) n case each_edge (λ c from to. centre_named c from (omega (arith, to, all)))
 
 row_slot_low : (y z : ℕ) → row_slot y z ≤ 9234
 row_slot_low y z = omega arith

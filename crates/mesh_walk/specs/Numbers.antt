@@ -1,5 +1,5 @@
 -- The numbers of crossing edges, row by row.
-use Rattle.std.specs.Prelude.{◌≡◌, ℕ, ◌+◌, ◌*◌, ◌/◌, ◌%◌, ◌<◌, ◌≤◌, ◌&&◌, Bool, true, nat_lt, if◌then◌else◌, [], slice_index}
+use Rattle.std.specs.Prelude.{◌≡◌, ℕ, ◌+◌, ◌*◌, ◌^◌, ◌/◌, ◌%◌, ◌<◌, ◌≤◌, ◌&&◌, Bool, true, nat_lt, if◌then◌else◌, [], slice_index}
 use Rattle.std.specs.List.{sum_by}
 use Rattle.iso_defs.specs.Lists.{below}
 use Rattle.iso_defs.specs.Grid.{Grid, is_cell}
@@ -11,6 +11,7 @@ use Rattle.flat_mesh.specs.Lattice.{Leveled, heights}
 use Rattle.mesh_rows.specs.Counts.{centres_among}
 use Rattle.mesh_walk.specs.Spans.{edge_count}
 use Rattle.mesh_walk.specs.declared.ranks.RowPlace.{RowPlace}
+use Rattle.mesh_walk.specs.declared.walk.Numbering.{Numbering}
 
 -- the number of a row of points, by its coordinates
 abbrev pub row_number : Grid → RowPlace → ℕ
@@ -46,7 +47,12 @@ cost_before g cost r = sum_by (cost_of_row g cost) (below r)
 abbrev pub cells_cost : Leveled → (ℕ → ℕ) → ℕ
 cells_cost v cost = cost_before v.grid cost (row_count v.grid)
 
--- the number of the first centre of the cells from a point on: vertices on edges come first
-pub record HasNumber (v : Leveled) (q next : ℕ) : Type 0 where
-  pub number : next ≡ edge_count v + centres_among v 0 q
-  pub few : next ≤ edge_count v + 4 * q
+-- the number of the first centre of the cells from a point on, where centres are counted from a number on
+pub record HasNumber (first : ℕ) (v : Leveled) (q next : ℕ) : Type 0 where
+  pub number : next ≡ first + centres_among v 0 q
+  pub few : next ≤ first + 4 * q
+
+-- first numbers behind which there is room for those of all vertices
+pub record AreFirst (numbers : Numbering) : Type 0 where
+  pub edge : numbers.first_edge < 2 ^ 31
+  pub centre : numbers.first_centre < 2 ^ 31

@@ -12,10 +12,11 @@ use Rattle.mesh_lines.specs.Triangles.{corner_text}
 use Rattle.mesh_walk.specs.Cells.{cells_start}
 use Rattle.mesh_walk.specs.Numbers.{HasNumber}
 use Rattle.mesh_walk.specs.declared.cells.RowCells.{RowCells}
+use Rattle.mesh_walk.specs.declared.walk.Numbering.{Numbering}
 
 -- what is due to an edge: the text of its number
-abbrev pub number_due : Style → Leveled → ℕ → List ℕ
-number_due style v name = corner_text style.format (rank v.grid (heights v) name)
+abbrev pub number_due : Style → Numbering → Leveled → ℕ → List ℕ
+number_due style numbers v name = corner_text style.format (numbers.first_edge + rank v.grid (heights v) name)
 
 -- a slot with a text, which can be put into a line
 pub record HasText (texts : List Number) (slot : ℕ) : Type 0 where
@@ -24,8 +25,8 @@ pub record HasText (texts : List Number) (slot : ℕ) : Type 0 where
   pub few : length (text_at texts slot) ≤ 12
 
 -- the texts of the numbers of the centres of the cell listed at a place stand in its slots
-pub record HasCentres (format : MeshFormat) (v : Leveled) (cells : RowCells) (texts : List Number) (k : ℕ) : Type 0 where
+pub record HasCentres (format : MeshFormat) (numbers : Numbering) (v : Leveled) (cells : RowCells) (texts : List Number) (k : ℕ) : Type 0 where
   pub first : ℕ
-  pub number : HasNumber v (cells_start v cells + slice_index cells.places k) first
+  pub number : HasNumber numbers.first_centre v (cells_start v cells + slice_index cells.places k) first
   pub each : (i : ℕ) → i < sum_by centres_of (loops_at v (cells_start v cells + slice_index cells.places k)) →
       text_at texts (12312 + 3 * slice_index cells.places k + i) ≡ corner_text format (first + i)

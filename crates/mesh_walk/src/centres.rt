@@ -1,16 +1,15 @@
 //! The lines of the centres of loops: those of a row of cells are listed first, and then written one after the other.
 ghost use Rattle.std.specs.Prelude.{◌≡◌, ◌+◌, ◌*◌, ◌<◌, ◌≤◌, ◌++◌, All, IfOk, map, take};
-ghost use Rattle.iso_defs.specs.Rows.{row_count};
 ghost use Rattle.cell_loops.specs.Loops.{row_centres};
 ghost use Rattle.case_faces.specs.Fans.{fan_of};
 ghost use Rattle.flat_mesh.specs.Rows.{row_start};
 ghost use Rattle.mesh_lines.specs.Blocks.{Adds};
 ghost use Rattle.mesh_walk.specs.Cells.{AreCells};
 ghost use Rattle.mesh_walk.specs.Fans.{AreFans, seen};
-ghost use Rattle.mesh_walk.specs.Numbers.{AreRowRanks, cells_cost, cost_of_row, row_number};
+ghost use Rattle.mesh_walk.specs.Numbers.{AreFirst, AreRowRanks, cost_before, cost_of_row, row_number};
 ghost use Rattle.mesh_walk.specs.Places.{AreRowPlaces, due_to, in_slot};
 ghost use Rattle.mesh_walk.specs.Slots.{IsReady};
-ghost use Rattle.mesh_walk.specs.Spans.{all_centres_text, centres_text, row_centres_text};
+ghost use Rattle.mesh_walk.specs.Spans.{centres_text, owned_centres_text, points_to, row_centres_text};
 
 use crate::cells::RowCells;
 use crate::places::{CellPlaces, EdgePlaces};
@@ -131,6 +130,7 @@ fn write_row<R: MeshRows, K: Sink>(
     requires ready { let v = R.leveled rows.old in
         IsReady (in_slot centres.old.places.slots.places) (due_to v) v centres.old.places.next }
     requires ranks { AreRowRanks (R.leveled rows.old) walk.ranks.now walk.total }
+    requires numbers { AreFirst walk.numbers }
     requires y { row.y < (R.leveled rows.old).grid.ny }
     requires z { row.z < (R.leveled rows.old).grid.nz }
     ensures adds { let v = R.leveled rows.old in
@@ -171,15 +171,18 @@ pub fn write_centres<R: MeshRows, K: Sink>(
     sink: &mut K,
 ) -> Result<(), Failed>
     requires ranks { AreRowRanks (R.leveled rows.old) walk.ranks.now walk.total }
+    requires numbers { AreFirst walk.numbers }
+    requires slices { walk.slices ≤ (R.leveled rows.old).grid.nz }
     ensures adds { let v = R.leveled rows.old in
-        Adds (K.seen sink.old) (K.seen sink.new) block.old block.new result (all_centres_text walk.entry.style v) }
-    ensures bytes { let g = (R.leveled rows.old).grid in
-        IfOk result (λ _. block.new.total ≤ block.old.total + 256 * (g.nx * row_count g)) }
+        Adds (K.seen sink.old) (K.seen sink.new) block.old block.new result
+        (owned_centres_text walk.entry.style v walk.entry.slices) }
+    ensures bytes { let points = points_to (R.leveled rows.old) walk.entry.slices in
+        IfOk result (λ _. block.new.total ≤ block.old.total + 256 * points) }
     ensures volume { R.leveled rows.new ≡ R.leveled rows.old }
     ensures kept { R.kept rows.new ≡ R.kept rows.old }
     ensures least { R.spent rows.old ≤ R.spent rows.new }
-    ensures most { let cost = R.row_cost (R.kept rows.old) in
-        R.spent rows.new ≤ R.spent rows.old + cells_cost (R.leveled rows.old) cost }
+    ensures most { let g = (R.leveled rows.old).grid in
+        R.spent rows.new ≤ R.spent rows.old + cost_before g (R.row_cost (R.kept rows.old)) (g.ny * walk.entry.slices) }
 {
     let sizes = rows.sizes();
     let mut centres = Centres {
@@ -189,7 +192,7 @@ pub fn write_centres<R: MeshRows, K: Sink>(
         fans: [RowFan { x: 0, fan: 0 }; ROW_FANS],
     };
     let mut place = RowPlace::first();
-    for _row in 0..sizes.ny() * sizes.nz() {
+    for _row in 0..sizes.ny() * walk.slices {
         write_row(rows, walk, place, &mut centres, block, sink)?;
         place = place.next(&sizes);
     }

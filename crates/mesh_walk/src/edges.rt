@@ -1,12 +1,11 @@
 //! The lines of the vertices on crossing edges, in order of name.
 ghost use Rattle.std.specs.Prelude.{◌≡◌, ◌+◌, ◌*◌, ◌<◌, ◌≤◌, IfOk, length, slice_index, take};
-ghost use Rattle.iso_defs.specs.Rows.{row_count};
 ghost use Rattle.flat_mesh.specs.Rows.{row_start};
 ghost use Rattle.mesh_rows.specs.Rows.{AreEdges, row_places};
 ghost use Rattle.mesh_lines.specs.Blocks.{Adds};
 ghost use Rattle.mesh_walk.specs.Edges.{AreRowEdges};
 ghost use Rattle.mesh_walk.specs.Numbers.{AreRowRanks, row_number};
-ghost use Rattle.mesh_walk.specs.Spans.{all_edges_text, edge_line, edges_text, row_edges_text};
+ghost use Rattle.mesh_walk.specs.Spans.{edge_line, edges_text, owned_edges_text, points_to, row_edges_text};
 
 use crate::ranks::RowPlace;
 use crate::walk::Walk;
@@ -169,10 +168,12 @@ pub fn write_edges<R: MeshRows, K: Sink>(
     sink: &mut K,
 ) -> Result<(), Failed>
     requires ranks { AreRowRanks (R.leveled rows.old) walk.ranks.now walk.total }
+    requires slices { walk.slices ≤ (R.leveled rows.old).grid.nz }
     ensures adds { let v = R.leveled rows.old in
-        Adds (K.seen sink.old) (K.seen sink.new) block.old block.new result (all_edges_text walk.entry.style v) }
-    ensures bytes { let g = (R.leveled rows.old).grid in
-        IfOk result (λ _. block.new.total ≤ block.old.total + 192 * (g.nx * row_count g)) }
+        Adds (K.seen sink.old) (K.seen sink.new) block.old block.new result
+        (owned_edges_text walk.entry.style v walk.entry.slices) }
+    ensures bytes { let points = points_to (R.leveled rows.old) walk.entry.slices in
+        IfOk result (λ _. block.new.total ≤ block.old.total + 192 * points) }
     ensures volume { R.leveled rows.new ≡ R.leveled rows.old }
     ensures kept { R.kept rows.new ≡ R.kept rows.old }
     ensures spent { R.spent rows.new ≡ R.spent rows.old }
@@ -180,7 +181,7 @@ pub fn write_edges<R: MeshRows, K: Sink>(
     let sizes = rows.sizes();
     let mut edges = RowEdges::new(RowTexts::new(walk.style, sizes.nx(), block));
     let mut place = RowPlace::first();
-    for _row in 0..sizes.ny() * sizes.nz() {
+    for _row in 0..sizes.ny() * walk.slices {
         write_row(rows, walk, place, &mut edges, block, sink)?;
         place = place.next(&sizes);
     }

@@ -1,15 +1,14 @@
 //! The lines of the triangles: those of a row of cells are listed first, and then written one after the other.
 ghost use Rattle.std.specs.Prelude.{◌≡◌, ℕ, ◌+◌, ◌*◌, ◌/◌, ◌<◌, ◌≤◌, List, All, IfOk, length, map, slice_index};
 ghost use Rattle.std.specs.List.{concat};
-ghost use Rattle.iso_defs.specs.Rows.{row_count};
 ghost use Rattle.mesh_text.specs.Numbers.{IsShort, number_text, text_at};
 ghost use Rattle.mesh_lines.specs.Blocks.{Adds};
 ghost use Rattle.mesh_lines.specs.Triangles.{corner_text};
 ghost use Rattle.mesh_walk.specs.Cells.{AreCells, cells_start};
 ghost use Rattle.mesh_walk.specs.Listed.{HaveCorners};
-ghost use Rattle.mesh_walk.specs.Numbers.{AreRowRanks, HasNumber, cells_cost, cost_of_row, row_number};
+ghost use Rattle.mesh_walk.specs.Numbers.{AreFirst, AreRowRanks, HasNumber, cost_before, cost_of_row, row_number};
 ghost use Rattle.mesh_walk.specs.Slots.{AreAround, IsReady};
-ghost use Rattle.mesh_walk.specs.Spans.{all_faces_text, face_lines, faces_text, row_faces_text};
+ghost use Rattle.mesh_walk.specs.Spans.{face_lines, faces_text, owned_faces_text, points_to, row_faces_text};
 ghost use Rattle.mesh_walk.specs.Texts.{HasText, number_due};
 
 use crate::cells::RowCells;
@@ -75,7 +74,7 @@ impl Faces {
     fn write<H: Heights, K: Sink>(
         &mut self,
         field: &H,
-        style: Style,
+        walk: Walk<'_>,
         block: &mut LineBuffer,
         sink: &mut K,
     ) -> Result<(), Failed>
@@ -83,19 +82,20 @@ impl Faces {
         requires slots { HaveCorners self.old.slots.tables }
         requires texts { let v = H.leveled field.now in
             let cells = self.old.cells in
-            AreAround (text_at self.old.texts.slots.texts) (number_due style v) v cells.y cells.z }
+            AreAround (text_at self.old.texts.slots.texts) (number_due walk.style walk.numbers v) v cells.y cells.z }
         requires next { let v = H.leveled field.now in
-            HasNumber v (cells_start v self.old.cells) self.old.next }
+            HasNumber walk.numbers.first_centre v (cells_start v self.old.cells) self.old.next }
+        requires first { AreFirst walk.numbers }
         ensures adds { let v = H.leveled field.now in
             let start = cells_start v self.old.cells in
             Adds (K.seen sink.old) (K.seen sink.new) block.old block.new result
-            (faces_text style.format v start v.grid.nx) }
+            (faces_text walk.entry.style.format walk.entry.numbers v start v.grid.nx) }
         ensures edges { (i : ℕ) → i < 12312
             → text_at self.new.texts.slots.texts i ≡ text_at self.old.texts.slots.texts i }
         ensures row { self.new.texts.next ≡ self.old.texts.next }
         ensures slots { HaveCorners self.new.slots.tables }
         ensures next { let v = H.leveled field.now in
-            HasNumber v (cells_start v self.old.cells + v.grid.nx) self.new.next }
+            HasNumber walk.entry.numbers.first_centre v (cells_start v self.old.cells + v.grid.nx) self.new.next }
         ensures bytes { IfOk result (λ _. block.new.total ≤ block.old.total + 3072 * (H.leveled field.now).grid.nx) }
     {
         let _ = field.sizes();
@@ -103,11 +103,11 @@ impl Faces {
         self.next += self
             .texts
             .slots
-            .set_centres(field, cells, style, self.next, block);
+            .set_centres(field, cells, walk, self.next, block);
         let table = self.slots.of_row(cells.y, cells.z);
         let count = list_corners(cells, table, &mut self.list);
         put_faces(
-            style,
+            walk.style,
             &self.list[..count],
             &self.texts.slots.texts,
             block,
@@ -126,20 +126,23 @@ fn write_row<R: MeshRows, K: Sink>(
     sink: &mut K,
 ) -> Result<(), Failed>
     requires ranks { AreRowRanks (R.leveled rows.old) walk.ranks.now walk.total }
+    requires numbers { AreFirst walk.numbers }
     requires y { row.y < (R.leveled rows.old).grid.ny }
     requires z { row.z < (R.leveled rows.old).grid.nz }
     requires ready { let v = R.leveled rows.old in
-        IsReady (text_at faces.old.texts.slots.texts) (number_due walk.style v) v faces.old.texts.next }
+        IsReady (text_at faces.old.texts.slots.texts) (number_due walk.style walk.numbers v) v faces.old.texts.next }
     requires slots { HaveCorners faces.old.slots.tables }
     requires next { let v = R.leveled rows.old in
-        HasNumber v (v.grid.nx * row_number v.grid row) faces.old.next }
+        HasNumber walk.numbers.first_centre v (v.grid.nx * row_number v.grid row) faces.old.next }
     ensures adds { let v = R.leveled rows.old in
         Adds (K.seen sink.old) (K.seen sink.new) block.old block.new result
-        (row_faces_text walk.entry.style.format v (row_number v.grid row)) }
+        (row_faces_text walk.entry.style.format walk.entry.numbers v (row_number v.grid row)) }
     ensures next { let v = R.leveled rows.old in
-        IfOk result (λ _. HasNumber v (v.grid.nx * (row_number v.grid row + 1)) faces.new.next) }
+        let first = walk.entry.numbers.first_centre in
+        IfOk result (λ _. HasNumber first v (v.grid.nx * (row_number v.grid row + 1)) faces.new.next) }
     ensures ready { let v = R.leveled rows.old in
-        IsReady (text_at faces.new.texts.slots.texts) (number_due walk.entry.style v) v faces.new.texts.next }
+        let expected = number_due walk.entry.style walk.entry.numbers v in
+        IsReady (text_at faces.new.texts.slots.texts) expected v faces.new.texts.next }
     ensures slots { HaveCorners faces.new.slots.tables }
     ensures bytes { IfOk result (λ _. block.new.total ≤ block.old.total + 3072 * (R.leveled rows.old).grid.nx) }
     ensures volume { R.leveled rows.new ≡ R.leveled rows.old }
@@ -154,7 +157,7 @@ fn write_row<R: MeshRows, K: Sink>(
         return Ok(());
     }
     faces.texts.move_to(rows, walk, block, y, z);
-    faces.write(rows, walk.style, block, sink)
+    faces.write(rows, walk, block, sink)
 }
 
 /// Puts the lines of all triangles behind the others.
@@ -165,15 +168,17 @@ pub fn write_faces<R: MeshRows, K: Sink>(
     sink: &mut K,
 ) -> Result<(), Failed>
     requires ranks { AreRowRanks (R.leveled rows.old) walk.ranks.now walk.total }
+    requires numbers { AreFirst walk.numbers }
+    requires slices { walk.slices ≤ (R.leveled rows.old).grid.nz }
     ensures adds { Adds (K.seen sink.old) (K.seen sink.new) block.old block.new result
-        (all_faces_text walk.entry.style.format (R.leveled rows.old)) }
-    ensures bytes { let g = (R.leveled rows.old).grid in
-        IfOk result (λ _. block.new.total ≤ block.old.total + 3072 * (g.nx * row_count g)) }
+        (owned_faces_text walk.entry.style.format walk.entry.numbers (R.leveled rows.old) walk.entry.slices) }
+    ensures bytes { let points = points_to (R.leveled rows.old) walk.entry.slices in
+        IfOk result (λ _. block.new.total ≤ block.old.total + 3072 * points) }
     ensures volume { R.leveled rows.new ≡ R.leveled rows.old }
     ensures kept { R.kept rows.new ≡ R.kept rows.old }
     ensures least { R.spent rows.old ≤ R.spent rows.new }
-    ensures most { let cost = R.row_cost (R.kept rows.old) in
-        R.spent rows.new ≤ R.spent rows.old + cells_cost (R.leveled rows.old) cost }
+    ensures most { let g = (R.leveled rows.old).grid in
+        R.spent rows.new ≤ R.spent rows.old + cost_before g (R.row_cost (R.kept rows.old)) (g.ny * walk.entry.slices) }
 {
     let sizes = rows.sizes();
     let mut faces = Faces {
@@ -181,11 +186,11 @@ pub fn write_faces<R: MeshRows, K: Sink>(
         slots: CornerSlots::none(),
         list: [0; LIST_SLOTS],
         texts: CellEdgeSlots::of(NumberTexts::new()),
-        next: walk.total,
+        next: walk.numbers.first_centre,
     };
     faces.slots.fill();
     let mut place = RowPlace::first();
-    for _row in 0..sizes.ny() * sizes.nz() {
+    for _row in 0..sizes.ny() * walk.slices {
         write_row(rows, walk, place, &mut faces, block, sink)?;
         place = place.next(&sizes);
     }

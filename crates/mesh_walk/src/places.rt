@@ -157,7 +157,7 @@ impl EdgePlaces {
 impl Slots for EdgePlaces {
     ghost at = { λ p. in_slot p.places };
 
-    ghost expected = { λ _. due_to };
+    ghost expected = { λ _ _. due_to };
 
     fn fill_row<R: MeshRows>(
         &mut self,

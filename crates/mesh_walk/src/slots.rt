@@ -7,8 +7,9 @@ ghost use Rattle.std.specs.Prelude.{◌≡◌, ℕ, List, [], ◌∷◌, ◌+◌
 ghost use Rattle.iso_base.specs.Volume.{IsGrid};
 ghost use Rattle.flat_mesh.specs.Lattice.{Leveled};
 ghost use Rattle.mesh_lines.specs.declared.style.Style.{Style};
-ghost use Rattle.mesh_walk.specs.Numbers.{AreRowRanks};
+ghost use Rattle.mesh_walk.specs.Numbers.{AreFirst, AreRowRanks};
 ghost use Rattle.mesh_walk.specs.Slots.{AreAround, AreLaid, AreLaidInBoth, IsReady, edge_slot, row_slot};
+ghost use Rattle.mesh_walk.specs.declared.walk.Numbering.{Numbering};
 
 use crate::walk::Walk;
 use mesh_lines::{LineBuffer, Style};
@@ -78,7 +79,7 @@ pub fn edge_slots(y: u32, z: u32) -> [u16; 12]
 pub trait Slots {
     ghost at: { Self → ℕ → List ℕ };
 
-    ghost expected: { Style → Leveled → ℕ → List ℕ };
+    ghost expected: { Style → Numbering → Leveled → ℕ → List ℕ };
 
     /// Lays what is due to the crossing edges that begin in a row of points into their slots.
     fn fill_row<R: MeshRows>(
@@ -90,10 +91,11 @@ pub trait Slots {
         z: u32,
     )
         requires ranks { AreRowRanks (R.leveled rows.old) walk.ranks.now walk.total }
+        requires numbers { AreFirst walk.numbers }
         requires y { y < (R.leveled rows.old).grid.ny }
         requires z { z < (R.leveled rows.old).grid.nz }
         ensures laid { let v = R.leveled rows.old in
-            AreLaid (at self.new) (expected walk.entry.style v) v y z }
+            AreLaid (at self.new) (expected walk.entry.style walk.entry.numbers v) v y z }
         ensures before { (i : ℕ) → i < row_slot y z → at self.new i ≡ at self.old i }
         ensures behind { (i : ℕ) → row_slot y z + 3078 ≤ i → at self.new i ≡ at self.old i }
         ensures volume { R.leveled rows.new ≡ R.leveled rows.old }
@@ -113,8 +115,8 @@ impl<S: Slots> CellEdgeSlots<S> {
     /// Slots of which nothing is known.
     pub fn of(slots: S) -> CellEdgeSlots<S>
         ensures slots { result.slots ≡ slots }
-        ensures ready { (style : Style) → (v : Leveled) → IsGrid v.grid
-            → IsReady (S.at result.slots) (S.expected style v) v result.next }
+        ensures ready { (style : Style) → (numbers : Numbering) → (v : Leveled) → IsGrid v.grid
+            → IsReady (S.at result.slots) (S.expected style numbers v) v result.next }
     {
         CellEdgeSlots {
             slots,
@@ -132,12 +134,13 @@ impl<S: Slots> CellEdgeSlots<S> {
         z: u32,
     )
         requires ready { let v = R.leveled rows.old in
-            IsReady (S.at self.old.slots) (S.expected walk.style v) v self.old.next }
+            IsReady (S.at self.old.slots) (S.expected walk.style walk.numbers v) v self.old.next }
         requires ranks { AreRowRanks (R.leveled rows.old) walk.ranks.now walk.total }
+        requires numbers { AreFirst walk.numbers }
         requires y { y + 1 < (R.leveled rows.old).grid.ny }
         requires z { z + 1 < (R.leveled rows.old).grid.nz }
         ensures near { let v = R.leveled rows.old in
-            AreLaidInBoth (S.at self.new.slots) (S.expected walk.entry.style v) v y z }
+            AreLaidInBoth (S.at self.new.slots) (S.expected walk.entry.style walk.entry.numbers v) v y z }
         ensures volume { R.leveled rows.new ≡ R.leveled rows.old }
         ensures kept { R.kept rows.new ≡ R.kept rows.old }
         ensures spent { R.spent rows.new ≡ R.spent rows.old }
@@ -159,14 +162,15 @@ impl<S: Slots> CellEdgeSlots<S> {
         z: u32,
     )
         requires ready { let v = R.leveled rows.old in
-            IsReady (S.at self.old.slots) (S.expected walk.style v) v self.old.next }
+            IsReady (S.at self.old.slots) (S.expected walk.style walk.numbers v) v self.old.next }
         requires ranks { AreRowRanks (R.leveled rows.old) walk.ranks.now walk.total }
+        requires numbers { AreFirst walk.numbers }
         requires y { y + 1 < (R.leveled rows.old).grid.ny }
         requires z { z + 1 < (R.leveled rows.old).grid.nz }
         ensures around { let v = R.leveled rows.old in
-            AreAround (S.at self.new.slots) (S.expected walk.entry.style v) v y z }
+            AreAround (S.at self.new.slots) (S.expected walk.entry.style walk.entry.numbers v) v y z }
         ensures ready { let v = R.leveled rows.old in
-            IsReady (S.at self.new.slots) (S.expected walk.entry.style v) v self.new.next }
+            IsReady (S.at self.new.slots) (S.expected walk.entry.style walk.entry.numbers v) v self.new.next }
         ensures volume { R.leveled rows.new ≡ R.leveled rows.old }
         ensures kept { R.kept rows.new ≡ R.kept rows.old }
         ensures spent { R.spent rows.new ≡ R.spent rows.old }

@@ -3,7 +3,7 @@ ghost use Rattle.std.specs.Prelude.{◌≡◌, ℕ, ◌+◌, ◌<◌, ◌≤◌,
 ghost use Rattle.mesh_text.specs.Numbers.{text_at};
 ghost use Rattle.mesh_lines.specs.Triangles.{corner_text};
 ghost use Rattle.mesh_walk.specs.Cells.{AreCells, cells_start};
-ghost use Rattle.mesh_walk.specs.Numbers.{HasNumber};
+ghost use Rattle.mesh_walk.specs.Numbers.{AreFirst, HasNumber};
 ghost use Rattle.mesh_walk.specs.Slots.{AreApart};
 ghost use Rattle.mesh_walk.specs.Texts.{HasCentres, number_due};
 
@@ -63,24 +63,28 @@ impl NumberTexts {
         &mut self,
         field: &H,
         cells: &RowCells,
-        style: Style,
+        walk: Walk<'_>,
         number: u32,
         block: &LineBuffer,
     ) -> u32
         requires cells { AreCells (H.leveled field.now) cells.now }
-        requires number { let v = H.leveled field.now in HasNumber v (cells_start v cells.now) number }
+        requires number { let v = H.leveled field.now in
+            HasNumber walk.numbers.first_centre v (cells_start v cells.now) number }
+        requires first { AreFirst walk.numbers }
         ensures centres { let v = H.leveled field.now in
-            (k : ℕ) → k < cells.now.count → HasCentres style.format v cells.now self.new.texts k }
+            let format = walk.entry.style.format in
+            (k : ℕ) → k < cells.now.count
+            → HasCentres format walk.entry.numbers v cells.now self.new.texts k }
         ensures edges { (i : ℕ) → i < 12312 → text_at self.new.texts i ≡ text_at self.old.texts i }
         ensures next { let v = H.leveled field.now in
-            HasNumber v (cells_start v cells.now + v.grid.nx) (number + result) }
+            HasNumber walk.entry.numbers.first_centre v (cells_start v cells.now + v.grid.nx) (number + result) }
         ensures few { number + result < 2 ^ 32 }
     {
         let _ = field.sizes();
         let count = list_centres(cells, &mut self.offsets);
         set_texts(
             block,
-            style,
+            walk.style,
             &self.offsets[..count],
             number,
             usize::from(FIRST_CENTRE_SLOT),
@@ -114,7 +118,7 @@ impl Slots for NumberTexts {
             block,
             walk.style,
             edges,
-            before,
+            walk.numbers.first_edge + before,
             row_slot(y, z),
             &mut self.texts,
         );

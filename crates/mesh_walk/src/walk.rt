@@ -7,12 +7,24 @@ use edge_points::RowRanks;
 use flat_mesh::Heights;
 use mesh_lines::Style;
 
-/// How the mesh is written, and how many crossing edges begin before each row of points and in all.
+/// The numbers of the first vertex on an edge and of the first centre: the others of each kind follow. In a mesh that is
+/// written by itself these are 0 and how many crossing edges there are.
+#[derive(Clone, Copy)]
+pub struct Numbering {
+    pub first_edge: u32,
+    pub first_centre: u32,
+}
+
+/// How the mesh is written, how many crossing edges begin before each row of points and in all, how many of the lowest
+/// slices are written, and the numbers of their vertices. A vertex on an edge belongs to the slice in which the edge
+/// begins, a centre and a triangle to the lower slice of their cell.
 #[derive(Clone, Copy)]
 pub struct Walk<'a> {
     pub style: Style,
     pub ranks: &'a RowRanks,
     pub total: u32,
+    pub slices: u32,
+    pub numbers: Numbering,
 }
 
 impl<'a> Walk<'a> {

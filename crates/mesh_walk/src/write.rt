@@ -6,14 +6,14 @@ ghost use Rattle.flat_mesh.specs.Lattice.{heights};
 ghost use Rattle.flat_mesh.specs.Mesh.{mesh_of};
 ghost use Rattle.mesh_lines.specs.Blocks.{Adds};
 ghost use Rattle.mesh_lines.specs.Lines.{text_of, written_of};
-ghost use Rattle.mesh_walk.specs.Numbers.{AreRowRanks, cells_cost};
-ghost use Rattle.mesh_walk.specs.Spans.{lines_text};
+ghost use Rattle.mesh_walk.specs.Numbers.{AreFirst, AreRowRanks, cells_cost};
+ghost use Rattle.mesh_walk.specs.Spans.{IsWhole, lines_text};
 
 use crate::centres::write_centres;
 use crate::edges::write_edges;
 use crate::faces::write_faces;
 use crate::ranks::rank_rows;
-use crate::walk::Walk;
+use crate::walk::{Numbering, Walk};
 use byte_streams::{Failed, Sink};
 use edge_points::RowRanks;
 use iso_base::Written;
@@ -29,6 +29,8 @@ fn write_lines<R: MeshRows, K: Sink>(
     sink: &mut K,
 ) -> Result<(), Failed>
     requires ranks { AreRowRanks (R.leveled rows.old) walk.ranks.now walk.total }
+    requires numbers { AreFirst walk.numbers }
+    requires whole { IsWhole (R.leveled rows.old) walk.slices walk.numbers }
     ensures adds { let v = R.leveled rows.old in
         Adds (K.seen sink.old) (K.seen sink.new) block.old block.new result (lines_text walk.entry.style v faces) }
     ensures bytes { let g = (R.leveled rows.old).grid in
@@ -67,7 +69,7 @@ pub fn write_mesh<R: MeshRows, K: Sink>(
     ensures most { let cells = cells_cost (R.leveled rows.old) (R.row_cost (R.kept rows.old)) in
         R.spent rows.new ≤ R.spent rows.old + (R.count_cost (R.kept rows.old) + 2 * cells) }
 {
-    let _ = rows.sizes();
+    let sizes = rows.sizes();
     let total = rank_rows(rows, ranks);
     let counts = rows.count_cells();
     let vertices = total + counts.centres;
@@ -77,6 +79,11 @@ pub fn write_mesh<R: MeshRows, K: Sink>(
         style,
         ranks,
         total,
+        slices: sizes.nz(),
+        numbers: Numbering {
+            first_edge: 0,
+            first_centre: total,
+        },
     };
     write_lines(rows, walk, counts.faces, &mut block, sink)?;
     block.write_waiting(sink)?;

@@ -1,3 +1,4 @@
 pub mod PadCells
 pub mod PadRows
 pub mod Parts
+pub mod SlabRows

@@ -1,9 +1,9 @@
 -- Rows of samples in a pad: the pad, a row and the pad, or all pad.
-use Rattle.std.proofs.Common.{◌≡◌, ℕ, ◌+◌, ◌-◌, ◌*◌, ◌<◌, ◌≤◌, ◌%◌, ◌/◌, ◌⊎◌, inl, inr, min, eq-zero-or-pos, ℤ, pos, List, length, take, drop, get_or, map, set, ltb, refl, sym, ap, ◌∙◌, subst, arith, true}
+use Rattle.std.proofs.Common.{◌≡◌, ℕ, ◌+◌, ◌-◌, ◌*◌, ◌<◌, ◌≤◌, ◌%◌, ◌/◌, ◌⊎◌, inl, inr, min, eq-zero-or-pos, ℤ, List, length, get_or, set, ltb, refl, sym, ap, ◌∙◌, subst, arith, true}
 use Rattle.std.proofs.lemmas.Bool.{ltb-true, ltb-false}
 use Rattle.std.proofs.lemmas.Grind.{get_or-set_at}
-use Rattle.std.proofs.lemmas.List.{ext_get_or, get_or-drop, get_or-map, get_or-set_other, get_or-take, length-drop, length-map, length-set, length-take-le}
-use Rattle.std.proofs.lemmas.List.FromFn.{get_or-map-range_with_len, length-map-range_with_len}
+use Rattle.std.proofs.lemmas.List.{get_or-set_other, length-set}
+use Rattle.std.proofs.lemmas.List.FromFn.{length-map-range_with_len}
 use Rattle.std.proofs.Math.Nat.{le_of_mul-le-mul_left, mul-le-mul_left}
 use Rattle.iso_defs.specs.Grid.{Grid, index, point_count, is_outer}
 use Rattle.iso_base.specs.Volume.{sample, grown, padded_sample}
@@ -11,10 +11,7 @@ use Rattle.voxel_list.proofs.Padding.{AtEnd, outer_layer, outer_point, outer_row
 use Rattle.samples.proofs.Lists.{by_test}
 use Rattle.padded_samples.specs.Pads.{InPad, IsInnerRow, IsPadRow, padded_at, padded_list}
 
--- the sample of the list at a point
-pub listed : (p : InPad) (point : ℕ) → point < point_count (grown p.grid) → sample (padded_list p) point ≡ padded_at p point
-listed p point low = get_or-map-range_with_len (padded_sample p.grid p.samples p.pad) 0 (point_count (grown p.grid)) point point (pos 0) low (omega arith)
-
+-- how many samples there are
 pub padded_length : (p : InPad) → length (padded_list p) ≡ point_count (grown p.grid)
 padded_length p = length-map-range_with_len (padded_sample p.grid p.samples p.pad) 0 (point_count (grown p.grid))
 
@@ -163,14 +160,6 @@ module _ (p : InPad) (x y z start n first last i : ℕ) (is : IsInnerRow p (y + 
       ] in
       ap (padded_at p) (on (grown p.grid) x y z i) ∙ at_inner p (x + i) y z start is some (omega (arith, ends, l, fits))
 
--- the sample at a place of a run
-pub run_at : (p : InPad) (start n k : ℕ) → k < n → start + n ≤ point_count (grown p.grid) → sample (take n (drop start (padded_list p))) k ≡ padded_at p (start + k)
-run_at p start n k low room =
-    get_or-take n (drop start (padded_list p)) k (pos 0) low ∙ get_or-drop start (padded_list p) k (pos 0) ∙ listed p (start + k) (omega (arith, low, room))
-
-pub run_length : (p : InPad) (start n : ℕ) → start + n ≤ point_count (grown p.grid) → length (take n (drop start (padded_list p))) ≡ n
-run_length p start n room = length-take-le n (drop start (padded_list p)) (omega (arith, room, length-drop start (padded_list p), padded_length p))
-
 -- a row that was written: the pad at its ends, and its samples between them
 pub row_written : (f : ℤ → ℕ) (p : InPad) (row start : ℕ) (new : List ℕ) (from m sign : ℕ) → m ≡ p.grid.nx → IsInnerRow p row start → sign ≡ f p.pad → from + (m + 2) ≤ length new
     → ((i : ℕ) → i < m → get_or new (from + 1 + i) 0 ≡ f (sample p.samples (start + i)))
@@ -203,16 +192,6 @@ row_written f p row start new from m sign e is pad room inside i low =
   where
     on : (a : ℕ) → a + 0 ≡ a
     on a = omega arith
-
--- the signs of a run
-pub signs_are : (f : ℤ → ℕ) (p : InPad) (start n : ℕ) (signs : List ℕ) → start + n ≤ point_count (grown p.grid) → length signs ≡ n
-    → ((i : ℕ) → i < n → get_or signs i 0 ≡ f (padded_at p (start + i))) → signs ≡ map f (take n (drop start (padded_list p)))
-signs_are f p start n signs room len each =
-    let run = take n (drop start (padded_list p)) in
-    let size : length run ≡ n = run_length p start n room in
-    ext_get_or 0 signs (map f run) (len ∙ sym (length-map run f ∙ size))
-    (λ i low. (let within : i < n = omega (arith, low, len) in
-    each i within ∙ sym (get_or-map f run i (pos 0) 0 (omega (arith, size, within)) ∙ ap f (run_at p start n i within room))))
 
 -- whole rows of a grid: so many come before a place, so many from it on, and no more than the grid has
 pub record AreRows (w m start n : ℕ) : Type 0 where

@@ -1,51 +1,33 @@
-//! Samples in a pad, which no list is made of.
-//!
-//! Why: DECISIONS.md, "A padding is a view".
-ghost use Rattle.std.specs.Prelude.{◌≡◌, ℕ, ℤ, ◌+◌, ◌*◌, ◌<◌, ◌≤◌, ◌↔◌, Err, IfOk, IfSome, None, All, drop, length, map, slice_index, take, true};
+//! Samples in a pad, of which no list is made.
+ghost use Rattle.std.specs.Prelude.{◌≡◌, ℤ, ◌↔◌, Err, IfOk, length};
 ghost use Rattle.iso_defs.specs.Grid.{point_count};
-ghost use Rattle.iso_base.specs.Points.{IsPoint, index_of};
-ghost use Rattle.iso_base.specs.Volume.{IsSample, sized, sample, grown};
+ghost use Rattle.iso_base.specs.Volume.{IsSample, sized, grown};
 ghost use Rattle.iso_base.specs.declared.sizes.SizeFault.{SizeFault};
-ghost use Rattle.samples.specs.Cells.{IsLowest};
-ghost use Rattle.samples.specs.Signs.{sign_of};
-ghost use Rattle.padded_samples.specs.Pads.{InPad, IsInPad, IsInnerRow, padded_at, padded_list};
+ghost use Rattle.padded_samples.specs.Pads.{InPad, IsInPad, padded_list};
 
-use crate::rows::{
-    copy_inside, fill_inside, fill_pad, inner_cell, inner_row, points_before, repeat_sign,
-};
-use iso_base::{Level, Point, SizeFault, Sizes, index, point_of};
-use samples::{Packed, Samples, each_corner, sample_sign};
+use crate::ends::Ends;
+use crate::slab::PaddedSlab;
+use iso_base::{Level, Point, SizeFault, Sizes};
+use samples::{Packed, Samples};
 use std::marker::Model;
 
-/// Samples with one more layer on each of the six sides of their grid, all of whose samples are the pad. Contracts see the
-/// grid without the layer, its samples and the pad.
+/// Samples with one more layer on each of the six sides of their grid, all of whose samples are the pad: a slab with a layer at
+/// both ends. Contracts see the grid without the layer, its samples and the pad.
 #[derive(Drop)]
 pub struct Padded<'a, S: Samples> {
-    inner: &'a S,
-    sizes: Sizes,
-    stored: Sizes,
-    pad: i64,
+    slab: PaddedSlab<'a, S>,
 }
 
 impl<'a, S: Samples> Model for Padded<'a, S> {
     ghost use Rattle.std.specs.Prelude.{◌≡◌};
-    ghost use Rattle.iso_base.specs.Volume.{grown};
-    ghost use Rattle.padded_samples.specs.Pads.{InPad, IsInPad};
+    ghost use Rattle.padded_samples.specs.Pads.{InPad};
+    ghost use Rattle.padded_samples.specs.PaddedSlabs.{both, in_both};
 
     ghost Value = { InPad };
 
-    ghost view = { λ p. record { grid = p.sizes; samples = S.list p.inner.now; pad = p.pad } };
+    ghost view = { λ p. in_both p.slab };
 
-    ghost invariant = { λ p. IsInPad (record { grid = p.sizes; samples = S.list p.inner.now; pad = p.pad })
-        × (p.stored ≡ grown p.sizes) };
-}
-
-/// Whether two grids have the same sizes.
-#[inline(always)]
-fn are_same(a: &Sizes, b: &Sizes) -> bool
-    ensures { result ≡ true → a.now ≡ b.now }
-{
-    a.nx() == b.nx() && a.ny() == b.ny() && a.nz() == b.nz()
+    ghost invariant = { λ p. p.slab.ends ≡ both };
 }
 
 impl<'a, S: Samples> Padded<'a, S> {
@@ -56,16 +38,12 @@ impl<'a, S: Samples> Padded<'a, S> {
         ensures ok { IfOk result (λ p. p ≡ record { grid = sizes; samples = S.list inner.now; pad = pad }) }
         ensures size { (fault : SizeFault) → (result ≡ Err fault) ↔ (sized (grown sizes) ≡ Err fault) }
     {
-        let (nx, ny, nz) = (sizes.nx(), sizes.ny(), sizes.nz());
-        let stored = Sizes::new(u64::from(nx) + 2, u64::from(ny) + 2, u64::from(nz) + 2)?;
-        // Reading a size brings in that the sizes are those of a grid.
-        let _ = stored.nx();
-        Ok(Padded {
-            inner,
-            sizes,
-            stored,
-            pad,
-        })
+        let both = Ends {
+            below: true,
+            above: true,
+        };
+        let slab = PaddedSlab::new(inner, sizes, pad, both)?;
+        Ok(Padded { slab })
     }
 
     /// The sizes of the grid with the layer.
@@ -73,174 +51,7 @@ impl<'a, S: Samples> Padded<'a, S> {
         ensures value { result ≡ grown self.now.grid }
         ensures valid { IsInPad self.now }
     {
-        self.stored
-    }
-
-    /// The sample of the layer.
-    #[inline(always)]
-    fn pad(&self) -> i64
-        ensures { result ≡ self.now.pad }
-    {
-        self.pad
-    }
-
-    /// The sample of a point of the grid with the layer.
-    #[inline(always)]
-    fn get(&self, point: Point) -> i64
-        requires { IsPoint (grown self.now.grid) point }
-        ensures { result ≡ padded_at self.now (index_of (grown self.now.grid) point) }
-    {
-        let Some(row) = inner_row(&self.sizes, point.y, point.z) else {
-            return self.pad;
-        };
-        if point.x == 0 {
-            return self.pad;
-        }
-        if point.x == self.sizes.nx() + 1 {
-            return self.pad;
-        }
-        let x = point.x - 1;
-        self.inner.at_point(&self.sizes, Point { x, ..row })
-    }
-
-    /// The sample of an index of the grid with the layer.
-    #[inline(always)]
-    fn sample(&self, index: u32) -> i64
-        requires { index < point_count (grown self.now.grid) }
-        ensures { result ≡ padded_at self.now index }
-    {
-        let sizes = self.sizes();
-        self.get(point_of(&sizes, index))
-    }
-
-    /// The lowest point of a cell in the grid without the layer, where the grid is that with the layer and the cell lies inside.
-    #[inline(always)]
-    fn inner_low(&self, sizes: &Sizes, low: Point) -> Option<Point>
-        ensures { IfSome result (λ q. (sizes.now ≡ grown self.now.grid) × IsLowest self.now.grid q
-            × (low ≡ record { x = q.x + 1; y = q.y + 1; z = q.z + 1 })) }
-    {
-        if are_same(sizes, &self.stored) {
-            inner_cell(&self.sizes, low)
-        } else {
-            None
-        }
-    }
-
-    /// Copies the samples of a row with inner points from a point of the grid with the layer on, where it begins or ends in the
-    /// layer: `row` is the first of those inner points, in the grid without the layer.
-    fn copy_ends<T: Packed>(&self, row: Point, point: Point, into: &mut [T])
-        requires point { IsPoint (grown self.now.grid) point }
-        requires begun { IsPoint self.now.grid row × (row.x ≡ 0) }
-        requires inner { IsInnerRow self.now (point.y + (self.now.grid.ny + 2) * point.z) (index_of self.now.grid row) }
-        requires row { point.x + length into.old ≤ self.now.grid.nx + 2 }
-        requires fits { (i : ℕ) → i < length into.old →
-            T.Fits (padded_at self.now (index_of (grown self.now.grid) point + i)) }
-        ensures { (i : ℕ) → i < length into.old
-            → sample (map T.value into.new) i ≡ padded_at self.now (index_of (grown self.now.grid) point + i) }
-    {
-        let count = into.len();
-        let first = points_before(point.x, count);
-        let last = ((self.sizes.nx() + 1 - point.x) as usize).min(count);
-        fill_pad(self.pad, 0, first, into);
-        fill_pad(self.pad, last, count, into);
-        if first < last {
-            let x = point.x + first as u32 - 1;
-            let point = Point { x, ..row };
-            copy_inside(self.inner, &self.sizes, point, first, last - first, into);
-        }
-    }
-
-    /// Copies the samples of a row from a point of the grid with the layer on. Most parts of rows have inner points alone.
-    #[inline(always)]
-    fn copy_part<T: Packed>(&self, point: Point, into: &mut [T])
-        requires point { IsPoint (grown self.now.grid) point }
-        requires row { point.x + length into.old ≤ self.now.grid.nx + 2 }
-        requires fits { (i : ℕ) → i < length into.old →
-            T.Fits (padded_at self.now (index_of (grown self.now.grid) point + i)) }
-        ensures { (i : ℕ) → i < length into.old
-            → sample (map T.value into.new) i ≡ padded_at self.now (index_of (grown self.now.grid) point + i) }
-    {
-        let count = into.len();
-        let Some(row) = inner_row(&self.sizes, point.y, point.z) else {
-            return fill_pad(self.pad, 0, count, into);
-        };
-        if point.x == 0 {
-            return self.copy_ends(row, point, into);
-        }
-        if point.x as usize + count.max(1) > self.sizes.nx() as usize + 1 {
-            return self.copy_ends(row, point, into);
-        }
-        let x = point.x - 1;
-        let point = Point { x, ..row };
-        copy_inside(self.inner, &self.sizes, point, 0, count, into);
-    }
-
-    /// Copies samples from an index of the grid with the layer on, one by one.
-    fn copy_each<T: Packed>(&self, start: u32, into: &mut [T])
-        requires room { start + length into.old ≤ point_count (grown self.now.grid) }
-        requires fits { (i : ℕ) → i < length into.old → T.Fits (padded_at self.now (start + i)) }
-        ensures { (i : ℕ) → i < length into.old → sample (map T.value into.new) i ≡ padded_at self.now (start + i) }
-    {
-        // Reading the sizes brings in that the samples are so few that their indices fit.
-        let _ = self.sizes();
-        for k in 0..into.len() {
-            into[k] = T::of(self.sample(start + k as u32));
-        }
-    }
-
-    /// Writes the signs of a row of the grid with the layer over a part of a list.
-    #[inline(always)]
-    fn fill_row(&self, y: u32, z: u32, level: Level, from: usize, into: &mut [u8])
-        requires y { y < self.now.grid.ny + 2 }
-        requires z { z < self.now.grid.nz + 2 }
-        requires room { from + (self.now.grid.nx + 2) ≤ length into.old }
-        ensures inside { (i : ℕ) → i < self.now.grid.nx + 2 → slice_index into.new (from + i)
-            ≡ sign_of level (padded_at self.now ((self.now.grid.nx + 2) * (y + (self.now.grid.ny + 2) * z) + i)) }
-        ensures before { (i : ℕ) → i < from → slice_index into.new i ≡ slice_index into.old i }
-    {
-        let count = self.sizes.nx() as usize;
-        let sign = sample_sign(self.pad(), level);
-        let Some(row) = inner_row(&self.sizes, y, z) else {
-            return repeat_sign(sign, from, count + 2, into);
-        };
-        fill_inside(
-            self.inner,
-            index(&self.sizes, row),
-            level,
-            from + 1,
-            count,
-            into,
-        );
-        into[from] = sign;
-        into[from + 1 + count] = sign;
-    }
-
-    /// Writes the signs of so many rows of the grid with the layer, from one on.
-    fn fill_rows(&self, first: u32, rows: u32, level: Level, into: &mut [u8])
-        requires rows { first + rows ≤ (self.now.grid.ny + 2) * (self.now.grid.nz + 2) }
-        requires room { length into.old ≡ (self.now.grid.nx + 2) * rows }
-        ensures { (i : ℕ) → i < length into.old → slice_index into.new i
-            ≡ sign_of level (padded_at self.now ((self.now.grid.nx + 2) * first + i)) }
-    {
-        let width = self.sizes.nx() as usize + 2;
-        let height = self.sizes.ny() + 2;
-        for k in 0..rows {
-            let row = first + k;
-            self.fill_row(row % height, row / height, level, width * k as usize, into);
-        }
-    }
-
-    /// Writes the signs of samples from an index on, one by one.
-    fn fill_each(&self, start: u32, level: Level, into: &mut [u8])
-        requires { start + length into.old ≤ point_count (grown self.now.grid) }
-        ensures { (i : ℕ) → i < length into.old → slice_index into.new i
-            ≡ sign_of level (padded_at self.now (start + i)) }
-    {
-        // Reading the sizes brings in that the samples are so few that their indices fit.
-        let _ = self.sizes();
-        for k in 0..into.len() {
-            into[k] = sample_sign(self.sample(start + k as u32), level);
-        }
+        self.slab.sizes()
     }
 }
 
@@ -249,43 +60,26 @@ impl<'a, S: Samples> Samples for Padded<'a, S> {
 
     #[inline(always)]
     fn at(&self, index: u32) -> i64 {
-        self.sample(index)
+        self.slab.at(index)
     }
 
-    // A grid with as many points is nearly always this one, whose points need no division.
     #[inline(always)]
     fn at_point(&self, sizes: &Sizes, point: Point) -> i64 {
-        if are_same(sizes, &self.stored) {
-            self.get(point)
-        } else {
-            self.sample(index(sizes, point))
-        }
+        self.slab.at_point(sizes, point)
     }
 
-    // A cell that lies inside the layer.
     #[inline(always)]
     fn corners_at_once(&self, sizes: &Sizes, low: Point) -> Option<[i64; 8]> {
-        let inner = self.inner_low(sizes, low)?;
-        Some(each_corner(self.inner, &self.sizes, inner))
+        self.slab.corners_at_once(sizes, low)
     }
 
     #[inline(always)]
     fn copy_row<T: Packed>(&self, sizes: &Sizes, point: Point, into: &mut [T]) {
-        if are_same(sizes, &self.stored) {
-            self.copy_part(point, into);
-        } else {
-            self.copy_each(index(sizes, point), into);
-        }
+        self.slab.copy_row(sizes, point, into);
     }
 
-    // Signs are asked for slice by slice, so in whole rows.
+    #[inline(always)]
     fn fill_signs(&self, start: u32, level: Level, into: &mut [u8]) {
-        let width = self.stored.nx();
-        let rows = (into.len() / width as usize) as u32;
-        if start % width == 0 && into.len() % width as usize == 0 {
-            self.fill_rows(start / width, rows, level, into);
-        } else {
-            self.fill_each(start, level, into);
-        }
+        self.slab.fill_signs(start, level, into);
     }
 }

@@ -55,14 +55,16 @@ fn inner_coordinate(coordinate: u32, size: u32) -> Option<u32>
     Some(coordinate - 1)
 }
 
-/// The point of the grid without the layer that a point of the grid with it is, where it is the lowest of a cell there.
+/// The point of the grid without the layer that a point of the grid with it is, so many slices further up, where it is the lowest
+/// of a cell there.
 #[inline(always)]
-pub fn inner_cell(sizes: &Sizes, low: Point) -> Option<Point>
-    ensures { IfSome result (λ q. IsLowest sizes.now q × (low ≡ record { x = q.x + 1; y = q.y + 1; z = q.z + 1 })) }
+pub fn inner_cell(sizes: &Sizes, low: Point, lift: u32) -> Option<Point>
+    ensures { IfSome result (λ q. IsLowest sizes.now q × (low.x ≡ q.x + 1) × (low.y ≡ q.y + 1)
+        × (low.z + lift ≡ q.z + 1)) }
 {
     let x = inner_coordinate(low.x, sizes.nx())?;
     let y = inner_coordinate(low.y, sizes.ny())?;
-    let z = inner_coordinate(low.z, sizes.nz())?;
+    let z = inner_coordinate(low.z.checked_add(lift)?, sizes.nz())?;
     Some(Point { x, y, z })
 }
 

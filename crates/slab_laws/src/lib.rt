@@ -3,5 +3,7 @@
 #![tactic(auto)]
 
 mod texts;
+mod volumes;
 
 pub use texts::text_by_slabs;
+pub use volumes::slices_are_slabs;

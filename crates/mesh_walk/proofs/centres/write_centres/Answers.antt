@@ -2,15 +2,14 @@ use Rattle.std.proofs.Common.{rules, ◌≡◌, ◌+◌, ◌*◌, ◌<◌, ◌�
 use Rattle.std.proofs.lemmas.Result.{err_from_is_err_and}
 use Rattle.std.proofs.Math.Nat.{mul-le-mul_left}
 use Rattle.iso_defs.specs.Grid.{Grid, is_cell}
-use Rattle.iso_defs.specs.Rows.{row_count}
 use Rattle.flat_mesh.specs.Lattice.{Leveled}
 use Rattle.mesh_walk.specs.Numbers.{AreRowRanks, cost_before, cost_of_row, row_number}
 use Rattle.mesh_walk.specs.Places.{due_to, in_slot}
 use Rattle.mesh_walk.specs.Slots.{IsReady}
-use Rattle.mesh_walk.specs.Spans.{centre_lines, centres_text, row_centres_text}
+use Rattle.mesh_walk.specs.Spans.{centre_lines, centres_text, points_to, row_centres_text}
 use Rattle.mesh_walk.proofs.Adding.{adds_as}
 use Rattle.mesh_walk.proofs.CellRuns.{cost_at_first, cost_next, cost_upto}
-use Rattle.mesh_walk.proofs.RankedRows.{come_at, come_first, come_next, row_of_same, rows_are}
+use Rattle.mesh_walk.proofs.RankedRows.{come_at, come_first, come_next, owned_are, row_of_same}
 use Rattle.mesh_walk.proofs.RunLaws.{run_failed, run_more, run_none}
 use Rattle.mesh_walk.proofs.centres.write_centres.Goals as goal
 
@@ -24,7 +23,7 @@ loop-row-init g c =
       bytes = omega arith;
       style = search rules;
       width = search rules;
-      ready = c.of.ensures.ready c.args.walk.style v c.sizes-sizes.ensures.leveled.grid;
+      ready = c.of.ensures.ready c.args.walk.style c.args.walk.numbers v c.sizes-sizes.ensures.leveled.grid;
       volume = refl;
       kept = refl;
       least = omega arith;
@@ -37,29 +36,29 @@ write_row-requires-clause-ranks g c = subst (λ (v : Leveled). AreRowRanks v c.a
 pub write_row-requires-clause-y : goal.write_row-requires-clause-y
 write_row-requires-clause-y g c =
     let v = g.R.Heights.leveled c.args.rows.now in
-    let rows = rows_are v _ _ _ c.sizes-sizes.ensures.value c.ny.ensures.value c.nz.ensures.value in
-    let at = come_at v c.loop-row._row c.loop-row.place c.loop-row.invariant.come (omega (arith, rows, c.loop-row-test.true)) in
+    let rows = owned_are v _ _ c.args.walk.slices c.sizes-sizes.ensures.value c.ny.ensures.value c.requires.slices in
+    let at = come_at v c.loop-row._row c.loop-row.place c.loop-row.invariant.come (omega (arith, rows.count, rows.few, c.loop-row-test.true)) in
     (row_of_same (g.R.Heights.leveled c.loop-row.rows) v _ _ _ c.loop-row.invariant.volume at).y_low
 
 pub write_row-requires-clause-z : goal.write_row-requires-clause-z
 write_row-requires-clause-z g c =
     let v = g.R.Heights.leveled c.args.rows.now in
-    let rows = rows_are v _ _ _ c.sizes-sizes.ensures.value c.ny.ensures.value c.nz.ensures.value in
-    let at = come_at v c.loop-row._row c.loop-row.place c.loop-row.invariant.come (omega (arith, rows, c.loop-row-test.true)) in
+    let rows = owned_are v _ _ c.args.walk.slices c.sizes-sizes.ensures.value c.ny.ensures.value c.requires.slices in
+    let at = come_at v c.loop-row._row c.loop-row.place c.loop-row.invariant.come (omega (arith, rows.count, rows.few, c.loop-row-test.true)) in
     (row_of_same (g.R.Heights.leveled c.loop-row.rows) v _ _ _ c.loop-row.invariant.volume at).z_low
 
 pub next-place-requires-clause-y : goal.next-place-requires-clause-y
 next-place-requires-clause-y g c =
     let v = g.R.Heights.leveled c.args.rows.now in
-    let rows = rows_are v _ _ _ c.sizes-sizes.ensures.value c.ny.ensures.value c.nz.ensures.value in
-    let at = come_at v c.loop-row._row c.loop-row.place c.loop-row.invariant.come (omega (arith, rows, c.loop-row-test.true)) in
+    let rows = owned_are v _ _ c.args.walk.slices c.sizes-sizes.ensures.value c.ny.ensures.value c.requires.slices in
+    let at = come_at v c.loop-row._row c.loop-row.place c.loop-row.invariant.come (omega (arith, rows.count, rows.few, c.loop-row-test.true)) in
     subst (λ (g : Grid). c.loop-row.place.y < g.ny) (sym c.sizes-sizes.ensures.value) at.y_low
 
 pub next-place-requires-clause-z : goal.next-place-requires-clause-z
 next-place-requires-clause-z g c =
     let v = g.R.Heights.leveled c.args.rows.now in
-    let rows = rows_are v _ _ _ c.sizes-sizes.ensures.value c.ny.ensures.value c.nz.ensures.value in
-    let at = come_at v c.loop-row._row c.loop-row.place c.loop-row.invariant.come (omega (arith, rows, c.loop-row-test.true)) in
+    let rows = owned_are v _ _ c.args.walk.slices c.sizes-sizes.ensures.value c.ny.ensures.value c.requires.slices in
+    let at = come_at v c.loop-row._row c.loop-row.place c.loop-row.invariant.come (omega (arith, rows.count, rows.few, c.loop-row-test.true)) in
     subst (λ (g : Grid). c.loop-row.place.z < g.nz) (sym c.sizes-sizes.ensures.value) at.z_low
 
 pub write_row-requires-clause-ready : goal.write_row-requires-clause-ready
@@ -70,12 +69,12 @@ pub returns-in_err-write_row-clause-adds : goal.returns-in_err-write_row-clause-
 returns-in_err-write_row-clause-adds g c =
     let v = g.R.Heights.leveled c.args.rows.now in
     let p = err_from_is_err_and c.from_residual.result c.from_residual.ensures.1 in
-    let rows = rows_are v _ _ _ c.sizes-sizes.ensures.value c.ny.ensures.value c.nz.ensures.value in
-    let k : v.grid.nx * suc c.loop-row._row ≤ v.grid.nx * row_count v.grid = mul-le-mul_left v.grid.nx (omega (arith, rows, c.loop-row-test.true)) in
+    let rows = owned_are v _ _ c.args.walk.slices c.sizes-sizes.ensures.value c.ny.ensures.value c.requires.slices in
+    let k : v.grid.nx * suc c.loop-row._row ≤ points_to v c.args.walk.slices = mul-le-mul_left v.grid.nx (omega (arith, rows.count, c.loop-row-test.true)) in
     let m : v.grid.nx * suc c.loop-row._row ≡ v.grid.nx * c.loop-row._row + v.grid.nx = omega arith in
     let one = adds_as _ _ _ _ _ _ _ (ap (λ (v : Leveled). row_centres_text c.args.walk.style v (row_number v.grid c.loop-row.place)) c.loop-row.invariant.volume ∙ ap (λ n. row_centres_text c.args.walk.style v n) c.loop-row.invariant.come.row_is) c.in_err-write_row.ensures.adds in
     rw p.1 (run_failed (centre_lines c.args.walk.style v) (is_cell v.grid) 0 _ _ _ _ _ _ _ _ _ _
-    (v.grid.nx * c.loop-row._row) v.grid.nx (v.grid.nx * row_count v.grid) _ (omega arith) (omega arith) c.loop-row.invariant.adds one)
+    (v.grid.nx * c.loop-row._row) v.grid.nx (points_to v c.args.walk.slices) _ (omega arith) (omega arith) c.loop-row.invariant.adds one)
 
 pub returns-in_err-write_row-clause-volume : goal.returns-in_err-write_row-clause-volume
 returns-in_err-write_row-clause-volume g c = c.in_err-write_row.ensures.volume ∙ c.loop-row.invariant.volume
@@ -90,12 +89,12 @@ pub returns-in_err-write_row-clause-most : goal.returns-in_err-write_row-clause-
 returns-in_err-write_row-clause-most g c =
     let v = g.R.Heights.leveled c.args.rows.now in
     let cost = g.R.MeshRows.row_cost (g.R.MeshRows.kept c.args.rows.now) in
-    let rows = rows_are v _ _ _ c.sizes-sizes.ensures.value c.ny.ensures.value c.nz.ensures.value in
+    let rows = owned_are v _ _ c.args.walk.slices c.sizes-sizes.ensures.value c.ny.ensures.value c.requires.slices in
     let same : cost_of_row (g.R.Heights.leveled c.loop-row.rows).grid (g.R.MeshRows.row_cost (g.R.MeshRows.kept c.loop-row.rows)) (row_number (g.R.Heights.leveled c.loop-row.rows).grid c.loop-row.place) ≡ cost_of_row v.grid cost c.loop-row._row
     = ap (λ (w : Leveled). cost_of_row w.grid (g.R.MeshRows.row_cost (g.R.MeshRows.kept c.loop-row.rows)) (row_number w.grid c.loop-row.place)) c.loop-row.invariant.volume
     ∙ (ap (λ k. cost_of_row v.grid (g.R.MeshRows.row_cost k) (row_number v.grid c.loop-row.place)) c.loop-row.invariant.kept
     ∙ ap (cost_of_row v.grid cost) c.loop-row.invariant.come.row_is) in
-    omega (arith, same, cost_next v.grid cost c.loop-row._row, cost_upto v.grid cost (c.loop-row._row + 1) (row_count v.grid) (omega (arith, rows, c.loop-row-test.true)), c.in_err-write_row.ensures.most, c.loop-row.invariant.most)
+    omega (arith, same, cost_next v.grid cost c.loop-row._row, cost_upto v.grid cost (c.loop-row._row + 1) (v.grid.ny * c.args.walk.slices) (omega (arith, rows.count, c.loop-row-test.true)), c.in_err-write_row.ensures.most, c.loop-row.invariant.most)
 
 pub loop-row-preserved : goal.loop-row-preserved
 loop-row-preserved g c =
@@ -124,20 +123,20 @@ loop-row-preserved g c =
 pub returns-clause-adds : goal.returns-clause-adds
 returns-clause-adds g c =
     let v = g.R.Heights.leveled c.args.rows.now in
-    let rows = rows_are v _ _ _ c.sizes-sizes.ensures.value c.ny.ensures.value c.nz.ensures.value in
-    let end : c.loop-row._row ≡ row_count v.grid = omega (arith, c.loop-row-test.false, rows, c.loop-row.auto._row-end) in
+    let rows = owned_are v _ _ c.args.walk.slices c.sizes-sizes.ensures.value c.ny.ensures.value c.requires.slices in
+    let end : c.loop-row._row ≡ v.grid.ny * c.args.walk.slices = omega (arith, c.loop-row-test.false, rows.count, c.loop-row.auto._row-end) in
     adds_as _ _ _ _ _ _ _ (ap (λ n. centres_text c.args.walk.style v 0 (v.grid.nx * n)) end) c.loop-row.invariant.adds
 
 pub returns-clause-most : goal.returns-clause-most
 returns-clause-most g c =
     let v = g.R.Heights.leveled c.args.rows.now in
-    let rows = rows_are v _ _ _ c.sizes-sizes.ensures.value c.ny.ensures.value c.nz.ensures.value in
-    let end : c.loop-row._row ≡ row_count v.grid = omega (arith, c.loop-row-test.false, rows, c.loop-row.auto._row-end) in
+    let rows = owned_are v _ _ c.args.walk.slices c.sizes-sizes.ensures.value c.ny.ensures.value c.requires.slices in
+    let end : c.loop-row._row ≡ v.grid.ny * c.args.walk.slices = omega (arith, c.loop-row-test.false, rows.count, c.loop-row.auto._row-end) in
     subst (λ r. g.R.MeshRows.spent c.loop-row.rows ≤ g.R.MeshRows.spent c.args.rows.now + cost_before v.grid (g.R.MeshRows.row_cost (g.R.MeshRows.kept c.args.rows.now)) r) end c.loop-row.invariant.most
 
 pub returns-clause-bytes : goal.returns-clause-bytes
 returns-clause-bytes g c =
     let v = g.R.Heights.leveled c.args.rows.now in
-    let rows = rows_are v _ _ _ c.sizes-sizes.ensures.value c.ny.ensures.value c.nz.ensures.value in
-    let end : c.loop-row._row ≡ row_count v.grid = omega (arith, c.loop-row-test.false, rows, c.loop-row.auto._row-end) in
+    let rows = owned_are v _ _ c.args.walk.slices c.sizes-sizes.ensures.value c.ny.ensures.value c.requires.slices in
+    let end : c.loop-row._row ≡ v.grid.ny * c.args.walk.slices = omega (arith, c.loop-row-test.false, rows.count, c.loop-row.auto._row-end) in
     subst (λ r. c.loop-row.block.total ≤ c.args.block.now.total + 256 * (v.grid.nx * r)) end c.loop-row.invariant.bytes

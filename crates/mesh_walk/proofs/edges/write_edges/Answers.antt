@@ -2,12 +2,11 @@ use Rattle.std.proofs.Common.{rules, ◌≡◌, ◌+◌, ◌*◌, ◌<◌, ◌�
 use Rattle.std.proofs.lemmas.Result.{err_from_is_err_and}
 use Rattle.std.proofs.Math.Nat.{mul-le-mul_left}
 use Rattle.iso_defs.specs.Grid.{Grid, is_crossing}
-use Rattle.iso_defs.specs.Rows.{row_count}
 use Rattle.flat_mesh.specs.Lattice.{Leveled, heights}
 use Rattle.mesh_walk.specs.Numbers.{AreRowRanks, row_number}
-use Rattle.mesh_walk.specs.Spans.{edge_line, edges_text, row_edges_text}
+use Rattle.mesh_walk.specs.Spans.{edge_line, edges_text, points_to, row_edges_text}
 use Rattle.mesh_walk.proofs.Adding.{adds_as}
-use Rattle.mesh_walk.proofs.RankedRows.{come_at, come_first, come_next, row_of_same, rows_are}
+use Rattle.mesh_walk.proofs.RankedRows.{come_at, come_first, come_next, owned_are, row_of_same}
 use Rattle.mesh_walk.proofs.RunLaws.{run_failed, run_more, run_none}
 use Rattle.mesh_walk.proofs.edges.write_edges.Goals as goal
 
@@ -32,41 +31,41 @@ write_row-requires-clause-ranks g c = subst (λ (v : Leveled). AreRowRanks v c.a
 pub write_row-requires-clause-y : goal.write_row-requires-clause-y
 write_row-requires-clause-y g c =
     let v = g.R.Heights.leveled c.args.rows.now in
-    let rows = rows_are v _ _ _ c.sizes-sizes.ensures.value c.ny.ensures.value c.nz.ensures.value in
-    let at = come_at v c.loop-row._row c.loop-row.place c.loop-row.invariant.come (omega (arith, rows, c.loop-row-test.true)) in
+    let rows = owned_are v _ _ c.args.walk.slices c.sizes-sizes.ensures.value c.ny.ensures.value c.requires.slices in
+    let at = come_at v c.loop-row._row c.loop-row.place c.loop-row.invariant.come (omega (arith, rows.count, rows.few, c.loop-row-test.true)) in
     (row_of_same (g.R.Heights.leveled c.loop-row.rows) v _ _ _ c.loop-row.invariant.volume at).y_low
 
 pub write_row-requires-clause-z : goal.write_row-requires-clause-z
 write_row-requires-clause-z g c =
     let v = g.R.Heights.leveled c.args.rows.now in
-    let rows = rows_are v _ _ _ c.sizes-sizes.ensures.value c.ny.ensures.value c.nz.ensures.value in
-    let at = come_at v c.loop-row._row c.loop-row.place c.loop-row.invariant.come (omega (arith, rows, c.loop-row-test.true)) in
+    let rows = owned_are v _ _ c.args.walk.slices c.sizes-sizes.ensures.value c.ny.ensures.value c.requires.slices in
+    let at = come_at v c.loop-row._row c.loop-row.place c.loop-row.invariant.come (omega (arith, rows.count, rows.few, c.loop-row-test.true)) in
     (row_of_same (g.R.Heights.leveled c.loop-row.rows) v _ _ _ c.loop-row.invariant.volume at).z_low
 
 pub next-place-requires-clause-y : goal.next-place-requires-clause-y
 next-place-requires-clause-y g c =
     let v = g.R.Heights.leveled c.args.rows.now in
-    let rows = rows_are v _ _ _ c.sizes-sizes.ensures.value c.ny.ensures.value c.nz.ensures.value in
-    let at = come_at v c.loop-row._row c.loop-row.place c.loop-row.invariant.come (omega (arith, rows, c.loop-row-test.true)) in
+    let rows = owned_are v _ _ c.args.walk.slices c.sizes-sizes.ensures.value c.ny.ensures.value c.requires.slices in
+    let at = come_at v c.loop-row._row c.loop-row.place c.loop-row.invariant.come (omega (arith, rows.count, rows.few, c.loop-row-test.true)) in
     subst (λ (g : Grid). c.loop-row.place.y < g.ny) (sym c.sizes-sizes.ensures.value) at.y_low
 
 pub next-place-requires-clause-z : goal.next-place-requires-clause-z
 next-place-requires-clause-z g c =
     let v = g.R.Heights.leveled c.args.rows.now in
-    let rows = rows_are v _ _ _ c.sizes-sizes.ensures.value c.ny.ensures.value c.nz.ensures.value in
-    let at = come_at v c.loop-row._row c.loop-row.place c.loop-row.invariant.come (omega (arith, rows, c.loop-row-test.true)) in
+    let rows = owned_are v _ _ c.args.walk.slices c.sizes-sizes.ensures.value c.ny.ensures.value c.requires.slices in
+    let at = come_at v c.loop-row._row c.loop-row.place c.loop-row.invariant.come (omega (arith, rows.count, rows.few, c.loop-row-test.true)) in
     subst (λ (g : Grid). c.loop-row.place.z < g.nz) (sym c.sizes-sizes.ensures.value) at.z_low
 
 pub returns-in_err-write_row-clause-adds : goal.returns-in_err-write_row-clause-adds
 returns-in_err-write_row-clause-adds g c =
     let v = g.R.Heights.leveled c.args.rows.now in
     let p = err_from_is_err_and c.from_residual.result c.from_residual.ensures.1 in
-    let rows = rows_are v _ _ _ c.sizes-sizes.ensures.value c.ny.ensures.value c.nz.ensures.value in
-    let k : v.grid.nx * suc c.loop-row._row ≤ v.grid.nx * row_count v.grid = mul-le-mul_left v.grid.nx (omega (arith, rows, c.loop-row-test.true)) in
+    let rows = owned_are v _ _ c.args.walk.slices c.sizes-sizes.ensures.value c.ny.ensures.value c.requires.slices in
+    let k : v.grid.nx * suc c.loop-row._row ≤ points_to v c.args.walk.slices = mul-le-mul_left v.grid.nx (omega (arith, rows.count, c.loop-row-test.true)) in
     let m : v.grid.nx * suc c.loop-row._row ≡ v.grid.nx * c.loop-row._row + v.grid.nx = omega arith in
     let one = adds_as _ _ _ _ _ _ _ (ap (λ (v : Leveled). row_edges_text c.args.walk.style v (row_number v.grid c.loop-row.place)) c.loop-row.invariant.volume ∙ ap (λ n. row_edges_text c.args.walk.style v n) c.loop-row.invariant.come.row_is) c.in_err-write_row.ensures.adds in
     rw p.1 (run_failed (edge_line c.args.walk.style v) (is_crossing v.grid (heights v)) 0 _ _ _ _ _ _ _ _ _ _
-    (3 * (v.grid.nx * c.loop-row._row)) (3 * v.grid.nx) (3 * (v.grid.nx * row_count v.grid)) _ (omega arith) (omega (arith, k, m)) c.loop-row.invariant.adds one)
+    (3 * (v.grid.nx * c.loop-row._row)) (3 * v.grid.nx) (3 * (points_to v c.args.walk.slices)) _ (omega arith) (omega (arith, k, m)) c.loop-row.invariant.adds one)
 
 pub returns-in_err-write_row-clause-volume : goal.returns-in_err-write_row-clause-volume
 returns-in_err-write_row-clause-volume g c = c.in_err-write_row.ensures.volume ∙ c.loop-row.invariant.volume
@@ -97,13 +96,13 @@ loop-row-preserved g c =
 pub returns-clause-adds : goal.returns-clause-adds
 returns-clause-adds g c =
     let v = g.R.Heights.leveled c.args.rows.now in
-    let rows = rows_are v _ _ _ c.sizes-sizes.ensures.value c.ny.ensures.value c.nz.ensures.value in
-    let end : c.loop-row._row ≡ row_count v.grid = omega (arith, c.loop-row-test.false, rows, c.loop-row.auto._row-end) in
+    let rows = owned_are v _ _ c.args.walk.slices c.sizes-sizes.ensures.value c.ny.ensures.value c.requires.slices in
+    let end : c.loop-row._row ≡ v.grid.ny * c.args.walk.slices = omega (arith, c.loop-row-test.false, rows.count, c.loop-row.auto._row-end) in
     adds_as _ _ _ _ _ _ _ (ap (λ n. edges_text c.args.walk.style v 0 (3 * (v.grid.nx * n))) end) c.loop-row.invariant.adds
 
 pub returns-clause-bytes : goal.returns-clause-bytes
 returns-clause-bytes g c =
     let v = g.R.Heights.leveled c.args.rows.now in
-    let rows = rows_are v _ _ _ c.sizes-sizes.ensures.value c.ny.ensures.value c.nz.ensures.value in
-    let end : c.loop-row._row ≡ row_count v.grid = omega (arith, c.loop-row-test.false, rows, c.loop-row.auto._row-end) in
+    let rows = owned_are v _ _ c.args.walk.slices c.sizes-sizes.ensures.value c.ny.ensures.value c.requires.slices in
+    let end : c.loop-row._row ≡ v.grid.ny * c.args.walk.slices = omega (arith, c.loop-row-test.false, rows.count, c.loop-row.auto._row-end) in
     subst (λ r. c.loop-row.block.total ≤ c.args.block.now.total + 192 * (v.grid.nx * r)) end c.loop-row.invariant.bytes

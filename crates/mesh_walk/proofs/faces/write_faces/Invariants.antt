@@ -14,11 +14,11 @@ invariant-loop-row g l =
     let v = g.R.Heights.leveled l.fn.rows in
     record {
       come : HasCome v l._row l.place;
-      adds : Adds {T = Unit {0}} (g.K.Sink.seen l.fn.sink) (g.K.Sink.seen l.sink) l.fn.block l.block (Ok tt) (faces_text l.walk.style.format v 0 (v.grid.nx * l._row));
+      adds : Adds {T = Unit {0}} (g.K.Sink.seen l.fn.sink) (g.K.Sink.seen l.sink) l.fn.block l.block (Ok tt) (faces_text l.walk.style.format l.walk.numbers v 0 (v.grid.nx * l._row));
       bytes : l.block.total ≤ l.fn.block.total + 3072 * (v.grid.nx * l._row);
-      ready : IsReady (text_at l.faces.texts.slots.texts) (number_due l.walk.style v) v l.faces.texts.next;
+      ready : IsReady (text_at l.faces.texts.slots.texts) (number_due l.walk.style l.walk.numbers v) v l.faces.texts.next;
       slots : HaveCorners l.faces.slots.tables;
-      next : HasNumber v (v.grid.nx * l._row) l.faces.next;
+      next : HasNumber l.walk.numbers.first_centre v (v.grid.nx * l._row) l.faces.next;
       volume : g.R.Heights.leveled l.rows ≡ v;
       kept : g.R.MeshRows.kept l.rows ≡ g.R.MeshRows.kept l.fn.rows;
       least : g.R.MeshRows.spent l.fn.rows ≤ g.R.MeshRows.spent l.rows;

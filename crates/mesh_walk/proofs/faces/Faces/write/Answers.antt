@@ -16,25 +16,29 @@ pub put_faces-requires : goal.put_faces-requires
 put_faces-requires g c =
     let v = g.H.Heights.leveled c.args.field.now in
     let is = c.sizes.ensures.leveled.grid in
-    let style = c.args.style in
+    let style = c.args.walk.style in
+    let base = c.args.walk.numbers in
+    let firsts = c.requires.first in
     let cells = c.args.self.now.cells in
     let texts = c.set_centres.new.self.texts in
-    let around : AreAround (text_at texts) (number_due style v) v cells.y cells.z
-    = around_still v is (text_at c.args.self.now.texts.slots.texts) (text_at texts) (number_due style v) c.set_centres.ensures.edges cells.y cells.z c.requires.texts in
-    subst (All (HasText texts)) (sym c.list_corners-count.ensures.put) (listed_have v is style cells c.requires.cells texts around c.set_centres.ensures.centres cells.count (omega arith))
+    let around : AreAround (text_at texts) (number_due style base v) v cells.y cells.z
+    = around_still v is (text_at c.args.self.now.texts.slots.texts) (text_at texts) (number_due style base v) c.set_centres.ensures.edges cells.y cells.z c.requires.texts in
+    subst (All (HasText texts)) (sym c.list_corners-count.ensures.put) (listed_have v is style base firsts cells c.requires.cells texts around c.set_centres.ensures.centres cells.count (omega arith))
 
 pub returns-clause-adds : goal.returns-clause-adds
 returns-clause-adds g c =
     let v = g.H.Heights.leveled c.args.field.now in
     let is = c.sizes.ensures.leveled.grid in
-    let style = c.args.style in
+    let style = c.args.walk.style in
+    let base = c.args.walk.numbers in
+    let firsts = c.requires.first in
     let cells = c.args.self.now.cells in
     let texts = c.set_centres.new.self.texts in
-    let around : AreAround (text_at texts) (number_due style v) v cells.y cells.z
-    = around_still v is (text_at c.args.self.now.texts.slots.texts) (text_at texts) (number_due style v) c.set_centres.ensures.edges cells.y cells.z c.requires.texts in
-    let same = ap (map (text_at texts)) c.list_corners-count.ensures.put ∙ listed_texts v is style cells c.requires.cells texts around c.set_centres.ensures.centres cells.count (omega arith) in
-    adds_as _ _ _ _ _ _ _ (row_lines v is style cells c.requires.cells texts around c.set_centres.ensures.centres)
-    (c.put_faces.ensures.adds (faces_to v is style cells c.requires.cells cells.count) (faces_three v is style cells c.requires.cells cells.count) same)
+    let around : AreAround (text_at texts) (number_due style base v) v cells.y cells.z
+    = around_still v is (text_at c.args.self.now.texts.slots.texts) (text_at texts) (number_due style base v) c.set_centres.ensures.edges cells.y cells.z c.requires.texts in
+    let same = ap (map (text_at texts)) c.list_corners-count.ensures.put ∙ listed_texts v is style base firsts cells c.requires.cells texts around c.set_centres.ensures.centres cells.count (omega arith) in
+    adds_as _ _ _ _ _ _ _ (row_lines v is style base firsts cells c.requires.cells texts around c.set_centres.ensures.centres)
+    (c.put_faces.ensures.adds (faces_to v is style base firsts cells c.requires.cells cells.count) (faces_three v is style base firsts cells c.requires.cells cells.count) same)
 
 pub returns-clause-bytes : goal.returns-clause-bytes
 returns-clause-bytes g c =

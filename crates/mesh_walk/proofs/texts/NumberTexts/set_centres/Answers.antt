@@ -20,14 +20,14 @@ set_texts-requires-clause-apart g c =
 
 pub set_texts-requires-clause-few : goal.set_texts-requires-clause-few
 set_texts-requires-clause-few g c =
-    omega (arith, ap length c.list_centres-count.ensures.put, few_numbers (g.H.Heights.leveled c.args.field.now) c.sizes.ensures.leveled.grid c.args.cells.now c.requires.cells c.args.style.format c.args.number c.requires.number)
+    omega (arith, ap length c.list_centres-count.ensures.put, few_numbers (g.H.Heights.leveled c.args.field.now) c.sizes.ensures.leveled.grid c.args.cells.now c.requires.cells c.args.walk.style.format c.args.walk.numbers c.requires.first c.args.number c.requires.number)
 
 pub returns-clause-centres : goal.returns-clause-centres
 returns-clause-centres g c =
-    let format = c.args.style.format in
+    let format = c.args.walk.style.format in
     let cells = c.args.cells.now in
     let put = c.list_centres-count.ensures.put in
-    centres_set (g.H.Heights.leveled c.args.field.now) c.sizes.ensures.leveled.grid cells c.requires.cells format c.args.number c.requires.number c.set_texts.new.texts
+    centres_set (g.H.Heights.leveled c.args.field.now) c.sizes.ensures.leveled.grid cells c.requires.cells format c.args.walk.numbers c.requires.first c.args.number c.requires.number c.set_texts.new.texts
     (λ j low.
     let first : c.from.result ≡ 12312 = c.from.ensures in
     ap (λ n. text_at c.set_texts.new.texts (n + get_or (centre_slots_to cells cells.count) j 0)) (sym first)
@@ -37,12 +37,12 @@ pub returns-clause-next : goal.returns-clause-next
 returns-clause-next g c =
     let v = g.H.Heights.leveled c.args.field.now in
     let cells = c.args.cells.now in
-    subst (λ n. HasNumber v (cells_start v cells + v.grid.nx) (c.args.number + n)) (sym c.list_centres-count.ensures.count)
-    (number_behind v c.sizes.ensures.leveled.grid cells c.requires.cells c.args.style.format c.args.number c.requires.number)
+    subst (λ n. HasNumber c.args.walk.numbers.first_centre v (cells_start v cells + v.grid.nx) (c.args.number + n)) (sym c.list_centres-count.ensures.count)
+    (number_behind v c.sizes.ensures.leveled.grid cells c.requires.cells c.args.walk.style.format c.args.walk.numbers c.requires.first c.args.number c.requires.number)
 
 pub returns-clause-few : goal.returns-clause-few
 returns-clause-few g c =
-    omega (arith, c.list_centres-count.ensures.count, few_numbers (g.H.Heights.leveled c.args.field.now) c.sizes.ensures.leveled.grid c.args.cells.now c.requires.cells c.args.style.format c.args.number c.requires.number)
+    omega (arith, c.list_centres-count.ensures.count, few_numbers (g.H.Heights.leveled c.args.field.now) c.sizes.ensures.leveled.grid c.args.cells.now c.requires.cells c.args.walk.style.format c.args.walk.numbers c.requires.first c.args.number c.requires.number)
 
 pub shared_ref_as_front-set_texts : goal.shared_ref_as_front-set_texts
 shared_ref_as_front-set_texts g c =

@@ -1,13 +1,10 @@
-use Rattle.std.proofs.Common.{◌≡◌, ◌<◌, ◌∙◌, rules, ℕ, sym, subst, to_z, of_z, w64}
+use Rattle.std.proofs.Common.{rules, ◌≡◌, ◌∙◌, ℤ, List, ap, to_z, of_z, w64}
 use Rattle.std.proofs.lemmas.Int.{to_z-of_z}
-use Rattle.padded_samples.proofs.PadRows.{listed, padded_length}
+use Rattle.iso_base.specs.Volume.{sample}
+use Rattle.padded_samples.proofs.SlabRows.{same_list}
 use Rattle.padded_samples.proofs.pad.PaddedSamples.at.Goals as goal
-
-pub sample-requires : goal.sample-requires
-sample-requires g c = subst (λ (n : ℕ). c.args.index < n) (padded_length c.args.self.now) c.requires
 
 pub returns : goal.returns
 returns g c =
-    let low = subst (λ (n : ℕ). c.args.index < n) (padded_length c.args.self.now) c.requires in
-    let e : to_z w64 (of_z w64 c.sample.result) ≡ c.sample.result = search (rules, to_z-of_z) in
-    e ∙ c.sample.ensures ∙ sym (listed c.args.self.now c.args.index low)
+    let back : to_z w64 (of_z w64 c.at.result) ≡ c.at.result = search (rules, to_z-of_z) in
+    back ∙ c.at.ensures ∙ ap (λ (l : List ℤ). sample l c.args.index) (same_list c.self.inside.slab c.args.self.now c.self.view_is c.self.invariant)

@@ -1,7 +1,11 @@
-use Rattle.padded_samples.proofs.PadCells.{inner_cell}
+use Rattle.std.proofs.Common.{◌≡◌, ℤ, IfSome, List, subst}
+use Rattle.iso_defs.specs.Cell.{cell_values}
+use Rattle.iso_base.specs.Points.{index_of}
+use Rattle.iso_base.specs.Volume.{sample}
+use Rattle.padded_samples.proofs.SlabRows.{same_list}
 use Rattle.padded_samples.proofs.pad.PaddedSamples.corners_at_once.Goals as goal
 
 pub returns : goal.returns
 returns g c =
-    let inside = c.in_ok-inner.ensures in
-    inner_cell c.args.self.now _ c.args.sizes.now c.args.low c.in_ok-inner.inner c.each_corner.result c.self.view_is inside.0 inside.1 inside.2 c.each_corner.ensures
+    subst (λ (l : List ℤ). IfSome c.corners_at_once.result (λ v. v ≡ cell_values c.args.sizes.now (sample l) (index_of c.args.sizes.now c.args.low)))
+    (same_list c.self.inside.slab c.args.self.now c.self.view_is c.self.invariant) c.corners_at_once.ensures

@@ -1,7 +1,0 @@
-use Rattle.std.proofs.Common.{◌≡◌, ℕ, ◌+◌, ◌<◌, ◌≤◌, map}
-use Rattle.iso_base.specs.Volume.{sample}
-use Rattle.padded_samples.specs.Pads.{padded_at}
-use Rattle.padded_samples.proofs.pad.Padded.copy_each.Given as goal
-
-abbrev pub invariant-loop-k : goal.invariant-loop-k
-invariant-loop-k g l = (j : ℕ) → 0 ≤ j → j < l.k → sample (map g.T.Packed.value l.into) j ≡ padded_at l.self (l.start + j)
