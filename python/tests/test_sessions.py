@@ -212,6 +212,47 @@ def test_an_interrupt_ends_the_session(knot, monkeypatch):
             session.report()
 
 
+def test_what_the_handler_of_a_signal_raises_ends_the_session(knot, monkeypatch):
+    """As a time limit by `signal.alarm` does."""
+    with Session(knot, 100.5) as session:
+        def late():
+            raise TimeoutError
+
+        monkeypatch.setattr(session, "_replies", type("Replies", (), {"readline": staticmethod(late), "close": lambda self: None})())
+        with pytest.raises(TimeoutError):
+            session.report()
+        monkeypatch.undo()
+        assert session._process.wait(20) == -9
+
+
+def test_a_forked_process_neither_keeps_nor_ends_a_session(knot):
+    """It has the pipe to the program, too."""
+    session = Session(knot, 100.5)
+    woken, wake = os.pipe()
+    child = os.fork()
+    if not child:
+        os.close(wake)
+        session.close()
+        os.read(woken, 1)
+        os._exit(0)
+    os.close(woken)
+    try:
+        assert session.report()[0]["border"] == 0
+        other = os.fork()
+        if not other:
+            os.close(wake)
+            time.sleep(20)
+            os._exit(0)
+        start = time.monotonic()
+        session.close()
+        assert time.monotonic() - start < 10
+        os.kill(other, signal.SIGKILL)
+        os.waitpid(other, 0)
+    finally:
+        os.close(wake)
+        os.waitpid(child, 0)
+
+
 def test_several_threads(knot):
     with Session(knot, 100.5) as session, concurrent.futures.ThreadPoolExecutor(4) as pool:
         wanted = session.mesh()
