@@ -31,8 +31,8 @@ class Session:
     """A volume and a level, open in a program of its own.
 
     Each mesh is the one that `extract` gives of the edited array; of floats, of the samples as they were scaled at the
-    beginning. All indices and boxes are in the order
-    of the array, ``[z, y, x]``. The newest 128 edits can be undone; a box of more than 1,048,576 points is several edits.
+    beginning. All indices and boxes are in the order of the array, ``[z, y, x]``. The newest 128 edits can be undone; a
+    box of more than 1,048,576 points is several edits.
 
     Parameters
     ----------
@@ -79,7 +79,7 @@ class Session:
         self.spacing = checked_spacing(spacing)
         number = checked_level(level)
         around = checked_pad(pad, number)
-        samples = samples_of(volume, number, around, room=2.0)
+        samples = samples_of(volume, number, around, is_edited=True)
         self.shape, self._dtype = samples.array.shape, samples.array.dtype.newbyteorder("<")
         self._scale = samples.scale
         options = [f"--{name}={operator.index(count)}" for name, count in (("bricks", bricks), ("pages", pages)) if count is not None]

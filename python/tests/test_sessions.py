@@ -82,6 +82,20 @@ def test_samples_of_every_type(kind):
         session.samples()[0, 0, 0] = 1
 
 
+@pytest.mark.parametrize("kind", [np.float64, np.float32, np.int64, np.uint64])
+def test_whole_numbers_of_a_wide_type_have_room_for_others(kind):
+    """A session over zeros takes more than the first type that has zero."""
+    array = np.zeros((4, 5, 6), kind)
+    with Session(array, 0.5) as session:
+        for point, value in (((1, 2, 3), 1), ((2, 2, 3), 70_000), ((0, 0, 0), -3 if kind is not np.uint64 else 3)):
+            session[point] = array[point] = value
+        assert np.array_equal(session.samples(), array) and is_mesh_of(session, array, 0.5)
+        with pytest.raises(ValueError, match="1,000 times"):
+            session[0, 0, 0] = 0.5
+    with Session(array + kind(2 ** 32 - 80_000), 5) as session:
+        assert session.samples().dtype == np.uint32
+
+
 def test_floats(waves):
     with Session(waves, 0.1, pad="auto") as session:
         places = isobench.extract(waves, 0.1, pad="auto").thousandths
