@@ -116,7 +116,8 @@ def test_floats(waves):
 
 def test_values_that_cannot_be():
     with Session(np.zeros((3, 3, 3), np.uint8), 4.5, pad=0) as session:
-        for value, text in ((300, "between 0 and 255"), (-1, "between 0 and 255"), (1.5, "whole number"), (np.nan, "NaN"), (None, "not a number"), ([1, 2], "one value")):
+        values = ((300, "between 0 and 255"), (-1, "between 0 and 255"), (1.5, "whole number"), (np.nan, "NaN"), (None, "not a number"), ([1, 2], "one value"))
+        for value, text in values:
             with pytest.raises(ValueError, match=text):
                 session[1, 1, 1] = value
         for level, text in ((-3, "above the padding"), (1e12, "out of range"), (np.inf, "inf")):
