@@ -2,6 +2,7 @@
 from __future__ import annotations
 
 import argparse
+import os
 import sys
 import warnings
 from collections.abc import Sequence
@@ -29,24 +30,38 @@ def main(words: Sequence[str] | None = None) -> int:
     Returns
     -------
     int
-        Its exit status: 0 done, 1 refused or failed. Wrong arguments end the process with 2.
+        Its exit status: 0 done, 1 refused, failed or interrupted. Wrong arguments end the process with 2.
     """
     given = list(sys.argv[1:] if words is None else words)
     try:
         if given[:1] == ["info"]:
             asked = _info_parser().parse_args(given[1:])
-            sys.stdout.write(summary_of(read_volume(asked.volume), asked.rows))
-            return 0
-        return _write(_mesh_parser().parse_args(given))
+            _print(summary_of(read_volume(asked.volume), asked.rows))
+        else:
+            _write(_mesh_parser().parse_args(given))
+        return 0
     except (OSError, ValueError, ImportError) as fault:
         _say(fault)
     except MemoryError:
         _say("out of memory: take a part of the volume, or every second sample")
+    except KeyboardInterrupt:
+        _say("interrupted")
     return 1
 
 
 def _say(text: object) -> None:
     print(f"isomesh: {text}", file=sys.stderr)
+
+
+def _print(text: str) -> None:
+    """Print a text at once, so that a fault is this one's."""
+    try:
+        sys.stdout.write(text)
+        sys.stdout.flush()
+    except OSError:
+        # What is left would be tried once more when the process ends.
+        sys.stdout = open(os.devnull, "w", encoding="utf-8")
+        raise
 
 
 def _mesh_parser() -> argparse.ArgumentParser:
@@ -89,7 +104,7 @@ def _rows_of(word: str) -> int:
     return rows
 
 
-def _write(asked: argparse.Namespace) -> int:
+def _write(asked: argparse.Namespace) -> None:
     """Read, extract and write what was asked for."""
     if not (asked.output or asked.picture):
         _mesh_parser().error("say where to write: -o MESH, or --picture PNG")
@@ -115,7 +130,6 @@ def _write(asked: argparse.Namespace) -> int:
         _say(f"warning: {warning.message}")
     if not asked.quiet:
         _summarize(asked, volume, mesh)
-    return 0
 
 
 def _summarize(asked: argparse.Namespace, volume: Volume, mesh: Mesh) -> None:
@@ -125,4 +139,4 @@ def _summarize(asked: argparse.Namespace, volume: Volume, mesh: Mesh) -> None:
         array = volume.array
         _say(f"warning: the mesh is empty: no sample is {'above' if array.max() < asked.level else 'below'} the level, "
              f"and they lie between {array.min():.9g} and {array.max():.9g}")
-    print(f"{asked.output or asked.picture}: {len(mesh.thousandths)} vertices, {len(mesh.faces)} triangles")
+    _print(f"{asked.output or asked.picture}: {len(mesh.thousandths)} vertices, {len(mesh.faces)} triangles\n")

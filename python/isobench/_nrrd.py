@@ -124,6 +124,8 @@ def _samples_of(file: BinaryIO, path: str, fields: dict[str, str]) -> np.ndarray
         raise OtherForm(f"type {fields.get('type')}") from fault
     except ValueError as fault:
         raise ValueError(f"{path}: the header's sizes are {fields['sizes']!r}") from fault
+    if min(sizes, default=0) < 1:
+        raise ValueError(f"{path}: the header's sizes are {fields['sizes']!r}, and each must be 1 or more")
     encoding = fields.get("encoding", "").lower()
     if encoding not in ("raw", "gzip", "gz"):
         raise OtherForm(f"encoding {encoding}")
@@ -147,7 +149,8 @@ def _samples_of(file: BinaryIO, path: str, fields: dict[str, str]) -> np.ndarray
 def _bytes_of(file: BinaryIO, encoding: str, length: int) -> bytes:
     """So many bytes of samples, or as many as there are."""
     if encoding == "raw":
-        return file.read(length)
+        # A header can declare more than fits in memory. The size of a pipe is 0.
+        return file.read(min(length, os.fstat(file.fileno()).st_size or length))
     # 16: a gzip header is wanted. Files of several members are decoded one by one; one byte more is asked for, so that
     # the check sum behind the last byte is looked at.
     pieces, found, rest = [], 0, file.read()
@@ -158,6 +161,8 @@ def _bytes_of(file: BinaryIO, encoding: str, length: int) -> bytes:
         except zlib.error as fault:
             raise ValueError(f"{file.name}: its gzip data is damaged ({fault}): copy it again") from fault
         found, rest = found + len(pieces[-1]), decoder.unused_data
+        if found == length and not decoder.eof:
+            raise ValueError(f"{file.name} is cut short: the check sum behind its gzip data is not there: copy it again")
     return b"".join(pieces)
 
 
@@ -170,8 +175,9 @@ def _read_by_unu(path: str, why: str) -> tuple[np.ndarray, dict[str, str]]:
         plain = os.path.join(room, "plain.nrrd")
         ran = subprocess.run([unu, "save", "-f", "nrrd", "-e", "raw", "-i", path, "-o", plain], stdout=subprocess.DEVNULL, stderr=subprocess.PIPE)
         if ran.returncode:
-            lines = ran.stderr.decode("utf-8", "replace").strip().splitlines()
-            raise ValueError(f"{path} is damaged or cut short; unu says: {lines[-1] if lines else ran.returncode}")
+            # Its usage stands behind a blank line; the line before says most.
+            said = ran.stderr.decode("utf-8", "replace").strip().partition("\n\n")[0].splitlines()
+            raise ValueError(f"{path} is damaged or cut short; unu says: {said[-1] if said else ran.returncode}")
         with open(plain, "rb") as file:
             fields = _fields_of(file, plain)
             return _samples_of(file, plain, fields), fields

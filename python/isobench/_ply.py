@@ -151,7 +151,7 @@ def load_reader(path: str | os.PathLike) -> Reader:
     count, vertices, faces = library.isobench_count_lines, library.isobench_read_vertices, library.isobench_read_faces
     count.argtypes = ctypes.c_void_p, ctypes.c_ssize_t
     vertices.argtypes = ctypes.c_void_p, ctypes.c_ssize_t, ctypes.c_ssize_t, ctypes.c_void_p
-    faces.argtypes = ctypes.c_void_p, ctypes.c_ssize_t, ctypes.c_ssize_t, ctypes.c_int64, ctypes.c_void_p
+    faces.argtypes = ctypes.c_void_p, ctypes.c_ssize_t, ctypes.c_ssize_t, ctypes.c_void_p
     for call in (count, vertices, faces):
         call.restype = ctypes.c_ssize_t
 
@@ -161,7 +161,7 @@ def load_reader(path: str | os.PathLike) -> Reader:
 
     def fill_faces(text: np.ndarray, out: np.ndarray) -> None:
         body = text[MARGIN:]
-        _check_length(faces(body.ctypes.data, len(body), len(out), 1 << 31, out.ctypes.data), body)
+        _check_length(faces(body.ctypes.data, len(body), len(out), out.ctypes.data), body)
 
     return Reader(fill_vertices, fill_faces, lambda text: count(text.ctypes.data, len(text)), 1 << 19)
 
@@ -285,8 +285,9 @@ def _fill_vertices(text: np.ndarray, out: np.ndarray) -> None:
     if _count_others(body) != 6 * count + np.count_nonzero(is_negative):
         raise MeshTextError("a line of a vertex is in another form")
     words = _words_before(text, ends)
-    if spans.min() < 6 or ((words >> WORD(32)) & WORD(0xFF) != ord(".")).any():
-        raise MeshTextError("a coordinate has no three places")
+    # Eight bytes hold four digits, the point and three places; a span has the blank before them, too.
+    if spans.min() < 6 or spans.max() > 9 or ((words >> WORD(32)) & WORD(0xFF) != ord(".")).any():
+        raise MeshTextError("a coordinate has other than three places, or more than four digits before them")
     places = words & WORD(0xFFFFFF0000000000)
     words <<= WORD(8)
     words &= WORD(0x000000FFFFFFFFFF)

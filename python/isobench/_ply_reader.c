@@ -29,9 +29,9 @@ ptrdiff_t isobench_read_vertices(const uint8_t *text, ptrdiff_t length, ptrdiff_
         at += is_negative;
         if (at >= end || !is_digit(*at)) return -1;
         int32_t value = *at++ - '0';
-        // Five digits at most, as the reader by numpy; the program's coordinates have four.
+        // Four digits at most, as the program's coordinates have, and as the reader by numpy reads.
         for (int digits = 1; at < end && is_digit(*at); digits++) {
-            if (digits == 5) return -1;
+            if (digits == 4) return -1;
             value = 10 * value + (*at++ - '0');
         }
         if (end - at < 5) return -1;
@@ -44,8 +44,9 @@ ptrdiff_t isobench_read_vertices(const uint8_t *text, ptrdiff_t length, ptrdiff_
     return at - text;
 }
 
-// Reads `count` lines `3 A B C`, each number below `limit`, at most 2^31, into `out`. Returns the number of bytes read, or -1.
-ptrdiff_t isobench_read_faces(const uint8_t *text, ptrdiff_t length, ptrdiff_t count, int64_t limit, int32_t *out) {
+// Reads `count` lines `3 A B C`, each number of at most ten digits and below 2^31, into `out`.
+// Returns the number of bytes read, or -1.
+ptrdiff_t isobench_read_faces(const uint8_t *text, ptrdiff_t length, ptrdiff_t count, int32_t *out) {
     const uint8_t *at = text, *end = text + length;
     for (ptrdiff_t face = 0; face < count; face++) {
         if (end - at < 2 || at[0] != '3' || at[1] != ' ') return -1;
@@ -53,11 +54,11 @@ ptrdiff_t isobench_read_faces(const uint8_t *text, ptrdiff_t length, ptrdiff_t c
         for (int corner = 0; corner < 3; corner++) {
             if (at >= end || !is_digit(*at)) return -1;
             int64_t value = *at++ - '0';
-            while (at < end && is_digit(*at)) {
+            for (int digits = 1; at < end && is_digit(*at); digits++) {
+                if (digits == 10) return -1;
                 value = 10 * value + (*at++ - '0');
-                if (value > INT32_MAX) return -1;
             }
-            if (at >= end || *at != (corner == 2 ? '\n' : ' ') || value >= limit) return -1;
+            if (at >= end || *at != (corner == 2 ? '\n' : ' ') || value > INT32_MAX) return -1;
             at++;
             *out++ = (int32_t)value;
         }

@@ -12,7 +12,7 @@ from collections.abc import Callable, Iterable
 
 import numpy as np
 
-from .errors import ProgramFailed, ProgramNotFound, VolumeRefused
+from .errors import MeshTextError, ProgramFailed, ProgramNotFound, VolumeRefused
 
 CHECKOUT = pathlib.Path(__file__).resolve().parents[2]
 BUILD_IT = "build it (`./run-it extract --help` in the checkout) and put it on the path, or set the variable ISOBENCH to its path"
@@ -64,7 +64,9 @@ def write_whole(descriptor: int, pieces: Iterable[bytes | np.ndarray]) -> None:
 
 
 def text_of(descriptor: int) -> mmap.mmap:
-    """A file that is not empty, as it lies in memory."""
+    """A file, as it lies in memory."""
+    if not os.fstat(descriptor).st_size:
+        raise MeshTextError("the program isobench ended well and wrote nothing")
     return mmap.mmap(descriptor, 0, prot=mmap.PROT_READ)
 
 

@@ -4,12 +4,14 @@ from __future__ import annotations
 import decimal
 import math
 import sys
+from collections.abc import Sequence
 from dataclasses import dataclass
 
 import numpy as np
 from numpy.typing import ArrayLike
 
 TYPES = ("uint8", "int8", "uint16", "int16", "uint32", "int32")
+WIDEST = ("int32", "uint32")
 LEAST, GREATEST = -(2 ** 31), 2 ** 31 - 1
 LEAST_PAD, GREATEST_PAD = -(2 ** 31), 2 ** 32 - 1
 LONGEST_AXIS, MOST_SAMPLES = 1026, 160_000_000
@@ -54,7 +56,8 @@ class Scale:
             raise ValueError("the value is no number (NaN)")
         if self.is_exact:
             if not value.is_integer():
-                raise ValueError(f"the value {value} is not a whole number, and all samples are")
+                raise ValueError(f"the value {value} is not a whole number, and all samples are: begin anew with an array that has a fraction, "
+                                 "or with all values and the level 1,000 times as great")
             return int(value)
         scaled = _float_times(value - self.zero, self.exponent)
         if not (LEAST <= scaled <= GREATEST or self.is_cut or math.isinf(value)):
@@ -137,7 +140,7 @@ def checked_pad(pad: float | str | None, level: float) -> float | str | None:
     return number
 
 
-def samples_of(volume: ArrayLike, level: float, pad: float | str | None = None, room: float = 1.0) -> Samples:
+def samples_of(volume: ArrayLike, level: float, pad: float | str | None = None, *, is_edited: bool = False) -> Samples:
     """Integers that stand for the samples of an array.
 
     Parameters
@@ -146,8 +149,9 @@ def samples_of(volume: ArrayLike, level: float, pad: float | str | None = None, 
         Integers, booleans or floats.
     level, pad
         As `checked_level` and `checked_pad` give them.
-    room : float
-        How many times the greatest distance from the level is to fit, where samples are scaled.
+    is_edited : bool
+        Whether other values will follow: room is left for them then, as far from the level again where samples are
+        scaled, and all 32 bits where whole numbers come from a wider type than the program has.
 
     Returns
     -------
@@ -170,12 +174,12 @@ def samples_of(volume: ArrayLike, level: float, pad: float | str | None = None, 
     if np.isnan(least):
         raise ValueError("some samples are no numbers (NaN): give them a value below the level, as in np.nan_to_num(volume, nan=..)")
     reach = max(abs(float(least) - level), abs(float(greatest) - level))
-    whole = _whole(array, least, greatest)
+    whole = _whole(array, least, greatest, WIDEST if is_edited else TYPES)
     is_exact = thousandths_of(level)[1] and (pad is None or isinstance(pad, str) or pad.is_integer())
     # Where samples are far from the level, its next three decimals move a vertex less than a scale does.
     if whole is not None and (is_exact or reach >= FAR):
         return Samples(whole)
-    return _scaled(array, level, pad, reach, room)
+    return _scaled(array, level, pad, reach, 2.0 if is_edited else 1.0)
 
 
 def _check_shape(array: np.ndarray, is_padded: bool) -> None:
@@ -194,17 +198,17 @@ def _check_shape(array: np.ndarray, is_padded: bool) -> None:
                          "take a part, or every second sample, as in array[::2, ::2, ::2]")
 
 
-def _type_for(least: int, greatest: int) -> str | None:
-    """The first type of the program that has both numbers."""
-    return next((name for name in TYPES if np.iinfo(name).min <= least and greatest <= np.iinfo(name).max), None)
+def _type_for(least: int, greatest: int, types: Sequence[str]) -> str | None:
+    """The first type that has both numbers."""
+    return next((name for name in types if np.iinfo(name).min <= least and greatest <= np.iinfo(name).max), None)
 
 
-def _whole(array: np.ndarray, least: np.number, greatest: np.number) -> np.ndarray | None:
-    """Whole numbers of 32 bits in a type of the program; None if some are not whole."""
+def _whole(array: np.ndarray, least: np.number, greatest: np.number, types: Sequence[str]) -> np.ndarray | None:
+    """Whole numbers of 32 bits as they are, or in one of these types; None if some are not whole."""
     if array.dtype.name in TYPES:
         return array
     is_finite = np.isfinite(least) and np.isfinite(greatest)
-    name = _type_for(int(least), int(greatest)) if is_finite else None
+    name = _type_for(int(least), int(greatest), types) if is_finite else None
     if array.dtype.kind in "iu":
         if name is None:
             raise ValueError(f"the samples lie between {least} and {greatest}, which no 32-bit integers do: subtract a constant from them, "
@@ -270,7 +274,8 @@ def _times(numbers: np.ndarray, exponent: int) -> np.ndarray:
 
 
 def _from_level(part: np.ndarray, level: float) -> np.ndarray:
-    return np.subtract(part, level, dtype=np.float64)
+    """Distances from the level, rounded once: also of floats that are wider than 64 bits."""
+    return np.subtract(part, level, dtype=np.result_type(part, np.float64)).astype(np.float64, copy=False)
 
 
 def _some_of(array: np.ndarray) -> np.ndarray:

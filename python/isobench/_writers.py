@@ -16,6 +16,12 @@ from numpy.typing import ArrayLike
 __all__ = ["coinciding_in_stl", "write_mesh"]
 
 ROWS = 1 << 16
+WRITE_ELSEWHERE = "write to another folder, or under another name"
+CURES = {
+    errno.ENOSPC: "make room, or write to another disk",
+    errno.EDQUOT: "make room, or write to another disk",
+    errno.EFBIG: "files may be no longer here (`ulimit -f`)",
+}
 PLY_HEAD = """ply
 format binary_little_endian 1.0
 element vertex {vertices}
@@ -106,6 +112,8 @@ def _checked(points: ArrayLike, faces: ArrayLike) -> tuple[np.ndarray, np.ndarra
     for name, array in (("points", positions), ("faces", corners)):
         if array.ndim != 2 or array.shape[1] != 3:
             raise ValueError(f"{name} must have the shape (N, 3), not {array.shape}")
+    if not np.isfinite(positions).all():
+        raise ValueError("some points are infinite or no numbers (NaN), and a mesh has none of these")
     if corners.dtype.kind not in "iu":
         raise ValueError(f"faces must be integers, not {corners.dtype}")
     if len(corners) and not (0 <= corners.min() and corners.max() < len(positions)):
@@ -115,21 +123,26 @@ def _checked(points: ArrayLike, faces: ArrayLike) -> tuple[np.ndarray, np.ndarra
 
 @contextlib.contextmanager
 def in_place(path: str | os.PathLike, ending: str) -> Iterator[str]:
-    """The name of a file beside `path`, which becomes it at the end if nothing goes wrong."""
+    """The name of a file beside `path`, which becomes it at the end if nothing goes wrong. Errors name `path`."""
     target = os.path.realpath(path)
-    if os.path.exists(target) and not stat.S_ISREG(os.stat(target).st_mode):
-        yield target
-        return
-    folder, name = os.path.split(target)
+    folder = os.path.dirname(target)
     if not os.path.isdir(folder):
         raise FileNotFoundError(errno.ENOENT, "there is no such folder", folder)
-    beside = os.path.join(folder, f".{name[:100]}.{secrets.token_hex(4)}{ending}")
+    is_special = os.path.exists(target) and not stat.S_ISREG(os.stat(target).st_mode)
+    beside = target if is_special else os.path.join(folder, f".isobench-{secrets.token_hex(8)}{ending}")
     try:
         yield beside
-        os.replace(beside, target)
+        if not is_special:
+            os.replace(beside, target)
+    except OSError as fault:
+        if fault.errno is None:
+            raise
+        # The class goes by the number: PermissionError and the like.
+        raise OSError(fault.errno, f"{os.strerror(fault.errno)}: {CURES.get(fault.errno, WRITE_ELSEWHERE)}", os.fspath(path)) from fault
     finally:
-        with contextlib.suppress(FileNotFoundError):
-            os.remove(beside)
+        if not is_special:
+            with contextlib.suppress(OSError):
+                os.remove(beside)
 
 
 def _write_by_meshio(path: str, points: np.ndarray, faces: np.ndarray) -> None:
@@ -139,22 +152,36 @@ def _write_by_meshio(path: str, points: np.ndarray, faces: np.ndarray) -> None:
     except ImportError as fault:
         raise ValueError(f"the ending {ending!r} is none of {', '.join(_WRITERS)}: choose one of them, or install meshio "
                          "(Debian: python3-meshio), which knows more") from fault
+    # XDMF keeps its numbers in a second file unless it is told not to.
+    options = {"data_format": "XML"} if ending in (".xdmf", ".xmf") else {}
     try:
-        meshio.write_points_cells(path, points, [("triangle", faces)])
-    except (meshio.ReadError, meshio.WriteError, KeyError) as fault:
-        raise ValueError(f"meshio does not write {ending!r}: {fault}. Choose one of {', '.join(_WRITERS)}") from fault
+        meshio.write_points_cells(path, points, [("triangle", faces)], **options)
+    except (OSError, MemoryError):
+        raise
+    except ImportError as fault:
+        raise ImportError(f"to write {ending!r}, meshio wants one more library: {fault}. Install it, or choose one of {', '.join(_WRITERS)}") from fault
+    except Exception as fault:
+        # It has errors of its own, and some formats fail with others.
+        said = str(fault).rstrip(".")
+        raise ValueError(f"meshio does not write {ending!r} ({said}): choose one of {', '.join(_WRITERS)}") from fault
 
 
 def _write_stl(path: str, points: np.ndarray, faces: np.ndarray) -> None:
+    with open(path, "wb") as file:
+        file.write(b"isobench".ljust(80) + len(faces).to_bytes(4, "little"))
+        for first in range(0, len(faces), ROWS):
+            file.write(_facets(points, faces[first:first + ROWS]).view(np.uint8).data)
+
+
+def _facets(points: np.ndarray, faces: np.ndarray) -> np.ndarray:
+    """The records of STL: a normal, three corners, and two bytes that say nothing."""
     record = np.zeros(len(faces), [("normal", "<f4", 3), ("corners", "<f4", (3, 3)), ("attributes", "<u2")])
-    at = points.astype(np.float64)[faces]
+    at = points[faces].astype(np.float64)
     normals = np.cross(at[:, 1] - at[:, 0], at[:, 2] - at[:, 0])
     lengths = np.linalg.norm(normals, axis=1, keepdims=True)
     record["normal"] = np.divide(normals, lengths, out=np.zeros_like(normals), where=lengths > 0)
     record["corners"] = at
-    with open(path, "wb") as file:
-        file.write(b"isobench".ljust(80) + len(faces).to_bytes(4, "little"))
-        file.write(record.view(np.uint8).data)
+    return record
 
 
 def _write_ply(path: str, points: np.ndarray, faces: np.ndarray) -> None:

@@ -31,8 +31,8 @@ class Session:
     """A volume and a level, open in a program of its own.
 
     Each mesh is the one that `extract` gives of the edited array; of floats, of the samples as they were scaled at the
-    beginning. All indices and boxes are in the order
-    of the array, ``[z, y, x]``. The newest 128 edits can be undone; a box of more than 1,048,576 points is several edits.
+    beginning. All indices and boxes are in the order of the array, ``[z, y, x]``. The newest 128 edits can be undone; a
+    box of more than 1,048,576 points is several edits.
 
     Parameters
     ----------
@@ -79,7 +79,7 @@ class Session:
         self.spacing = checked_spacing(spacing)
         number = checked_level(level)
         around = checked_pad(pad, number)
-        samples = samples_of(volume, number, around, room=2.0)
+        samples = samples_of(volume, number, around, is_edited=True)
         self.shape, self._dtype = samples.array.shape, samples.array.dtype.newbyteorder("<")
         self._scale = samples.scale
         options = [f"--{name}={operator.index(count)}" for name, count in (("bricks", bricks), ("pages", pages)) if count is not None]
@@ -107,7 +107,7 @@ class Session:
             assert commands and replies and messages
             self._commands, self._replies, self._messages = commands, replies, messages
             # A session that is dropped ends its program too.
-            self._end = weakref.finalize(self, _end, self._process, commands, [replies, messages, self._file])
+            self._end = weakref.finalize(self, _end, os.getpid(), self._process, commands, [replies, messages, self._file])
             try:
                 self.ask("work 0")
             except BaseException:
@@ -147,8 +147,10 @@ class Session:
                 raise ValueError("the session is closed")
             try:
                 return self._reply_to(line)
-            except KeyboardInterrupt:
-                # Its reply would be taken for that of the next line.
+            except (Refused, VolumeRefused, ProgramFailed):
+                raise
+            except BaseException:
+                # An interrupt, or what the handler of another signal raised: the reply would be taken for that of the next line.
                 self._process.kill()
                 raise
 
@@ -374,8 +376,16 @@ class Session:
         self.close()
 
 
-def _end(process: subprocess.Popen, commands: IO[bytes], others: list[IO[bytes]]) -> None:
-    """End a program by the end of its input, and close what was open."""
+def _end(owner: int, process: subprocess.Popen, commands: IO[bytes], others: list[IO[bytes]]) -> None:
+    """End a program, and close what was open.
+
+    It is told to quit: it would not see the end of its input while a process that was forked from this one has it open.
+    Such a process itself only closes what it has.
+    """
+    if os.getpid() == owner:
+        with contextlib.suppress(BrokenPipeError):
+            commands.write(b"quit\n")
+            commands.flush()
     with contextlib.suppress(BrokenPipeError):
         commands.close()
     process.wait()

@@ -2,6 +2,7 @@
 from __future__ import annotations
 
 import os
+import struct
 from dataclasses import dataclass, field
 
 import numpy as np
@@ -110,10 +111,12 @@ def read_volume(path: str | os.PathLike) -> Volume:
         raise ValueError(f"{name}: its ending is none of {KNOWN}: convert it to one of these, for example in 3D Slicer")
     try:
         volume = read(name)
-    except (OSError, ValueError, ImportError, MemoryError):
+    except (OSError, ImportError, MemoryError):
         raise
     except Exception as fault:
-        # The libraries have errors of their own, derived from Exception alone.
+        # The libraries have errors of their own, derived from Exception alone, and some errors do not say which file it is.
+        if isinstance(fault, ValueError) and name in str(fault):
+            raise
         raise ValueError(f"{name} is damaged or cut short: {fault}") from fault
     if volume.array.ndim != 3:
         raise ValueError(f"{name} has {volume.array.ndim} axes, {volume.array.shape}, and a volume has three: take one image or one channel of it "
@@ -147,7 +150,33 @@ def _read_tiff(name: str) -> Volume:
         import tifffile
     except ImportError as fault:
         raise ImportError("to read TIFF files, install tifffile (pip install tifffile; Debian: apt install python3-tifffile)") from fault
-    return Volume(tifffile.imread(name))
+    _check_pages(name)
+    try:
+        return Volume(tifffile.imread(name))
+    except ValueError as fault:
+        if "imagecodecs" in str(fault):
+            raise ImportError(f"to read {name}, install imagecodecs (pip install imagecodecs), or save it without compression: {fault}") from fault
+        raise
+
+
+def _check_pages(name: str) -> None:
+    """Follow the list of a TIFF file's images to its end: of a file that is cut short, tifffile may give the first ones alone."""
+    with open(name, "rb") as file:
+        head = file.read(16)
+        order = ">" if head[:2] == b"MM" else "<"
+        is_big = head[2:4] in (b"+\0", b"\0+")
+        # Where the first offset stands; how a count and an offset are written; the length of an entry.
+        at, count_form, offset_form, entry = (8, order + "Q", order + "Q", 20) if is_big else (4, order + "H", order + "I", 12)
+        seen: set[int] = set()
+        while True:
+            file.seek(at)
+            (offset,) = struct.unpack(offset_form, file.read(struct.calcsize(offset_form)))
+            if not offset or offset in seen:
+                return
+            seen.add(offset)
+            file.seek(offset)
+            (count,) = struct.unpack(count_form, file.read(struct.calcsize(count_form)))
+            at = offset + struct.calcsize(count_form) + count * entry
 
 
 def _read_npy(name: str) -> Volume:

@@ -4,8 +4,10 @@ import pty
 import re
 import resource
 import shutil
+import signal
 import subprocess
 import sys
+import time
 
 import isobench
 import numpy as np
@@ -29,7 +31,7 @@ def test_a_scan_becomes_a_mesh_in_its_space(run_isomesh, tmp_path, ending):
 def test_it_is_placed_as_the_example_script_places_it(run_isomesh, tmp_path):
     run_isomesh(HEAD, "--level", "100.5", "--pad=-1", "-o", tmp_path / "ours.obj")
     array = read_volume(HEAD).array
-    header = f"NRRD0004\ntype: int16\ndimension: 3\nsizes: 64 64 48\nendian: little\nencoding: raw\n\n".encode()
+    header = "NRRD0004\ntype: int16\ndimension: 3\nsizes: 64 64 48\nendian: little\nencoding: raw\n\n".encode()
     (tmp_path / "raw.nrrd").write_bytes(header + array.tobytes())
     with open(tmp_path / "raw.nrrd", "rb") as samples, open(tmp_path / "voxel.obj", "wb") as mesh:
         subprocess.run([isobench._program.program(), "extract", "--level=100.5", "--pad=-1", "--format=obj"], stdin=samples, stdout=mesh, check=True)
@@ -105,6 +107,32 @@ def test_a_full_disk_leaves_no_half_file(run_isomesh, tmp_path, most, text):
     ran = run_isomesh(HEAD, "--level", "100.5", "-o", tmp_path / "a.stl", preexec_fn=lambda: resource.setrlimit(resource.RLIMIT_FSIZE, (most, most)))
     assert ran.returncode == 1 and text in ran.stderr and "Traceback" not in ran.stderr
     assert not list(tmp_path.iterdir())
+
+
+def test_standard_output_that_takes_nothing(run_isomesh):
+    with open("/dev/full", "wb") as full:
+        words = [sys.executable, "-m", "isobench", "info", HEAD]
+        ran = subprocess.run(words, cwd=os.path.dirname(os.path.dirname(isobench.__file__)), stdout=full, stderr=subprocess.PIPE, text=True)
+    assert (ran.returncode, ran.stderr) == (1, "isomesh: [Errno 28] No space left on device\n")
+
+
+def test_an_interrupt_leaves_nothing(tmp_path):
+    """While the program runs, which waits here."""
+    folder = tmp_path / "folder"
+    folder.mkdir()
+    waiting = tmp_path / "isobench"
+    waiting.write_text(f"#!/bin/sh\nif [ $1 = --version ]; then echo isobench 1.1.0; exit; fi\ntouch {tmp_path}/begun\nexec sleep 60\n")
+    waiting.chmod(0o755)
+    command = [sys.executable, "-m", "isobench", HEAD, "--level", "100.5", "-o", folder / "a.stl"]
+    environment = {**os.environ, "ISOBENCH": str(waiting)}
+    with subprocess.Popen(command, cwd=os.path.dirname(os.path.dirname(isobench.__file__)), env=environment, stderr=subprocess.PIPE, text=True) as process:
+        for _ in range(1000):
+            if (tmp_path / "begun").exists():
+                break
+            time.sleep(0.02)
+        process.send_signal(signal.SIGINT)
+        assert process.communicate(timeout=20)[1] == "isomesh: interrupted\n"
+    assert process.returncode == 1 and not list(folder.iterdir())
 
 
 def test_negative_levels_and_paddings(run_isomesh, tmp_path):

@@ -156,8 +156,9 @@ def test_a_program_that_dies_is_an_os_error(tmp_path, monkeypatch, body, status,
     assert failed.value.status == status and isinstance(failed.value, OSError)
 
 
-def test_a_program_that_writes_half_a_mesh(tmp_path, monkeypatch):
-    monkeypatch.setenv("ISOBENCH", program_that(tmp_path, "print('ply\\nformat ascii 1.0\\nelement vertex 7')"))
+@pytest.mark.parametrize("body", ["print('ply\\nformat ascii 1.0\\nelement vertex 7')", "pass"])
+def test_a_program_that_writes_half_a_mesh(tmp_path, monkeypatch, body):
+    monkeypatch.setenv("ISOBENCH", program_that(tmp_path, body))
     with pytest.raises(isobench.MeshTextError):
         isobench.extract(CUBE, 5)
 

@@ -93,7 +93,10 @@ BROKEN = {
     "four places": GOOD.replace(b"0.500", b"0.5000"),
     "a comma": GOOD.replace(b"0.500", b"0,500"),
     "no digit before the point": GOOD.replace(b"0.500", b".500"),
+    "five digits": GOOD.replace(b"0.500", b"10000.500"),
+    "five digits behind a sign": GOOD.replace(b"-1.000", b"-10000.000"),
     "six digits": GOOD.replace(b"0.500", b"100000.500"),
+    "eleven digits": GOOD.replace(b"3 0 1 2", b"3 00000000000 1 2"),
     "two signs": GOOD.replace(b"-1.000", b"--1.000"),
     "an exponent": GOOD.replace(b"30.000", b"3.000e1"),
     "more vertices declared": GOOD.replace(b"vertex 3", b"vertex 4"),
@@ -112,3 +115,23 @@ def test_other_texts_are_refused(reader, name):
 
 def test_the_good_text_is_read(reader):
     assert read(GOOD)[0].tolist() == [[0, 500, 1000], [-1000, 2, 30], [10, 20, 30_000]]
+
+
+@pytest.mark.parametrize("seed", range(8))
+def test_both_read_a_changed_text_alike_or_refuse_it(c_reader, monkeypatch, seed):
+    random = np.random.default_rng(seed)
+    for _ in range(100):
+        positions = random.integers(-1000, 1_026_001, (random.integers(1, 60), 3)) // 10 ** random.integers(0, 7)
+        text = bytearray(text_of(positions, random.integers(0, len(positions), (random.integers(0, 90), 3))))
+        for _ in range(random.integers(1, 4)):
+            at = random.integers(text.index(b"end_header\n") + 11, len(text))
+            other = random.choice(list(b"0123456789 .-\n\t3e+x\r\0:/,"))
+            text[at:at + random.integers(0, 2)] = bytes([other]) * random.choice([0, 1, 1, 1, random.integers(1, 12)])
+        found = []
+        for reader in (c_reader, None):
+            monkeypatch.setattr(_ply, "_c_reader", lambda reader=reader: reader)
+            try:
+                found.append([array.tolist() for array in _ply.read_mesh(bytes(text))])
+            except MeshTextError:
+                found.append(None)
+        assert found[0] == found[1], bytes(text)

@@ -81,6 +81,14 @@ def test_signs_are_exact_and_places_are_near(name):
     assert worst_place(*VOLUMES[name]) <= 0.51
 
 
+def test_floats_of_more_than_64_bits_stay_on_their_side():
+    """Their differences from the level vanish in 64 bits."""
+    volume = np.full((3, 3, 3), np.longdouble(0.5)) - np.finfo(np.longdouble).eps
+    volume[1, 1, 1] = 0.5
+    assert (volume[0, 0, 0] < 0.5) and len(extract(volume, 0.5).faces) == 8
+    assert not len(extract(volume.astype(np.float64), 0.5).faces)
+
+
 def test_no_sample_loses_its_side_by_a_product_that_vanishes():
     volume = np.full((3, 3, 3), 1e300)
     volume[1, 1, 1] = -1e-300

@@ -82,6 +82,20 @@ def test_samples_of_every_type(kind):
         session.samples()[0, 0, 0] = 1
 
 
+@pytest.mark.parametrize("kind", [np.float64, np.float32, np.int64, np.uint64])
+def test_whole_numbers_of_a_wide_type_have_room_for_others(kind):
+    """A session over zeros takes more than the first type that has zero."""
+    array = np.zeros((4, 5, 6), kind)
+    with Session(array, 0.5) as session:
+        for point, value in (((1, 2, 3), 1), ((2, 2, 3), 70_000), ((0, 0, 0), -3 if kind is not np.uint64 else 3)):
+            session[point] = array[point] = value
+        assert np.array_equal(session.samples(), array) and is_mesh_of(session, array, 0.5)
+        with pytest.raises(ValueError, match="1,000 times"):
+            session[0, 0, 0] = 0.5
+    with Session(array + kind(2 ** 32 - 80_000), 5) as session:
+        assert session.samples().dtype == np.uint32
+
+
 def test_floats(waves):
     with Session(waves, 0.1, pad="auto") as session:
         places = isobench.extract(waves, 0.1, pad="auto").thousandths
@@ -102,7 +116,8 @@ def test_floats(waves):
 
 def test_values_that_cannot_be():
     with Session(np.zeros((3, 3, 3), np.uint8), 4.5, pad=0) as session:
-        for value, text in ((300, "between 0 and 255"), (-1, "between 0 and 255"), (1.5, "whole number"), (np.nan, "NaN"), (None, "not a number"), ([1, 2], "one value")):
+        values = ((300, "between 0 and 255"), (-1, "between 0 and 255"), (1.5, "whole number"), (np.nan, "NaN"), (None, "not a number"), ([1, 2], "one value"))
+        for value, text in values:
             with pytest.raises(ValueError, match=text):
                 session[1, 1, 1] = value
         for level, text in ((-3, "above the padding"), (1e12, "out of range"), (np.inf, "inf")):
@@ -210,6 +225,47 @@ def test_an_interrupt_ends_the_session(knot, monkeypatch):
         session._process.wait()
         with pytest.raises(ProgramFailed):
             session.report()
+
+
+def test_what_the_handler_of_a_signal_raises_ends_the_session(knot, monkeypatch):
+    """As a time limit by `signal.alarm` does."""
+    with Session(knot, 100.5) as session:
+        def late():
+            raise TimeoutError
+
+        monkeypatch.setattr(session, "_replies", type("Replies", (), {"readline": staticmethod(late), "close": lambda self: None})())
+        with pytest.raises(TimeoutError):
+            session.report()
+        monkeypatch.undo()
+        assert session._process.wait(20) == -9
+
+
+def test_a_forked_process_neither_keeps_nor_ends_a_session(knot):
+    """It has the pipe to the program, too."""
+    session = Session(knot, 100.5)
+    woken, wake = os.pipe()
+    child = os.fork()
+    if not child:
+        os.close(wake)
+        session.close()
+        os.read(woken, 1)
+        os._exit(0)
+    os.close(woken)
+    try:
+        assert session.report()[0]["border"] == 0
+        other = os.fork()
+        if not other:
+            os.close(wake)
+            time.sleep(20)
+            os._exit(0)
+        start = time.monotonic()
+        session.close()
+        assert time.monotonic() - start < 10
+        os.kill(other, signal.SIGKILL)
+        os.waitpid(other, 0)
+    finally:
+        os.close(wake)
+        os.waitpid(child, 0)
 
 
 def test_several_threads(knot):

@@ -81,6 +81,12 @@ def test_a_rare_encoding_without_the_libraries(tmp_path, monkeypatch):
         read_volume(tmp_path / "a.nrrd")
 
 
+def test_what_unu_says_of_a_damaged_file(unu, tmp_path):
+    (tmp_path / "a.nrrd").write_text(FIELDS.format("uint8", "", "ascii") + "\n1 2 3")
+    with pytest.raises(ValueError, match="couldn't parse element 4 of 24"):
+        read_volume(tmp_path / "a.nrrd")
+
+
 def test_gzip_files_of_several_members(tmp_path):
     data = bytes(range(24))
     (tmp_path / "a.nrrd").write_bytes(FIELDS.format("uint8", "", "gzip").encode() + b"\n" + gzip.compress(data[:5]) + gzip.compress(data[5:]))
@@ -127,6 +133,32 @@ def test_tiff(tmp_path):
         read_volume(tmp_path / "b.tif")
 
 
+@pytest.mark.parametrize("options", [{}, {"bigtiff": True}, {"byteorder": ">"}])
+def test_a_tiff_file_that_is_cut_short_has_no_fewer_images(tmp_path, options):
+    tifffile = pytest.importorskip("tifffile")
+    array = np.arange(4 * 5 * 6, dtype=np.uint8).reshape(4, 5, 6)
+    with tifffile.TiffWriter(tmp_path / "a.tif", **options) as writer:
+        for image in array:
+            writer.write(image, contiguous=False, photometric="minisblack", metadata=None)
+    assert np.array_equal(read_volume(tmp_path / "a.tif").array, array)
+    text = (tmp_path / "a.tif").read_bytes()
+    for length in range(0, len(text), 3):
+        (tmp_path / "cut.tif").write_bytes(text[:length])
+        with pytest.raises(ValueError, match="cut.tif"):
+            read_volume(tmp_path / "cut.tif")
+
+
+def test_a_compression_that_tifffile_alone_does_not_know(tmp_path):
+    pytest.importorskip("tifffile")
+    images = pytest.importorskip("PIL.Image")
+    if __import__("importlib.util").util.find_spec("imagecodecs"):
+        pytest.skip("imagecodecs is installed")
+    layers = [images.fromarray(np.full((5, 6), value, np.uint8)) for value in range(3)]
+    layers[0].save(tmp_path / "a.tif", save_all=True, append_images=layers[1:], compression="tiff_lzw")
+    with pytest.raises(ImportError, match="a.tif, install imagecodecs"):
+        read_volume(tmp_path / "a.tif")
+
+
 def test_npy(tmp_path):
     np.save(tmp_path / "a.npy", np.arange(27, dtype=">i2").reshape(3, 3, 3))
     volume = read_volume(tmp_path / "a.npy")
@@ -150,6 +182,11 @@ DAMAGED = {
     "cut_gzip.nrrd": HEADER.replace(b"raw", b"gzip") + gzip.compress(bytes(range(24)))[:15],
     "damaged_gzip.nrrd": HEADER.replace(b"raw", b"gzip") + b"no gzip data",
     "wrong_sum.nrrd": HEADER.replace(b"raw", b"gzip") + gzip.compress(bytes(24))[:-8] + bytes(8),
+    "cut_sum.nrrd": HEADER.replace(b"raw", b"gzip") + gzip.compress(bytes(24))[:-1],
+    "great.nrrd": HEADER.replace(b"4 3 2", b"400000 300000 20000000") + bytes(24),
+    "none.nrrd": HEADER.replace(b"4 3 2", b"4 0 2") + bytes(24),
+    "negative.nrrd": HEADER.replace(b"4 3 2", b"4 3 -2") + bytes(24),
+    "no_number.nrrd": HEADER.replace(b"encoding", b"spacings: 1 x 2\nencoding") + bytes(24),
     "no_header.nrrd": b"P5 4 3 255\n" + bytes(24),
     "sizes.nrrd": HEADER.replace(b"4 3 2", b"4 x 2") + bytes(24),
     "colours.nrrd": HEADER.replace(b"dimension: 3", b"dimension: 4").replace(b"4 3 2", b"3 2 2 2") + bytes(24),
@@ -164,7 +201,7 @@ DAMAGED = {
 @pytest.mark.parametrize("name", DAMAGED)
 def test_damaged_files_are_value_errors(tmp_path, name):
     (tmp_path / name).write_bytes(DAMAGED[name])
-    with pytest.raises(ValueError, match="."):
+    with pytest.raises(ValueError, match=name):
         read_volume(tmp_path / name)
 
 

@@ -128,6 +128,7 @@ def test_coinciding_vertices_are_warned_of_before_stl(tmp_path):
 
 @pytest.mark.parametrize("points, faces", [
     (POINTS[:, :2], FACES), (POINTS, FACES[:, :2]), (POINTS[0], FACES), (POINTS[:3], FACES), (POINTS, -FACES), (POINTS, FACES / 2),
+    (POINTS * np.nan, FACES), (POINTS + np.inf, FACES),
 ])
 def test_arrays_that_are_no_mesh(tmp_path, points, faces):
     with pytest.raises(ValueError):
@@ -136,8 +137,8 @@ def test_arrays_that_are_no_mesh(tmp_path, points, faces):
 
 
 def test_endings_that_nobody_knows(tmp_path):
-    for name in ("mesh.nonsense", "mesh"):
-        with pytest.raises(ValueError, match="choose one|Choose one"):
+    for name in ("mesh.nonsense", "mesh", "mesh.svg"):
+        with pytest.raises(ValueError, match="choose one"):
             write_mesh(tmp_path / name, POINTS, FACES)
     assert not list(tmp_path.iterdir())
 
@@ -145,6 +146,23 @@ def test_endings_that_nobody_knows(tmp_path):
 def test_no_such_folder(tmp_path):
     with pytest.raises(FileNotFoundError, match="no such folder"):
         write_mesh(tmp_path / "none" / "a.stl", POINTS, FACES)
+
+
+def test_errors_name_the_file_that_was_wanted(tmp_path):
+    (tmp_path / "folder.stl").mkdir()
+    for path, kind in ((tmp_path / "folder.stl", IsADirectoryError), (tmp_path / ("m" * 300 + ".stl"), OSError), ("/proc/a.stl", OSError)):
+        with pytest.raises(kind, match="write to another") as failed:
+            write_mesh(path, POINTS, FACES)
+        assert failed.value.filename == str(path) and "isobench-" not in str(failed.value)
+    write_mesh(tmp_path / ("\u00e9" * 120 + ".stl"), POINTS, FACES)
+    assert len(list(tmp_path.iterdir())) == 2
+
+
+def test_xdmf_is_one_file(tmp_path):
+    pytest.importorskip("meshio")
+    pytest.importorskip("h5py")
+    write_mesh(tmp_path / "a.xdmf", POINTS, FACES)
+    assert os.listdir(tmp_path) == ["a.xdmf"] and ".h5" not in (tmp_path / "a.xdmf").read_text()
 
 
 def test_a_write_that_fails_leaves_the_old_file(tmp_path, monkeypatch):
@@ -168,8 +186,9 @@ def test_links_and_devices_stay(tmp_path):
     assert reader.communicate(timeout=20)[0].startswith("v 0 0 0\n") and (tmp_path / "pipe.obj").is_fifo()
 
 
-def test_a_full_device():
+def test_a_full_device(tmp_path):
     if not os.path.exists("/dev/full"):
         pytest.skip("no /dev/full")
-    with pytest.raises(OSError):
-        isobench._writers._write_ply("/dev/full", np.zeros((200_000, 3)), FACES)
+    (tmp_path / "full.ply").symlink_to("/dev/full")
+    with pytest.raises(OSError, match="make room.*full.ply"):
+        write_mesh(tmp_path / "full.ply", np.zeros((200_000, 3)), FACES)
