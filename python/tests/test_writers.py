@@ -183,7 +183,7 @@ def test_links_and_devices_stay(tmp_path):
     os.mkfifo(tmp_path / "pipe.obj")
     reader = subprocess.Popen(["cat", tmp_path / "pipe.obj"], stdout=subprocess.PIPE, text=True)
     write_mesh(tmp_path / "pipe.obj", POINTS, FACES)
-    assert reader.communicate(timeout=20)[0].startswith("v 0 0 0\n") and (tmp_path / "pipe.obj").is_fifo()
+    assert reader.communicate(timeout=100)[0].startswith("v 0 0 0\n") and (tmp_path / "pipe.obj").is_fifo()
 
 
 def test_a_full_device(tmp_path):
