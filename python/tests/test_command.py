@@ -125,7 +125,9 @@ def test_an_interrupt_leaves_nothing(tmp_path):
     waiting.chmod(0o755)
     command = [sys.executable, "-m", "isobench", HEAD, "--level", "100.5", "-o", folder / "a.stl"]
     environment = {**os.environ, "ISOBENCH": str(waiting)}
-    with subprocess.Popen(command, cwd=os.path.dirname(os.path.dirname(isobench.__file__)), env=environment, stderr=subprocess.PIPE, text=True) as process:
+    # (whoever runs the tests in the background has them ignore interrupts)
+    how = {"preexec_fn": lambda: signal.signal(signal.SIGINT, signal.SIG_DFL), "stderr": subprocess.PIPE, "text": True}
+    with subprocess.Popen(command, cwd=os.path.dirname(os.path.dirname(isobench.__file__)), env=environment, **how) as process:
         for _ in range(5000):
             if (tmp_path / "begun").exists():
                 break
