@@ -1,5 +1,5 @@
 -- A stretch that is gathered from nothing and written.
-use Rattle.std.proofs.Common.{◌≡◌, ℕ, List, [], Result, subst, sym}
+use Rattle.std.proofs.Common.{◌≡◌, ℕ, List, [], Result, subst}
 use Rattle.byte_streams.specs.Seen.{Tape, Stages}
 use Rattle.byte_streams.specs.declared.Failed.{Failed}
 use Rattle.mesh_lines.specs.Blocks.{Adds, Gathered}

@@ -1,5 +1,5 @@
-//! The text of the mesh of a volume at a level, written while its rows are walked: the mesh is never held, and no memory is
-//! taken.
+//! The text of the mesh of a volume at a level, or of the part that its lowest slices have, written while its rows are
+//! walked: the mesh is never held, and no memory is taken.
 #![tactic(auto)]
 
 mod cells;

@@ -6,9 +6,8 @@ use Rattle.flat_mesh.specs.Lattice.{Leveled, heights}
 use Rattle.mesh_rows.specs.Counts.{AreCounts, centres_among, triangles_among}
 use Rattle.mesh_rows.proofs.SpanLaws.{length_more, span_none}
 use Rattle.mesh_walk.specs.Numbers.{AreRowRanks, cost_before, cost_of_row, row_number}
-use Rattle.mesh_walk.specs.Spans.{points_to}
 use Rattle.mesh_walk.proofs.CellRuns.{cost_at_first, cost_next}
-use Rattle.mesh_walk.proofs.RankedRows.{come_at, come_first, come_next, owned_are, row_of_same}
+use Rattle.mesh_walk.proofs.RankedRows.{come_at, come_first, come_next, few_points, owned_are, row_of_same}
 use Rattle.mesh_walk.proofs.parts.count_cells.Goals as goal
 
 pub loop-row-init : goal.loop-row-init
@@ -45,6 +44,22 @@ count_row-row-requires-clause-z g c =
     let rows = owned_are v _ _ c.args.walk.slices c.sizes-sizes.ensures.value c.ny.ensures.value c.requires.slices in
     let at = come_at v c.loop-row._row c.loop-row.place c.loop-row.invariant.come (omega (arith, rows.count, rows.few, c.loop-row-test.true)) in
     (row_of_same (g.R.Heights.leveled c.loop-row.rows) v _ _ _ c.loop-row.invariant.volume at).z_low
+
+pub overflow_add-counts : goal.overflow_add-counts
+overflow_add-counts g c =
+    let v = g.R.Heights.leveled c.args.rows.now in
+    let rows = owned_are v _ _ c.args.walk.slices c.sizes-sizes.ensures.value c.ny.ensures.value c.requires.slices in
+    let few = few_points v.grid c.loop-row._row c.sizes-sizes.ensures.leveled.grid (omega (arith, rows.count, rows.few, c.loop-row-test.true)) in
+    let nx : 4 * (g.R.Heights.leveled c.loop-row.rows).grid.nx ≡ 4 * v.grid.nx = ap (λ (w : Leveled). 4 * w.grid.nx) c.loop-row.invariant.volume in
+    omega (arith, few, nx, c.loop-row.invariant.counts.few_centres, c.count_row-row.ensures.few_centres)
+
+pub overflow_add-counts-in-loop-row : goal.overflow_add-counts-in-loop-row
+overflow_add-counts-in-loop-row g c =
+    let v = g.R.Heights.leveled c.args.rows.now in
+    let rows = owned_are v _ _ c.args.walk.slices c.sizes-sizes.ensures.value c.ny.ensures.value c.requires.slices in
+    let few = few_points v.grid c.loop-row._row c.sizes-sizes.ensures.leveled.grid (omega (arith, rows.count, rows.few, c.loop-row-test.true)) in
+    let nx : 12 * (g.R.Heights.leveled c.loop-row.rows).grid.nx ≡ 12 * v.grid.nx = ap (λ (w : Leveled). 12 * w.grid.nx) c.loop-row.invariant.volume in
+    omega (arith, few, nx, c.loop-row.invariant.counts.few_faces, c.count_row-row.ensures.few_faces)
 
 pub next-place-requires-clause-y : goal.next-place-requires-clause-y
 next-place-requires-clause-y g c =

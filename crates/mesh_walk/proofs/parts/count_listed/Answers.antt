@@ -1,4 +1,4 @@
-use Rattle.std.proofs.Common.{◌≡◌, ◌+◌, ◌*◌, ◌<◌, ◌≤◌, ◌++◌, ℕ, ap, arith, get_or, length, map, refl, ◌∙◌}
+use Rattle.std.proofs.Common.{◌≡◌, ◌+◌, ◌*◌, ◌<◌, ◌≤◌, ◌++◌, ℕ, ap, arith, get_or, length, refl}
 use Rattle.std.proofs.lemmas.List.{length-append, length-map}
 use Rattle.std.proofs.lemmas.List.FromFn.{length-map-range_with_len}
 use Rattle.cell_loops.specs.Loops.{row_centres}
@@ -29,8 +29,8 @@ loop-k-preserved c =
     let corner_count : length (case_corners n) ≡ length (case_corners (get_or cells.cases k 0)) = ap (λ n. length (case_corners n)) c.of-case.ensures in
     let two : c.centre_count.result ≤ 2 = omega (arith, c.centre_count.ensures.value, centres_counted n, (row_at n small).centres) in
     record {
-      centres = omega (arith, ap length centres, length-append (centre_slots_to cells k) (cell_centre_slots cells k), length-map-range_with_len (λ i. 3 * place + i) 0 (length (row_centres (get_or cells.cases k 0))), centre_count, c.centre_count.ensures.value, c.from.ensures, c.loop-k.invariant.centres);
-      corners = omega (arith, ap length corners, length-append (corner_slots_to cells k) (cell_corner_slots cells k), length-map (case_corners (get_or cells.cases k 0)) (λ c. corner_slot cells.y cells.z c + 3 * place), corner_count, c.corner_count.ensures.value, c.from-2.ensures, c.loop-k.invariant.corners);
-      few_centres = omega (arith, two, c.from.ensures, c.loop-k.invariant.few_centres);
-      few_corners = omega (arith, c.corner_count.ensures.few, c.from-2.ensures, c.loop-k.invariant.few_corners);
+      centres = omega (arith, ap length centres, length-append (centre_slots_to cells k) (cell_centre_slots cells k), length-map-range_with_len (λ i. 3 * place + i) 0 (length (row_centres (get_or cells.cases k 0))), centre_count, c.centre_count.ensures.value, c.from-centres.ensures, c.loop-k.invariant.centres);
+      corners = omega (arith, ap length corners, length-append (corner_slots_to cells k) (cell_corner_slots cells k), length-map (case_corners (get_or cells.cases k 0)) (λ c. corner_slot cells.y cells.z c + 3 * place), corner_count, c.corner_count.ensures.value, c.from-corners.ensures, c.loop-k.invariant.corners);
+      few_centres = omega (arith, two, c.from-centres.ensures, c.loop-k.invariant.few_centres);
+      few_corners = omega (arith, c.corner_count.ensures.few, c.from-corners.ensures, c.loop-k.invariant.few_corners);
     }

@@ -1,4 +1,4 @@
-use Rattle.std.proofs.Common.{rules, ◌≡◌, ◌+◌, ◌*◌, ◌∙◌, ap, ap₂, sym, arith}
+use Rattle.std.proofs.Common.{rules, ◌≡◌, ◌*◌, ◌∙◌, ap₂, sym, arith}
 use Rattle.flat_mesh.specs.Rows.{row_start}
 use Rattle.mesh_rows.specs.Counts.{centres_among, triangles_among}
 use Rattle.mesh_walk.specs.Cells.{AreCells}
