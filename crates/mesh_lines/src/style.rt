@@ -4,7 +4,7 @@ ghost use Rattle.iso_base.specs.Triangles.{triangle_of};
 ghost use Rattle.mesh_text.specs.Lines.{letter_line};
 ghost use Rattle.mesh_text.specs.Numbers.{IsShort, number_text};
 ghost use Rattle.mesh_lines.specs.Lines.{origin_coordinate, vertex_line};
-ghost use Rattle.mesh_lines.specs.declared.style.Origin.TheVariants.{Window};
+ghost use Rattle.mesh_lines.specs.declared.style.Origin.TheVariants.{Slab, Window};
 ghost use Rattle.mesh_lines.specs.Triangles.{first_of, letter_of};
 
 use iso_base::{MeshFormat, PAD_SHIFT, Point, Thousandth};
@@ -19,6 +19,9 @@ pub enum Origin {
     Pad,
     /// The lowest point of a larger volume, of which this one is a window that begins at that point: its coordinates are added.
     Window(Point),
+    /// The lowest point of a larger volume within its padding, of which this one is a slab that begins so many slices above that
+    /// point: the padding's layer is subtracted along x and y, and the slices are added along z.
+    Slab(u32),
 }
 
 /// How a mesh is written: its format, and where its coordinates are counted from.
@@ -40,6 +43,13 @@ fn printed_at(stored: u32, origin: Origin, axis: usize) -> Thousandth
         Origin::Volume => stored,
         Origin::Pad => stored - PAD_SHIFT,
         Origin::Window(at) => 1000 * i64::from([at.x, at.y, at.z][axis]) + stored,
+        Origin::Slab(up) => {
+            if axis < 2 {
+                stored - PAD_SHIFT
+            } else {
+                1000 * i64::from(up) + stored
+            }
+        }
     })
 }
 
@@ -75,6 +85,17 @@ impl Style {
         self.gather_printed(Origin::Window(low), at, lines);
     }
 
+    /// Appends the line of a vertex of a slab. It is a function of its own for the same cause.
+    #[inline(never)]
+    fn gather_in_slab(self, up: u32, at: &[u32; 3], lines: &mut Lines)
+        requires origin { self.origin ≡ Slab up }
+        requires room { length lines.old + 64 ≤ 69632 }
+        ensures line { lines.new ≡ lines.old ++ vertex_line self (0, triangle_of at.now) }
+        ensures few { length lines.new ≤ length lines.old + 64 }
+    {
+        self.gather_printed(Origin::Slab(up), at, lines);
+    }
+
     /// Puts the line of a vertex at a place behind others, under the name 0, since a line has no name in it.
     #[inline(always)]
     pub fn gather_vertex(self, at: &[u32; 3], lines: &mut Lines)
@@ -87,6 +108,7 @@ impl Style {
             Origin::Volume => self.gather_printed(Origin::Volume, at, lines),
             Origin::Pad => self.gather_printed(Origin::Pad, at, lines),
             Origin::Window(low) => self.gather_in_window(low, at, lines),
+            Origin::Slab(up) => self.gather_in_slab(up, at, lines),
         }
     }
 
