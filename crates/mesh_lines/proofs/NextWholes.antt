@@ -1,12 +1,12 @@
 -- The text of a whole coordinate, out of that of the one before it.
-use Rattle.std.proofs.Common.{◌≡◌, ◌≢◌, ℕ, ◌+◌, ◌-◌, ◌/◌, ◌%◌, ◌<◌, ◌≤◌, ◌^◌, Bool, true, false, cond, if◌then◌else◌, ◌&&◌, eqb, nat_lt, List, [], ◌∷◌, ◌++◌, length, take, set, get_or, decimal, ◌⊎◌, inl, inr, refl, sym, ap, ◌∙◌, append_assoc, length-append, arith, eq-zero-or-pos}
+use Rattle.std.proofs.Common.{◌≡◌, ◌≢◌, ℕ, ◌+◌, ◌-◌, ◌/◌, ◌%◌, ◌<◌, ◌≤◌, ◌^◌, Bool, true, false, cond, if◌then◌else◌, eqb, List, [], ◌∷◌, ◌++◌, length, take, set, get_or, decimal, ◌⊎◌, inl, inr, refl, sym, ap, ◌∙◌, append_assoc, length-append, arith, eq-zero-or-pos}
 use Rattle.std.proofs.lemmas.Bool.Decides.{eqb_tells}
 use Rattle.std.proofs.lemmas.Fmt.{decimal_digit, decimal_step}
 use Rattle.std.proofs.lemmas.List.{get_or-take, length-take-le}
 use Rattle.std.proofs.Math.Seq.{get_or-append_seam, set-append_seam, take-set-lt}
 use Rattle.mesh_lines.specs.RowLines.{is_layer, size_in_pad, whole_size, whole_text}
 use Rattle.mesh_lines.specs.declared.style.Origin.{Origin}
-use Rattle.mesh_lines.specs.declared.style.Origin.TheVariants.{Volume, Pad, Window, Slab}
+use Rattle.mesh_lines.specs.declared.style.Origin.TheVariants.{Volume, Pad, Window, PaddedSlab}
 
 -- a digit and a point end a text
 digit_at : (front bytes : List ℕ) (len digit : ℕ) → len ≤ length bytes → take len bytes ≡ front ++ digit ∷ 46 ∷ [] → len - 2 ≡ length front
@@ -70,10 +70,7 @@ last_digit bytes len s room low is =
 
 -- a coordinate that does not lie in a pad's layer, and the next one
 pub whole_is : (origin : Origin) (axis n : ℕ) → is_layer origin axis n ≡ false → whole_text origin axis n ≡ decimal (whole_size origin axis n) ++ 46 ∷ []
-whole_is Volume axis n inside = refl
-whole_is (Window at) axis n inside = refl
-whole_is Pad axis n inside = ap (λ b. cond b (45 ∷ []) [] ++ (decimal (whole_size Pad axis n) ++ 46 ∷ [])) inside
-whole_is (Slab up) axis n inside = ap (λ b. cond b (45 ∷ []) [] ++ (decimal (whole_size (Slab up) axis n) ++ 46 ∷ [])) inside
+whole_is origin axis n inside = ap (λ b. cond b (45 ∷ []) [] ++ (decimal (whole_size origin axis n) ++ 46 ∷ [])) inside
 
 not_first : (n : ℕ) → eqb (n + 1) 0 ≡ false
 not_first n = inside (eqb_tells (n + 1) 0)
@@ -86,14 +83,14 @@ pub next_inside : (origin : Origin) (axis n : ℕ) → is_layer origin axis (n +
 next_inside Volume axis n = refl
 next_inside (Window at) axis n = refl
 next_inside Pad axis n = not_first n
-next_inside (Slab up) axis n = in_slab (nat_lt axis 2)
+next_inside (PaddedSlab below) axis n = either (eqb axis 2)
   where
-    in_slab : (b : Bool) → b && eqb (n + 1) 0 ≡ false
-    in_slab true = not_first n
-    in_slab false = refl
+    either : (b : Bool) → (if b then false else eqb (n + 1) 0) ≡ false
+    either true = refl
+    either false = not_first n
 
-pad_next : (n : ℕ) → eqb n 0 ≡ false → size_in_pad (n + 1) ≡ size_in_pad n + 1
-pad_next n inside =
+next_in_pad : (n : ℕ) → eqb n 0 ≡ false → size_in_pad (n + 1) ≡ size_in_pad n + 1
+next_in_pad n inside =
     let now : size_in_pad n ≡ n - 1 = ap (λ (b : Bool). if b then 1 else n - 1) inside in
     let after : size_in_pad (n + 1) ≡ n + 1 - 1 = ap (λ (b : Bool). if b then 1 else n + 1 - 1) (not_first n) in
     omega (arith, now, after, positive (eqb_tells n 0) inside)
@@ -105,15 +102,12 @@ pad_next n inside =
 pub next_size : (origin : Origin) (axis n : ℕ) → is_layer origin axis n ≡ false → whole_size origin axis (n + 1) ≡ whole_size origin axis n + 1
 next_size Volume axis n inside = refl
 next_size (Window at) axis n inside = omega arith
-next_size Pad axis n inside = pad_next n inside
-next_size (Slab up) axis n inside = in_slab (nat_lt axis 2) inside
+next_size Pad axis n inside = next_in_pad n inside
+next_size (PaddedSlab below) axis n inside = either (eqb axis 2) inside
   where
-    size : Bool → ℕ → ℕ
-    size b n = if b then size_in_pad n else up + n
-
-    in_slab : (b : Bool) → b && eqb n 0 ≡ false → size b (n + 1) ≡ size b n + 1
-    in_slab true inside = pad_next n inside
-    in_slab false inside = omega arith
+    either : (b : Bool) → (if b then false else eqb n 0) ≡ false → (if b then below + (n + 1) else size_in_pad (n + 1)) ≡ (if b then below + n else size_in_pad n) + 1
+    either true inside = omega arith
+    either false inside = next_in_pad n inside
 
 pub whole_digit : (origin : Origin) (axis n : ℕ) (bytes : List ℕ) (len : ℕ) → len ≤ length bytes → whole_size origin axis n < 10 ^ 10 → is_layer origin axis n ≡ false
     → take len bytes ≡ 32 ∷ whole_text origin axis n → LastDigit bytes len (whole_size origin axis n)

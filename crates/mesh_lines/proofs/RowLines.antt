@@ -1,5 +1,5 @@
 -- Lines of vertices in parts.
-use Rattle.std.proofs.Common.{◌≡◌, ◌≢◌, ℕ, zero, suc, ◌+◌, ◌-◌, ◌*◌, ◌/◌, ◌%◌, ◌<◌, ◌≤◌, ◌^◌, Bool, true, false, cond, if◌then◌else◌, ◌&&◌, eqb, nat_lt, List, [], ◌∷◌, ◌++◌, length, decimal, pos, ◌-ℤ◌, ◌⊎◌, inl, inr, refl, sym, ap, subst, ◌∙◌, append_assoc, arith, eq-zero-or-pos, slice_index, slice_index_or, slice_set}
+use Rattle.std.proofs.Common.{◌≡◌, ◌≢◌, ℕ, zero, suc, ◌+◌, ◌-◌, ◌*◌, ◌/◌, ◌%◌, ◌<◌, ◌≤◌, ◌^◌, Bool, true, false, cond, if◌then◌else◌, eqb, List, [], ◌∷◌, ◌++◌, length, decimal, pos, ◌-ℤ◌, ◌⊎◌, inl, inr, refl, sym, ap, subst, ◌∙◌, append_assoc, arith, eq-zero-or-pos, slice_index, slice_index_or, slice_set}
 use Rattle.std.proofs.lemmas.Bool.{eqb-true}
 use Rattle.std.proofs.lemmas.Fmt.{decimal_digit}
 use Rattle.std.proofs.lemmas.Int.{ints}
@@ -14,29 +14,28 @@ use Rattle.mesh_text.specs.declared.piece.Piece.{Piece}
 use Rattle.mesh_lines.specs.RowLines.{AreCentreTexts, AreFronts, AreTexts, AreWholes, IsPiece, RowPlace, centre_at, edge_at, front_text, is_layer, no_piece, middle_text, size_in_pad, tail_text, whole_at, whole_size, whole_text, y_text, z_text, zeros}
 use Rattle.mesh_lines.specs.declared.row_texts.RowParts.{RowParts}
 use Rattle.mesh_lines.specs.declared.style.Origin.{Origin}
-use Rattle.mesh_lines.specs.declared.style.Origin.TheVariants.{Volume, Pad, Window, Slab}
+use Rattle.mesh_lines.specs.declared.style.Origin.TheVariants.{Volume, Pad, Window, PaddedSlab}
 use Rattle.mesh_lines.specs.declared.style.Style.{Style}
 
--- a sign and a number are not long
-pad_digits : (n : ℕ) → size_in_pad n < 10 ^ 10 → (if eqb n 0 then 1 else 0) + length (decimal (size_in_pad n)) ≤ 10
-pad_digits n low = layer (eqb n 0) low
+-- a sign and a number in a pad are not long
+pad_sign_and_digits : (n : ℕ) → size_in_pad n < 10 ^ 10 → (if eqb n 0 then 1 else 0) + length (decimal (size_in_pad n)) ≤ 10
+pad_sign_and_digits n low = layer (eqb n 0) low
   where
     layer : (b : Bool) → (if b then 1 else n - 1) < 10 ^ 10 → (if b then 1 else 0) + length (decimal (if b then 1 else n - 1)) ≤ 10
     layer true low = omega (arith, ap length (decimal_digit 1 (omega arith)))
     layer false low = omega (arith, ten_digits_most (n - 1) low)
 
+-- a sign and a number are not long
 pub sign_and_digits : (origin : Origin) (axis n : ℕ) → whole_size origin axis n < 10 ^ 10 → (if is_layer origin axis n then 1 else 0) + length (decimal (whole_size origin axis n)) ≤ 10
 sign_and_digits Volume axis n low = omega (arith, ten_digits_most n low)
 sign_and_digits (Window at) axis n low = omega (arith, ten_digits_most (slice_index (at.x ∷ at.y ∷ at.z ∷ []) axis + n) low)
-sign_and_digits Pad axis n low = pad_digits n low
-sign_and_digits (Slab up) axis n low = in_slab (nat_lt axis 2) low
+sign_and_digits Pad axis n low = pad_sign_and_digits n low
+sign_and_digits (PaddedSlab below) axis n low = either (eqb axis 2) low
   where
-    size : Bool → ℕ
-    size b = if b then size_in_pad n else up + n
-
-    in_slab : (b : Bool) → size b < 10 ^ 10 → (if b && eqb n 0 then 1 else 0) + length (decimal (size b)) ≤ 10
-    in_slab true low = pad_digits n low
-    in_slab false low = omega (arith, ten_digits_most (up + n) low)
+    either : (b : Bool) → (if b then below + n else size_in_pad n) < 10 ^ 10
+        → (if (if b then false else eqb n 0) then 1 else 0) + length (decimal (if b then below + n else size_in_pad n)) ≤ 10
+    either true low = omega (arith, ten_digits_most (below + n) low)
+    either false low = pad_sign_and_digits n low
 
 -- a whole number and thousandths beyond it
 split_text : (n r : ℕ) → r < 1000 → thousandths (1000 * n + r) ≡ (decimal n ++ 46 ∷ []) ++ three_digits r
@@ -63,24 +62,26 @@ pad_text n r false low side is =
     positive (inl e) = absurd (cc)
     positive (inr e) = omega (arith, e.1)
 
+-- and further on in a larger volume
+further_text : (below n r : ℕ) → r < 1000 → thousandths (1000 * below + (1000 * n + r)) ≡ (decimal (below + n) ++ 46 ∷ []) ++ three_digits r
+further_text below n r low =
+    let sum : 1000 * below + (1000 * n + r) ≡ 1000 * (below + n) + r = omega arith in
+    ap thousandths sum ∙ split_text (below + n) r low
+
 -- a coordinate, as it is printed, is its whole part and its decimals, where its place has none or does not lie in a pad's layer
 pub coordinate_is : (origin : Origin) (axis n r : ℕ) → r < 1000 → (is_layer origin axis n ≡ false) ⊎ (r ≡ 0)
     → decimal_text (origin_coordinate origin axis (1000 * n + r)) ≡ whole_text origin axis n ++ three_digits r
 coordinate_is Volume axis n r low side = split_text n r low
 coordinate_is Pad axis n r low side = pad_text n r (eqb n 0) low side refl
 coordinate_is (Window at) axis n r low side =
-    let b : ℕ = slice_index (at.x ∷ at.y ∷ at.z ∷ []) axis in
-    let sum : 1000 * b + (1000 * n + r) ≡ 1000 * (b + n) + r = omega arith in
-    ap thousandths sum ∙ split_text (b + n) r low
-coordinate_is (Slab up) axis n r low side = in_slab (nat_lt axis 2) side
+    further_text (slice_index (at.x ∷ at.y ∷ at.z ∷ []) axis) n r low
+coordinate_is (PaddedSlab below) axis n r low side = either (eqb axis 2) side
   where
-    in_slab : (b : Bool) → (b && eqb n 0 ≡ false) ⊎ (r ≡ 0)
-        → decimal_text (if b then printed true (1000 * n + r) else pos (1000 * up + (1000 * n + r)))
-        ≡ (cond (b && eqb n 0) (45 ∷ []) [] ++ (decimal (if b then size_in_pad n else up + n) ++ 46 ∷ [])) ++ three_digits r
-    in_slab true side = pad_text n r (eqb n 0) low side refl
-    in_slab false side =
-        let sum : 1000 * up + (1000 * n + r) ≡ 1000 * (up + n) + r = omega arith in
-        ap thousandths sum ∙ split_text (up + n) r low
+    either : (b : Bool) → ((if b then false else eqb n 0) ≡ false) ⊎ (r ≡ 0)
+        → decimal_text (if b then pos (1000 * below + (1000 * n + r)) else printed true (1000 * n + r))
+        ≡ (cond (if b then false else eqb n 0) (45 ∷ []) [] ++ (decimal (if b then below + n else size_in_pad n) ++ 46 ∷ [])) ++ three_digits r
+    either true side = further_text below n r low
+    either false side = pad_text n r (eqb n 0) low side refl
 
 -- the parts of a line of three numbers one behind another
 flat : (l x y z a b c p q r : List ℕ) → x ≡ a ++ p → y ≡ b ++ q → z ≡ c ++ r

@@ -1,21 +1,20 @@
 -- The text of a mesh in a style is that of its lists.
-use Rattle.std.proofs.Common.{◌≡◌, ℕ, ◌+◌, ◌*◌, pos, ◌-ℤ◌, false, true, arith, List, [], ◌∷◌, ◌++◌, length, map, refl, sym, ap, ◌∙◌, append_assoc}
+use Rattle.std.proofs.Common.{◌≡◌, ℕ, false, true, List, [], ◌∷◌, ◌++◌, length, map, refl, sym, ap, ◌∙◌, append_assoc}
 use Rattle.std.specs.Prelude.{codes}
 use Rattle.std.specs.List.{flat_map}
-use Rattle.std.proofs.lemmas.Int.{ints}
 use Rattle.std.proofs.lemmas.List.{length-map}
 use Rattle.std.proofs.lemmas.List.Folds.{flat_map-map}
 use Rattle.iso_defs.specs.Place.{Position}
-use Rattle.iso_defs.specs.Texts.{face_head, line, obj_text, ply_text, position_text, printed, vertex_head}
+use Rattle.iso_defs.specs.Texts.{face_head, line, obj_text, ply_text, position_text, vertex_head}
 use Rattle.iso_base.specs.declared.format.MeshFormat.{MeshFormat}
 use Rattle.iso_base.specs.declared.format.MeshFormat.TheVariants.{Ply, Obj, Off, Vtk}
 use Rattle.iso_base.specs.declared.point.Point.{Point}
 use Rattle.iso_defs.specs.MeshLists.{FlatMesh}
-use Rattle.mesh_text.specs.Lines.{coordinates_text, ply_head}
+use Rattle.mesh_text.specs.Lines.{ply_head}
 use Rattle.mesh_more.specs.Texts.{off_head, vtk_faces, vtk_head, moved, moved_text, moved_vertex}
-use Rattle.mesh_lines.specs.declared.style.Origin.TheVariants.{Volume, Pad, Window, Slab}
+use Rattle.mesh_lines.specs.declared.style.Origin.TheVariants.{Volume, Pad, Window}
 use Rattle.mesh_lines.specs.declared.style.Style.{Style}
-use Rattle.mesh_lines.specs.Lines.{face_line, origin_text, text_of, vertex_line}
+use Rattle.mesh_lines.specs.Lines.{face_line, text_of, vertex_line}
 
 -- PLY's head, and then lines, in the parts of the definition
 ply_parts : (vertices faces : ℕ) (lines : List ℕ) → ply_head vertices faces ++ lines ≡ vertex_head vertices ++ (face_head faces ++ (line (codes "end_header") ++ lines))
@@ -41,12 +40,6 @@ pad_ply m = ply_parts (length m.vertex_list) (length m.triangle_list) _
 pub pad_obj : (m : FlatMesh) → text_of (record { format = Obj; origin = Pad }) m ≡ obj_text true m.vertex_list m.triangle_list
 unfolding text_of vertex_line face_line
 pad_obj m = refl
-
--- a position in a slab of a padded volume is printed as the one that it has there
-pub slab_text : (up : ℕ) (p : Position) → origin_text (Slab up) p ≡ position_text true (p.0, p.1, 1000 * (up + 1) + p.2)
-slab_text up p =
-    let same : pos (1000 * up + p.2) ≡ pos (1000 * (up + 1) + p.2) -ℤ pos 1000 = omega (arith, ints) in
-    ap (coordinates_text (printed true p.0) (printed true p.1)) same
 
 -- a window, which is moved by the point at which it begins
 module _ (at : Point) (m : FlatMesh) where

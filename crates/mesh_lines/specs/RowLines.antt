@@ -1,5 +1,5 @@
 -- The lines of vertices in the parts that those of a row of points have in common.
-use Rattle.std.specs.Prelude.{◌≡◌, ℕ, ◌+◌, ◌-◌, ◌*◌, ◌/◌, ◌%◌, ◌<◌, ◌≤◌, ◌==◌, ◌&&◌, Bool, false, cond, if◌then◌else◌, nat_lt, List, [], ◌∷◌, ◌++◌, decimal, slice_index, slice_index_or}
+use Rattle.std.specs.Prelude.{◌≡◌, ℕ, ◌+◌, ◌-◌, ◌*◌, ◌/◌, ◌%◌, ◌<◌, ◌≤◌, ◌==◌, Bool, false, cond, if◌then◌else◌, List, [], ◌∷◌, ◌++◌, decimal, slice_index, slice_index_or}
 use Rattle.iso_defs.specs.Bytes.{space, minus, dot, digit_zero}
 use Rattle.iso_defs.specs.Place.{Position}
 use Rattle.iso_defs.specs.Texts.{line}
@@ -8,7 +8,7 @@ use Rattle.mesh_text.specs.declared.piece.Piece.{Piece}
 use Rattle.mesh_lines.specs.Lines.{vertex_letter}
 use Rattle.mesh_lines.specs.declared.row_texts.RowParts.{RowParts}
 use Rattle.mesh_lines.specs.declared.style.Origin.{Origin}
-use Rattle.mesh_lines.specs.declared.style.Origin.TheVariants.{Volume, Pad, Window, Slab}
+use Rattle.mesh_lines.specs.declared.style.Origin.TheVariants.{Volume, Pad, Window, PaddedSlab}
 use Rattle.mesh_lines.specs.declared.style.Style.{Style}
 
 -- how lines are written, how many points the row has, and where it is
@@ -35,9 +35,9 @@ abbrev pub is_layer : Origin → ℕ → ℕ → Bool
 is_layer Volume axis n = false
 is_layer Pad axis n = n == 0
 is_layer (Window at) axis n = false
-is_layer (Slab up) axis n = nat_lt axis 2 && (n == 0)
+is_layer (PaddedSlab below) axis n = if axis == 2 then false else n == 0
 
--- a whole coordinate in a pad as it is printed, less its sign
+-- a whole coordinate that begins with a pad's layer as it is printed, less its sign
 abbrev pub size_in_pad : ℕ → ℕ
 size_in_pad n = if n == 0 then 1 else n - 1
 
@@ -46,7 +46,7 @@ abbrev pub whole_size : Origin → ℕ → ℕ → ℕ
 whole_size Volume axis n = n
 whole_size Pad axis n = size_in_pad n
 whole_size (Window at) axis n = slice_index (at.x ∷ at.y ∷ at.z ∷ []) axis + n
-whole_size (Slab up) axis n = if nat_lt axis 2 then size_in_pad n else up + n
+whole_size (PaddedSlab below) axis n = if axis == 2 then below + n else size_in_pad n
 
 -- the sign, the number and the point
 abbrev pub whole_text : Origin → ℕ → ℕ → List ℕ

@@ -22,21 +22,22 @@ pub(crate) const FRONTS: usize = LONGEST_ROW + 1;
 /// An offset behind that of each edge of a row.
 const ROW_END: u16 = ROW_EDGES as u16;
 
-/// Whether a whole coordinate is that of a pad's layer: it is printed with a sign.
+/// Whether a whole coordinate along an axis is that of a pad's layer: it is printed with a sign.
 fn is_layer(origin: Origin, axis: usize, whole: u32) -> bool
     ensures { result ≡ is_layer origin axis whole }
 {
     match origin {
         Origin::Pad => whole == 0,
-        Origin::Slab(_) => axis < 2 && whole == 0,
+        Origin::PaddedSlab(_) => axis != 2 && whole == 0,
         Origin::Volume | Origin::Window(_) => false,
     }
 }
 
-/// A whole coordinate in a pad as it is printed, less its sign.
+/// A whole coordinate that begins with a pad's layer as it is printed, less its sign.
 fn size_in_pad(whole: u32) -> u64
+    requires { whole ≤ 1027 }
     ensures value { result ≡ size_in_pad whole }
-    ensures bound { result ≤ whole + 1 }
+    ensures bound { result < 10 ^ 10 }
 {
     if whole == 0 { 1 } else { u64::from(whole - 1) }
 }
@@ -52,13 +53,8 @@ fn whole_size(origin: Origin, axis: usize, whole: u32) -> u64
         Origin::Volume => u64::from(whole),
         Origin::Pad => size_in_pad(whole),
         Origin::Window(at) => u64::from([at.x, at.y, at.z][axis]) + u64::from(whole),
-        Origin::Slab(up) => {
-            if axis < 2 {
-                size_in_pad(whole)
-            } else {
-                u64::from(up) + u64::from(whole)
-            }
-        }
+        Origin::PaddedSlab(below) if axis == 2 => u64::from(below) + u64::from(whole),
+        Origin::PaddedSlab(_) => size_in_pad(whole),
     }
 }
 

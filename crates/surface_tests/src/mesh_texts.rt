@@ -16,10 +16,6 @@ const PLY: &str =
 
 const OBJ: &str = "v 0.500 0.000 0.000\nv 0.000 0.500 0.000\nv 0.000 0.000 0.500\nf 1 2 3\n";
 
-/// The same as a slab whose lowest slice is the second one of a volume's samples, in its padding.
-const SLAB: &str =
-    "v -0.500 -1.000 1.000\nv -1.000 -0.500 1.000\nv -1.000 -1.000 1.500\nf 1 2 3\n";
-
 /// Writes the mesh at level 5 of a volume whose first sample is 10.
 fn put_corner(alloc: Global, sink: &mut MemSink, style: Style) -> Result<Written, Fail> {
     let volume = corner_volume(alloc)?;
@@ -63,15 +59,6 @@ fn a_wavefront_mesh(rt: HostRuntime) -> Result<(), Fail> {
         origin: Origin::Volume,
     };
     check_corner(&rt, rt.alloc(), style, (OBJ, 68))
-}
-
-#[test]
-fn a_mesh_of_a_slab_in_padding(rt: HostRuntime) -> Result<(), Fail> {
-    let style = Style {
-        format: MeshFormat::Obj,
-        origin: Origin::Slab(1),
-    };
-    check_corner(&rt, rt.alloc(), style, (SLAB, 74))
 }
 
 /// Appends the points at level 5 of a volume whose first sample is 10.
