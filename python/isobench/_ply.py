@@ -29,6 +29,7 @@ LONGEST_LINE = 64
 MARGIN = 16
 NEWLINE = ord("\n")
 MOST_THREADS = 4
+# Starting threads costs more than they save on shorter texts.
 BYTES_PER_THREAD = 1 << 22
 CUT_SHORT = "the text of the mesh is cut short"
 WORD = np.uint64
