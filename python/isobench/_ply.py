@@ -319,16 +319,33 @@ def _fill_vertices(text: np.ndarray, out: np.ndarray) -> None:
         raise MeshTextError("a line of a vertex is in another form")
     words = _words_before(text, ends)
     # Eight bytes hold four digits, the point and three places; a span has the blank before them, too.
-    if spans.min() < 6 or spans.max() > 9 or ((words >> WORD(32)) & WORD(0xFF) != ord(".")).any():
-        raise MeshTextError("a coordinate has other than three places, or more than four digits before them")
+    longest = int(spans.max())
+    if spans.min() < 6 or longest > 12 or ((words >> WORD(32)) & WORD(0xFF) != ord(".")).any():
+        raise MeshTextError("a coordinate has other than three places, or more than seven digits before them")
+    high = None
+    if longest > 9:
+        high = _high_digits(text, ends, spans)
+        np.minimum(spans, 9, out=spans)
     places = words & WORD(0xFFFFFF0000000000)
     words <<= WORD(8)
     words &= WORD(0x000000FFFFFFFFFF)
     words |= places
     values = _values_of(_clear_before(words, spans, 2)).view(np.int64)
+    if high is not None:
+        values += high
+        if values.max() >= 1 << 31:
+            raise MeshTextError("a coordinate is beyond 2,147,483.647")
     if is_negative.any():
         np.negative(values, where=is_negative, out=values)
     out[:] = values.reshape(count, 3)
+
+
+def _high_digits(text: np.ndarray, ends: np.ndarray, spans: np.ndarray) -> np.ndarray:
+    """What stands before the last four digits before the point, in thousandths. Only deep volumes have such coordinates."""
+    high, is_long = np.zeros(len(ends), np.int64), spans > 9
+    digits = _clear_before(_words_before(text, ends[is_long] - 8), spans[is_long], 9)
+    high[is_long] = 10_000_000 * _values_of(digits).view(np.int64)
+    return high
 
 
 # A block's arrays stay in the processor's cache.

@@ -20,8 +20,8 @@ ptrdiff_t isobench_count_lines(const uint8_t *text, ptrdiff_t length) {
     return count;
 }
 
-// Reads `count` lines of three decimals with three places each, as thousandths, into `out`.
-// Returns the number of bytes read, or -1.
+// Reads `count` lines of three decimals with three places each, at most seven digits before them and below 2^31 in thousandths,
+// into `out`. Returns the number of bytes read, or -1.
 ptrdiff_t isobench_read_vertices(const uint8_t *text, ptrdiff_t length, ptrdiff_t count, int32_t *out) {
     const uint8_t *at = text, *end = text + length;
     for (ptrdiff_t number = 0; number < 3 * count; number++) {
@@ -29,17 +29,16 @@ ptrdiff_t isobench_read_vertices(const uint8_t *text, ptrdiff_t length, ptrdiff_
         at += is_negative;
         if (at >= end || !is_digit(*at)) return -1;
         int32_t value = *at++ - '0';
-        // Four digits at most, as the program's coordinates have, and as the reader by numpy reads.
         for (int digits = 1; at < end && is_digit(*at); digits++) {
-            if (digits == 4) return -1;
+            if (digits == 7) return -1;
             value = 10 * value + (*at++ - '0');
         }
         if (end - at < 5) return -1;
         if (at[0] != '.' || !is_digit(at[1]) || !is_digit(at[2]) || !is_digit(at[3])) return -1;
-        value = 1000 * value + 100 * (at[1] - '0') + 10 * (at[2] - '0') + (at[3] - '0');
-        if (at[4] != (number % 3 == 2 ? '\n' : ' ')) return -1;
+        int64_t thousandths = 1000 * (int64_t)value + 100 * (at[1] - '0') + 10 * (at[2] - '0') + (at[3] - '0');
+        if (at[4] != (number % 3 == 2 ? '\n' : ' ') || thousandths > INT32_MAX) return -1;
         at += 5;
-        *out++ = is_negative ? -value : value;
+        *out++ = (int32_t)(is_negative ? -thousandths : thousandths);
     }
     return at - text;
 }

@@ -96,12 +96,16 @@ def coinciding_in_stl(points: ArrayLike) -> int:
     points : array_like, shape (V, 3)
     """
     # -0 and 0 are one place.
-    bits = (np.asarray(points).astype(np.float32) + np.float32(0)).view(np.uint32)
-    if not len(bits):
+    return count_repeated((np.asarray(points).astype(np.float32) + np.float32(0)).view(np.uint32))
+
+
+def count_repeated(rows: np.ndarray) -> int:
+    """How many rows of three numbers of 32 bits are as another one before them."""
+    if not len(rows):
         return 0
-    first = bits[:, 0].astype(np.uint64) << np.uint64(32) | bits[:, 1]
-    order = np.lexsort((bits[:, 2], first))
-    first, last = first[order], bits[order, 2]
+    first = rows[:, 0].astype(np.uint64) << np.uint64(32) | rows[:, 1]
+    order = np.lexsort((rows[:, 2], first))
+    first, last = first[order], rows[order, 2]
     return int(np.count_nonzero((first[1:] == first[:-1]) & (last[1:] == last[:-1])))
 
 

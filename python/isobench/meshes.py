@@ -10,11 +10,9 @@ from numpy.typing import ArrayLike
 from . import _ply
 from ._program import extract_text
 from ._samples import checked_level, checked_pad, samples_of
+from ._writers import count_repeated
 
 __all__ = ["Mesh", "extract", "marching_cubes"]
-
-# Along x and y positions span less than 2**20 thousandths, along z, by slabs, less than 2**24.
-KEY_SHIFT = np.array([1, 1 << 20, 1 << 40], np.int64)
 
 
 @dataclass(frozen=True, eq=False)
@@ -88,8 +86,7 @@ class Mesh:
         At a level that no sample equals there are few or none. A format without vertex numbers, such as STL, merges
         them, and the mesh may not be closed there.
         """
-        keys = self.thousandths @ KEY_SHIFT
-        return len(keys) - len(np.unique(keys))
+        return count_repeated(np.ascontiguousarray(self.thousandths, np.int32).view(np.uint32))
 
 
 def checked_spacing(spacing: ArrayLike) -> np.ndarray:

@@ -29,8 +29,8 @@ from .meshes import Mesh
 __all__ = ["extract_slabs", "write_slabs"]
 
 FORMATS = {".ply": "ply", ".obj": "obj"}
-# Readers of meshes take coordinates of four digits.
-DEEPEST_IN_ARRAYS = 9_999
+# Thousandths of 32 bits.
+DEEPEST_IN_ARRAYS = 2 ** 31 // 1000
 PIECE_BYTES = 1 << 24
 END_SECONDS = 60
 MOST_COPIES = 4
@@ -53,7 +53,7 @@ def extract_slabs(
     volume : array_like, shape (Z, Y, X), Volume, or path
         Integers of 8, 16 or 32 bits, or booleans: in memory, in a file (a path of raw NRRD or .npy, or a `numpy.memmap`),
         or any array that reads its slices when they are asked for, such as one of h5py or Zarr. At most 1,026 along y
-        and x, and 9,999 along z, with the padding.
+        and x, and 2,147,483 along z, with the padding.
     level : float
         Samples at or above it are inside. It has three decimals at most.
     pad : int or "auto", optional

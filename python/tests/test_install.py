@@ -30,6 +30,8 @@ def test_pip_installs_it(tmp_path, compiler):
     assert (installed / "_ply_reader.so").exists() == (compiler == "cc")
     assert {path.name for path in installed.glob("*.py")} == {path.name for path in (PYTHON / "isobench").glob("*.py")}
     environment = {**os.environ, "PYTHONPATH": str(tmp_path / "packages"), "ISOBENCH": _program.program()}
+    ran = subprocess.run([sys.executable, tmp_path / "packages" / "bin" / "isoslabs", "--help"], env=environment, capture_output=True, text=True)
+    assert ran.returncode == 0 and "isoslabs plan scan.nrrd" in ran.stdout, ran.stderr
     command = [tmp_path / "packages" / "bin" / "isomesh", EXAMPLES / "knot.nrrd", "--level", "100.5", "-o", tmp_path / "knot.ply"]
     ran = subprocess.run([sys.executable, *command], cwd=tmp_path, env=environment, capture_output=True, text=True)
     assert ran.stdout == f"{tmp_path}/knot.ply: 18626 vertices, 37252 triangles\n", ran.stderr

@@ -52,9 +52,11 @@ def test_numbers_of_every_length(reader, monkeypatch, most):
     assert np.array_equal(out, faces)
 
 
-def test_coordinates_of_every_length(reader):
+@pytest.mark.parametrize("most", [1_026_000, 99_999_999, 2 ** 31 - 1])
+def test_coordinates_of_every_length(reader, most):
     random = np.random.default_rng(0)
-    positions = random.integers(-1000, 1_026_001, (40_000, 3)) // 10 ** random.integers(0, 7, (40_000, 3))
+    positions = random.integers(-1000, most + 1, (40_000, 3)) // 10 ** random.integers(0, 7, (40_000, 3))
+    positions[:3] = [[most, -most, most], [9_999_999, 10_000_000, -10_000_000], [999, 1000, 0]]
     faces = random.integers(0, 40_000, (60_000, 3))
     text = text_of(positions, faces)
     assert len(text) > 4 * _ply.NUMPY_READER.block
@@ -93,9 +95,10 @@ BROKEN = {
     "four places": GOOD.replace(b"0.500", b"0.5000"),
     "a comma": GOOD.replace(b"0.500", b"0,500"),
     "no digit before the point": GOOD.replace(b"0.500", b".500"),
-    "five digits": GOOD.replace(b"0.500", b"10000.500"),
-    "five digits behind a sign": GOOD.replace(b"-1.000", b"-10000.000"),
-    "six digits": GOOD.replace(b"0.500", b"100000.500"),
+    "eight digits": GOOD.replace(b"0.500", b"10000000.500"),
+    "eight digits behind a sign": GOOD.replace(b"-1.000", b"-00000001.000"),
+    "beyond 32 bits": GOOD.replace(b"0.500", b"2147483.648"),
+    "beyond 32 bits behind a sign": GOOD.replace(b"-1.000", b"-9999999.000"),
     "eleven digits": GOOD.replace(b"3 0 1 2", b"3 00000000000 1 2"),
     "two signs": GOOD.replace(b"-1.000", b"--1.000"),
     "an exponent": GOOD.replace(b"30.000", b"3.000e1"),
@@ -121,7 +124,7 @@ def test_the_good_text_is_read(reader):
 def test_both_read_a_changed_text_alike_or_refuse_it(c_reader, monkeypatch, seed):
     random = np.random.default_rng(seed)
     for _ in range(100):
-        positions = random.integers(-1000, 1_026_001, (random.integers(1, 60), 3)) // 10 ** random.integers(0, 7)
+        positions = random.integers(-1000, random.choice([1_026_001, 2 ** 31]), (random.integers(1, 60), 3)) // 10 ** random.integers(0, 7)
         text = bytearray(text_of(positions, random.integers(0, len(positions), (random.integers(0, 90), 3))))
         for _ in range(random.integers(1, 4)):
             at = random.integers(text.index(b"end_header\n") + 11, len(text))

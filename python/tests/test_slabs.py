@@ -320,18 +320,19 @@ def test_files_that_are_none(tmp_path):
         assert not (tmp_path / "mesh.ply").exists()
 
 
-def test_deep_volumes_go_into_files_alone(tmp_path):
+def test_deep_volumes(tmp_path, reader):
     volume = np.zeros((10_050, 2, 2), np.uint8)
     volume[10_000:10_020] = 9
-    with pytest.raises(ValueError, match="write_slabs"):
-        isobench.extract_slabs(volume, 0.5)
     assert isobench.write_slabs(volume, tmp_path / "mesh.ply", 4.5, processes=2) == (10, 8)
     assert b"0.000 0.000 9999.500\n" in (tmp_path / "mesh.ply").read_bytes()
-    assert len(isobench.extract_slabs(volume[5000:], 4.5).faces) == 8
+    mesh = isobench.extract_slabs(volume, 4.5, processes=2)
+    assert len(mesh.faces) == 8 and sorted({z for _, _, z in mesh.thousandths.tolist()}) == [9_999_500, 10_019_500]
+    with pytest.raises(ValueError, match="write_slabs"):
+        isobench.extract_slabs(np.broadcast_to(np.uint8(0), (2_147_484, 2, 2)), 0.5)
 
 
 def test_vertices_far_apart_do_not_coincide():
-    heights = np.arange(-1000, 9_999_000, 1 << 10)
+    heights = np.arange(-1000, 2 ** 31, 1 << 18)
     points = np.array([(x, y, z) for x in (-1000, 1_025_000) for y in (-1000, 1_025_000) for z in heights], np.int32)
     assert isobench.Mesh(points, np.empty((0, 3), np.int32)).coinciding() == 0
     assert isobench.Mesh(np.repeat(points, 2, axis=0), np.empty((0, 3), np.int32)).coinciding() == len(points)
