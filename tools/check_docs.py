@@ -39,6 +39,8 @@ PROGRAM = TOP / "crates" / "isobench" / "out" / "isobench"
 SLAB_PROGRAM = TOP / "crates" / "isoslab" / "out" / "isoslab"
 # The commands of python/, each by its module.
 COMMANDS = {"isomesh": "isobench", "isoslabs": "isobench.isoslabs"}
+# Seconds after which a command hangs; on a busy machine one that does not takes many, too.
+PATIENCE = 600
 FENCE = re.compile(r"^```(\w*)$")
 MARK = re.compile(r"^<!-- (needs|status|not run:) (.*) -->$")
 PACKAGES = dict(line.split() for line in (TOP / "tools" / "packages.txt").read_text(encoding="utf-8").splitlines() if line[0] != "#")
@@ -134,7 +136,7 @@ def run_page(page, folder):
             continue
         status = int(above[2]) if above and above[1] == "status" else 0
         ran = subprocess.run(["bash", "-e", "-o", "pipefail", "-c", text], cwd=folder, env=environment(folder),
-                             stdin=subprocess.DEVNULL, stdout=subprocess.PIPE, stderr=subprocess.STDOUT, timeout=120)
+                             stdin=subprocess.DEVNULL, stdout=subprocess.PIPE, stderr=subprocess.STDOUT, timeout=PATIENCE)
         printed = ran.stdout.decode("utf-8", "replace")
         if shown is not None and not is_shown(printed, shown):
             wrong += 1
@@ -216,7 +218,7 @@ def completed(command):
 
 def shell(folder, command):
     return subprocess.run(["bash", "-o", "pipefail", "-c", command], cwd=folder, env=environment(folder), stdin=subprocess.DEVNULL,
-                          capture_output=True, text=True, timeout=60)
+                          capture_output=True, text=True, timeout=PATIENCE)
 
 
 def is_shown(printed, shown):

@@ -3,7 +3,7 @@
 
     python3 tools/measure.py [--program PATH] [--size N] [--rounds R] [--instructions] [--write]
 
-prints the tables of docs/performance.md; with --write it puts them there. PATH is a built isobench, without the option the
+prints the tables of docs/performance.md; with --write it puts them there, and three rows into README.md. PATH is a built isobench, without the option the
 one of this checkout; N the points along each axis (128); of R rounds (5) the best counts. Peak memory wants Debian's package
 `time`; --instructions counts those of `extract` by valgrind, which takes minutes. VTK and scikit-image are asked for by the
 system's python3 (Debian: python3-vtk9, python3-skimage), each in a process of its own that reads the same file, extracts
@@ -23,7 +23,9 @@ TOP = pathlib.Path(__file__).resolve().parent.parent
 sys.path.insert(0, str(TOP / "examples"))
 from session import Session  # noqa: E402
 
-PAGE = TOP / "docs" / "performance.md"
+PAGE, README = TOP / "docs" / "performance.md", TOP / "README.md"
+# What is shown in README.md too, and its name there.
+IN_README = {"sphere, uint8": "sphere, uint8", "blocks of `gen 7`": "blocks", "noise, uint8": "noise"}
 BEGIN, END = "<!-- written by tools/measure.py -->", "<!-- end of what is written -->"
 
 READ = """
@@ -189,6 +191,25 @@ def tables(program, size, rounds, counts):
     return first, second
 
 
+def rows_in_readme(first):
+    """The lines of the table in README.md, of isobench and of VTK with its writer; none where there is no VTK."""
+    lines = ["| volume | isobench | VTK and its ASCII writer | triangles of each |", "|---|---|---|---|"]
+    for line in first[2:]:
+        cells = [cell.strip() for cell in line.strip("|").split("|")]
+        if cells[0] in IN_README:
+            ours, written, theirs = cells[-6], cells[-4], cells[-3]
+            if not theirs:
+                return []
+            lines.append(f"| {IN_README[cells[0]]} | {cells[1]} | {written} | {int(ours):,} and {int(theirs):,} |")
+    return lines
+
+
+def put(page, lines):
+    """Write lines between the two marks of a page."""
+    before, rest = page.read_text(encoding="utf-8").split(BEGIN)
+    page.write_text(before + "\n".join([BEGIN, *lines, END]) + rest.split(END)[1], encoding="utf-8")
+
+
 def main():
     parser = argparse.ArgumentParser(description=__doc__, formatter_class=argparse.RawDescriptionHelpFormatter)
     parser.add_argument("--program", default=str(TOP / "crates" / "isobench" / "out" / "isobench"))
@@ -204,8 +225,12 @@ def main():
     if not args.write:
         print("\n".join(said))
         return
-    before, rest = PAGE.read_text(encoding="utf-8").split(BEGIN)
-    PAGE.write_text(before + "\n".join([BEGIN, "", *said, "", END]) + rest.split(END)[1], encoding="utf-8")
+    put(PAGE, ["", *said, ""])
+    few = rows_in_readme(first)
+    if few and args.size == 128:
+        put(README, few)
+    else:
+        print("README.md is as it was: its rows want VTK and 128 points", file=sys.stderr)
 
 
 if __name__ == "__main__":

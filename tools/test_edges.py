@@ -46,7 +46,7 @@ class Edges(unittest.TestCase):
             for descriptor in closed:
                 os.close(descriptor)
 
-        ran = subprocess.run([PROGRAM, *words], input=given, stdout=output, stderr=subprocess.PIPE, cwd=self.folder, preexec_fn=prepare, timeout=60)
+        ran = subprocess.run([PROGRAM, *words], input=given, stdout=output, stderr=subprocess.PIPE, cwd=self.folder, preexec_fn=prepare, timeout=600)
         return ran.returncode, ran.stdout, ran.stderr
 
     def files(self):

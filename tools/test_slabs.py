@@ -27,6 +27,8 @@ KINDS = {"int8": "b", "uint8": "B", "int16": "h", "uint16": "H", "int32": "i", "
 PARTS = ("edges", "centres", "triangles")
 SCRIPT = TOP / "tools" / "slabs.sh"
 MOST = 2147483647
+# Seconds after which a program hangs; on a busy machine one that does not takes many, too.
+PATIENCE = 600
 # Command lines that are refused, whatever the input, and the status and the message of each.
 BAD_WORDS = [
     "",
@@ -104,7 +106,7 @@ class Case:
 
 
 def ran(program, words, given, folder, before=None):
-    done = subprocess.run([program, *words], input=given, stdout=subprocess.PIPE, stderr=subprocess.PIPE, cwd=folder, preexec_fn=before, timeout=60)
+    done = subprocess.run([program, *words], input=given, stdout=subprocess.PIPE, stderr=subprocess.PIPE, cwd=folder, preexec_fn=before, timeout=PATIENCE)
     return done.returncode, done.stdout, done.stderr
 
 
@@ -249,7 +251,7 @@ def failing_files(isoslab):
                 yield f"x.{part} is full: {found}"
     with open("/dev/full", "wb") as full:
         with tempfile.TemporaryDirectory() as folder:
-            done = subprocess.run([isoslab, *words], input=given, stdout=full, stderr=subprocess.PIPE, cwd=folder, timeout=60)
+            done = subprocess.run([isoslab, *words], input=given, stdout=full, stderr=subprocess.PIPE, cwd=folder, timeout=PATIENCE)
             if (done.returncode, done.stderr) != (6, b"isoslab: output fault\n"):
                 yield f"the output is full: {done.returncode} {done.stderr}"
 
@@ -285,7 +287,7 @@ def scripted(isoslab, words, volume, status, message, mesh=b"old"):
         room.joinpath("scan.nrrd").write_bytes(volume)
         room.joinpath("mesh").write_bytes(b"old")
         done = subprocess.run(["sh", SCRIPT, "--level=0.5", *words, "scan.nrrd", "mesh"], cwd=room, stdout=subprocess.PIPE, stderr=subprocess.PIPE,
-                              env={**os.environ, "ISOSLAB": isoslab}, timeout=60)
+                              env={**os.environ, "ISOSLAB": isoslab}, timeout=PATIENCE)
         said = done.stderr.decode()
         if done.returncode != status or message not in said or not (said or status == 0):
             yield f"slabs.sh {' '.join(words)}: status {done.returncode} {said}, not {status} {message}"

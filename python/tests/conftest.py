@@ -59,7 +59,7 @@ def run_isomesh():
     def run(*words, **how):
         command = [sys.executable, "-m", "isobench", *map(str, words)]
         folder = pathlib.Path(__file__).resolve().parents[1]
-        return subprocess.run(command, cwd=folder, capture_output=True, text=True, timeout=100, **how)
+        return subprocess.run(command, cwd=folder, capture_output=True, text=True, timeout=600, **how)
 
     return run
 

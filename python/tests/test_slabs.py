@@ -76,7 +76,7 @@ def run_isoslabs():
 
     def run(*words, **environment):
         command = [sys.executable, "-m", "isobench.isoslabs", *map(str, words)]
-        return subprocess.run(command, cwd=PYTHON, env={**os.environ, **environment}, capture_output=True, text=True, timeout=100)
+        return subprocess.run(command, cwd=PYTHON, env={**os.environ, **environment}, capture_output=True, text=True, timeout=600)
 
     return run
 

@@ -100,7 +100,7 @@ def test_prusa_slicer_finds_it_closed(tmp_path, head):
         pytest.skip("prusa-slicer is not installed")
     for ending in ("stl", "3mf", "obj"):
         write_mesh(tmp_path / f"a.{ending}", *head)
-        ran = subprocess.run([slicer, "--info", tmp_path / f"a.{ending}"], capture_output=True, text=True, timeout=100)
+        ran = subprocess.run([slicer, "--info", tmp_path / f"a.{ending}"], capture_output=True, text=True, timeout=600)
         assert "manifold = yes" in ran.stdout and "number_of_facets = 44512" in ran.stdout
 
 
@@ -183,7 +183,7 @@ def test_links_and_devices_stay(tmp_path):
     os.mkfifo(tmp_path / "pipe.obj")
     reader = subprocess.Popen(["cat", tmp_path / "pipe.obj"], stdout=subprocess.PIPE, text=True)
     write_mesh(tmp_path / "pipe.obj", POINTS, FACES)
-    assert reader.communicate(timeout=100)[0].startswith("v 0 0 0\n") and (tmp_path / "pipe.obj").is_fifo()
+    assert reader.communicate(timeout=600)[0].startswith("v 0 0 0\n") and (tmp_path / "pipe.obj").is_fifo()
 
 
 def test_a_full_device(tmp_path):
