@@ -33,7 +33,7 @@ part() {
     # shellcheck disable=SC2086
     {
         sed "s/^\(sizes:[[:space:]]*[0-9]*[[:space:]]*[0-9]*[[:space:]]*\)[0-9]*/\1$slices/" header
-        dd if="$VOLUME" bs=1M iflag=skip_bytes,count_bytes skip=$((BEGIN + SLICE * from)) count=$((SLICE * slices)) status=none
+        dd if="$VOLUME" bs=64K iflag=skip_bytes,count_bytes skip=$((BEGIN + SLICE * from)) count=$((SLICE * slices)) status=none
     } | "$ISOSLAB" "$command" --level="$LEVEL" $PAD --from="$from" $last $numbers $name > "$number.$command" || {
         printf 'slabs.sh: slab %s, slices %s to %s: %s failed\n' "$number" "$from" $((from + slices - 1)) "$command" >&2
         exit 1
@@ -125,7 +125,9 @@ while [ "$number" -lt "$slabs" ]; do
 done > "$ROOM/plan"
 
 SLABS=$slabs
-export LEVEL PAD FORMAT VOLUME ROOM BEGIN SLICE SLABS ISOSLAB
+# The samples of a slab are one large block of memory, which glibc then asks for in large pages.
+GLIBC_TUNABLES=${GLIBC_TUNABLES:-glibc.malloc.hugetlb=1}
+export LEVEL PAD FORMAT VOLUME ROOM BEGIN SLICE SLABS ISOSLAB GLIBC_TUNABLES
 run() {
     xargs -P "$jobs" -L 1 sh "$0" --part "$1" < "$2" || exit 1
 }
