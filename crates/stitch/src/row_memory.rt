@@ -91,13 +91,21 @@ fn list_marked(
     list_edges(&flags[..nx], edges)
 }
 
+/// Room for what is known of rows, of which nothing is known.
+#[derive(Drop)]
+pub struct KnownRoom<'a> {
+    pub lists: ListRoom<'a>,
+    pub even: &'a mut ActiveRow,
+    pub odd: &'a mut ActiveRow,
+}
+
 /// What is known of the rows of a volume: the lists of those that were asked for last, buffers for the flags and the crossing edges of
 /// one, and the bricks that hold those rows, in slices of bricks of even and of odd number: a traversal goes to and fro between two slices
 /// of points.
 #[derive(Drop)]
 pub struct KnownRows<'a> {
-    pub even: ActiveRow,
-    pub odd: ActiveRow,
+    pub even: &'a mut ActiveRow,
+    pub odd: &'a mut ActiveRow,
     pub recent: RecentLists<'a>,
     flags: [u8; LONGEST_ROW],
     list: [u16; ROW_EDGES],
@@ -105,15 +113,18 @@ pub struct KnownRows<'a> {
 
 impl<'a> KnownRows<'a> {
     /// Nothing is known.
-    pub fn new(field: &BricksAtLevel, room: ListRoom<'a>) -> KnownRows<'a>
+    pub fn new(field: &BricksAtLevel, room: KnownRoom<'a>) -> KnownRows<'a>
         ensures { AreKnown field.now result }
     {
         // Reading the sizes brings in what is true of every volume at a level.
         let _ = field.sizes();
+        let KnownRoom { lists, even, odd } = room;
+        even.forget();
+        odd.forget();
         KnownRows {
-            even: ActiveRow::new(),
-            odd: ActiveRow::new(),
-            recent: RecentLists::new(room),
+            even,
+            odd,
+            recent: RecentLists::new(lists),
             flags: [0; LONGEST_ROW],
             list: [0; ROW_EDGES],
         }
@@ -130,10 +141,10 @@ impl<'a> KnownRows<'a> {
     {
         if is_even(z) {
             self.even.mark(field, y, z);
-            list_marked(field, &self.even, &mut self.flags, &mut self.list)
+            list_marked(field, self.even, &mut self.flags, &mut self.list)
         } else {
             self.odd.mark(field, y, z);
-            list_marked(field, &self.odd, &mut self.flags, &mut self.list)
+            list_marked(field, self.odd, &mut self.flags, &mut self.list)
         }
     }
 

@@ -14,8 +14,7 @@ ghost use Rattle.stitch.specs.Kept.{StoreKept};
 ghost use Rattle.stitch.specs.Recent.{AreKnown};
 
 use crate::counts::count_all;
-use crate::recent::ListRoom;
-use crate::row_memory::{KnownRows, is_even};
+use crate::row_memory::{KnownRoom, KnownRows, is_even};
 use brick_rows::{ActiveRow, BricksAtLevel, CellRows, case_row};
 use flat_mesh::{Cell, Heights};
 use iso_base::{LONGEST_ROW, ROW_EDGES, Sizes, Steps};
@@ -63,7 +62,7 @@ impl<'a, R: CellRows, L: Ledger> StoreRows<'a, R, L> {
     pub fn new(
         field: &'a BricksAtLevel<'a>,
         rows: &'a mut R,
-        room: ListRoom<'a>,
+        room: KnownRoom<'a>,
         steps: &'a mut Steps<L>,
     ) -> StoreRows<'a, R, L>
         requires { NamesCases (R.named rows.old) field.now.grid (heights field.now) }
@@ -101,7 +100,7 @@ impl<'a, R: CellRows, L: Ledger> StoreRows<'a, R, L> {
             self.known.even.mark(self.field, y, z);
             case_marked(
                 self.field,
-                &self.known.even,
+                self.known.even,
                 self.rows,
                 &mut self.cases,
                 self.steps,
@@ -110,7 +109,7 @@ impl<'a, R: CellRows, L: Ledger> StoreRows<'a, R, L> {
             self.known.odd.mark(self.field, y, z);
             case_marked(
                 self.field,
-                &self.known.odd,
+                self.known.odd,
                 self.rows,
                 &mut self.cases,
                 self.steps,
