@@ -36,6 +36,9 @@ import tempfile
 
 TOP = pathlib.Path(__file__).resolve().parent.parent
 PROGRAM = TOP / "crates" / "isobench" / "out" / "isobench"
+SLAB_PROGRAM = TOP / "crates" / "isoslab" / "out" / "isoslab"
+# The commands of python/, each by its module.
+COMMANDS = {"isomesh": "isobench", "isoslabs": "isobench.isoslabs"}
 FENCE = re.compile(r"^```(\w*)$")
 MARK = re.compile(r"^<!-- (needs|status|not run:) (.*) -->$")
 PACKAGES = dict(line.split() for line in (TOP / "tools" / "packages.txt").read_text(encoding="utf-8").splitlines() if line[0] != "#")
@@ -97,8 +100,10 @@ def why_not(above):
 
 
 def is_there(tool):
-    """Whether a command is on the path; the command of python/ is where a Python with numpy is."""
-    return bool(shutil.which(tool) or tool == "isomesh" and numpy_python())
+    """Whether a command is on the path, or built; those of python/ are where a Python with numpy is."""
+    if tool in COMMANDS:
+        return bool(numpy_python()) and (tool == "isomesh" or SLAB_PROGRAM.exists())
+    return SLAB_PROGRAM.exists() if tool == "isoslab" else bool(shutil.which(tool))
 
 
 @functools.cache
@@ -108,13 +113,15 @@ def numpy_python():
 
 
 def environment(room):
-    """The variables for a command: the program on the path, and the command of python/ as it stands in the checkout."""
+    """The variables for a command: the programs on the path, and the commands of python/ as they stand in the checkout."""
     folder = pathlib.Path(room, ".bin")
     folder.mkdir(exist_ok=True)
-    command = folder / "isomesh"
-    command.write_text(f'#!/bin/sh\nPYTHONPATH="{TOP / "python"}" exec {numpy_python()} -m isobench "$@"\n', encoding="utf-8")
-    command.chmod(0o755)
-    return {**os.environ, "PATH": os.pathsep.join([str(folder), str(PROGRAM.parent), *os.environ["PATH"].split(os.pathsep)])}
+    for name, module in COMMANDS.items():
+        command = folder / name
+        command.write_text(f'#!/bin/sh\nPYTHONPATH="{TOP / "python"}" exec {numpy_python()} -m {module} "$@"\n', encoding="utf-8")
+        command.chmod(0o755)
+    programs = [str(PROGRAM.parent), str(SLAB_PROGRAM.parent)]
+    return {**os.environ, "PATH": os.pathsep.join([str(folder), *programs, *os.environ["PATH"].split(os.pathsep)])}
 
 
 def run_page(page, folder):
@@ -311,6 +318,7 @@ def main():
             continue
         with tempfile.TemporaryDirectory() as room:
             shutil.copytree(TOP / "examples", f"{room}/examples")
+            os.symlink(TOP / "tools", f"{room}/tools")
             wrong += run_page(page, room if page.parent == TOP else f"{room}/examples")
     for lost in lost_names(TOP / "docs" / "guarantees.md"):
         wrong += 1
@@ -318,8 +326,9 @@ def main():
     if words == ["--list"]:
         sys.exit(1 if wrong else 0)
     wrong += run_rows(TOP / "docs" / "using.md") + run_typed(TOP / "docs" / "cli.md")
-    if not PROGRAM.exists():
-        print("crates/isobench/out/isobench is not built")
+    for program in (PROGRAM, SLAB_PROGRAM):
+        if not program.exists():
+            print(f"{program.relative_to(TOP)} is not built")
     if missing:
         print(f"missing, so not all was run: {', '.join(sorted(missing))}; apt install {' '.join(PACKAGES[it] for it in sorted(missing) if it in PACKAGES)}")
     sys.exit(1 if wrong or words == ["--strict"] and missing else 0)

@@ -1,24 +1,24 @@
 #!/usr/bin/env python3
-"""Makes the manual page and the completion for bash out of the help's own text, crates/arguments/src/help.rt.
+"""Makes the manual pages and the completions for bash of isobench and isoslab out of the text of their help.
 
     python3 tools/make_manual.py            ends with 1 if share/ is not what would be made
-    python3 tools/make_manual.py --write    makes share/man/man1/isobench.1 and share/bash-completion/completions/isobench
+    python3 tools/make_manual.py --write    makes share/man/man1/NAME.1 and share/bash-completion/completions/NAME
 
-`man share/man/man1/isobench.1` shows the page; `. share/bash-completion/completions/isobench` completes in this shell.
+`man share/man/man1/isobench.1` shows a page; `. share/bash-completion/completions/isobench` completes in this shell.
 """
 import pathlib
 import re
 import sys
 
 TOP = pathlib.Path(__file__).resolve().parent.parent
-HELP = TOP / "crates" / "arguments" / "src" / "help.rt"
+# The crate of each program's help, and the command that is given the name of a file.
+PROGRAMS = {"isobench": ("arguments", "session"), "isoslab": ("slab_command", "write")}
 WORDS = TOP / "crates" / "program" / "src"
-PAGE = TOP / "share" / "man" / "man1" / "isobench.1"
-COMPLETION = TOP / "share" / "bash-completion" / "completions" / "isobench"
+SHARE = TOP / "share"
 
 
-def help_lines():
-    text = HELP.read_text(encoding="utf-8")
+def help_lines(crate):
+    text = (TOP / "crates" / crate / "src" / "help.rt").read_text(encoding="utf-8")
     return re.search(r'^const HELP: &str = "\\\n(.*?)^";', text, re.MULTILINE | re.DOTALL)[1].splitlines()
 
 
@@ -28,7 +28,7 @@ def version():
 
 
 def sections(lines):
-    """The help in parts: the first line, the usage, the commands, the arguments, the statuses and where the manual is."""
+    """The help in parts: the first line, the usage, the commands, what more is told, the arguments, the statuses and where the manual is."""
     parts, inside = [], []
     for line in [*lines, ""]:
         if line:
@@ -36,9 +36,20 @@ def sections(lines):
         elif inside:
             parts.append(inside)
             inside = []
-    if len(parts) != 6 or parts[1][0] != "Usage:" or not parts[4][0].startswith("Exit status"):
+    if len(parts) < 6 or parts[1][0] != "Usage:" or not parts[-2][0].startswith("Exit status"):
         sys.exit("the help has other parts than this script knows")
-    return parts
+    return *parts[:3], sum(parts[3:-3], []), *parts[-3:]
+
+
+def usages(lines):
+    """The commands of the usage, each as one line."""
+    joined = []
+    for line in lines:
+        if line.startswith("   "):
+            joined[-1] += " " + line.strip()
+        else:
+            joined.append(line)
+    return joined
 
 
 def roff(text):
@@ -53,7 +64,7 @@ def command_page(lines):
     for line in lines:
         if command := re.match(r"([a-z]+) +(.*)", line):
             page += [".TP", f".B {command[1]}", roff(command[2])]
-        elif option := re.match(r" {11}(--[a-z]+=\w+) +(.*)", line):
+        elif option := re.match(r" {11}(--[a-z]+(?:=\w+)?) +(.*)", line):
             page += [".RS", ".TP", f".B {roff(option[1])}", roff(option[2]), ".RE"]
         elif line.startswith(" " * 13) and not line.startswith(" " * 24):
             page += [".IP", ".nf", roff(line.strip()), ".fi"]
@@ -68,10 +79,11 @@ def command_page(lines):
 
 
 def manual(lines):
-    first, usage, commands, arguments, statuses, manual_of = sections(lines)
+    first, usage, commands, more, arguments, statuses, manual_of = sections(lines)
     name, purpose = first[0].split(": ", 1)
-    page = [f'.TH ISOBENCH 1 "" "isobench {version()}" "User Commands"', ".SH NAME", f"{name} \\- {roff(purpose)}", ".SH SYNOPSIS", ".nf"]
-    page += [roff(line.strip()) for line in usage[1:]] + [".fi", ".SH COMMANDS", *command_page(commands)]
+    page = [f'.TH {name.upper()} 1 "" "{name} {version()}" "User Commands"', ".SH NAME", f"{name} \\- {roff(purpose)}", ".SH SYNOPSIS", ".nf"]
+    page += [roff(line[2:]) for line in usage[1:]] + [".fi", ".SH COMMANDS", *command_page(commands)]
+    page += [".SH DESCRIPTION", *map(roff, more)] if more else []
     page += [".SH ARGUMENTS", *map(roff, arguments), ".SH EXIT STATUS", roff(statuses[0])]
     for line in statuses[1:]:
         number, meaning = line.split(maxsplit=1)
@@ -79,19 +91,19 @@ def manual(lines):
     return "\n".join([*page, ".SH SEE ALSO", *map(roff, manual_of)]) + "\n"
 
 
-def completion(lines):
-    """The completion: commands, and the options and words that the usage shows for each."""
+def completion(program, naming, lines):
+    """The completion: commands, and the options and words that the usage shows for each; `naming` takes the name of a file."""
     words = {}
-    for line in sections(lines)[1][1:]:
-        if command := re.match(r"  isobench ([a-z]+) ?(.*)", line):
+    for line in usages(sections(lines)[1][1:]):
+        if command := re.match(rf"  {program} ([a-z]+) ?(.*)", line):
             shown = [it.strip("[]") for it in command[2].split()]
             options = [re.sub(r"=[A-Z]$", "=", it) for it in shown if it.startswith("--")]
             choices = [f"{it.split('=')[0]}={value}" for it in options if "|" in it for value in it.split("=")[1].split("|")]
             plain = [value for it in shown if "|" in it and not it.startswith("--") for value in it.split("|")]
             words[command[1]] = [it for it in options if "|" not in it] + choices + plain + ["--help"]
     cases = "\n".join(f"        {name}) words='{' '.join(given)}' ;;" for name, given in words.items())
-    return f"""# Completion of isobench for bash, made by tools/make_manual.py.
-_isobench() {{
+    return f"""# Completion of {program} for bash, made by tools/make_manual.py.
+_{program}() {{
     local words word=${{COMP_LINE:0:COMP_POINT}}
     word=${{word##* }}
     case ${{COMP_WORDS[1]}} in
@@ -103,9 +115,9 @@ _isobench() {{
     # bash takes = for the end of a word
     [[ $word == *=* ]] && COMPREPLY=("${{COMPREPLY[@]#"${{word%"${{word##*=}}"}}"}}")
     [[ ${{COMPREPLY[0]}} == *= ]] && compopt -o nospace
-    [ "${{COMP_WORDS[1]}}" = session ] && [[ $word != -* ]] && compopt -o default
+    [ "${{COMP_WORDS[1]}}" = {naming} ] && [[ $word != -* ]] && compopt -o default
 }}
-complete -F _isobench isobench
+complete -F _{program} {program}
 """
 
 
@@ -114,7 +126,10 @@ def main():
     if words not in ([], ["--write"]):
         print(__doc__, end="")
         sys.exit(0 if words == ["--help"] else 2)
-    made = {PAGE: manual(help_lines()), COMPLETION: completion(help_lines())}
+    made = {}
+    for program, (crate, naming) in PROGRAMS.items():
+        made[SHARE / "man" / "man1" / f"{program}.1"] = manual(help_lines(crate))
+        made[SHARE / "bash-completion" / "completions" / program] = completion(program, naming, help_lines(crate))
     other = [file for file, text in made.items() if not file.exists() or file.read_text(encoding="utf-8") != text]
     if words:
         for file in other:

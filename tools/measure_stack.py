@@ -1,12 +1,13 @@
 #!/usr/bin/env python3
 """Measures how much stack each command takes, and what becomes of a file where there is less.
 
-    python3 tools/measure_stack.py [--program PATH] [--check] [--write]
+    python3 tools/measure_stack.py [--program PATH] [--slabs PATH] [--check] [--write]
 
 prints the smallest `ulimit -s`, in KB, with which each command and each line of a session works, with an empty environment
 and, where setarch can do that, at fixed addresses; with --write the table of docs/limits.md, rounded up, is put there. With
 --check it ends with 1 where a command takes more than that table says, or where a line that writes a file ends for want of
-stack and the file is not as it was. PATH is a built isobench, without the option the one of this checkout.
+stack and the file is not as it was. PATH is a built isobench, and with --slabs a built isoslab; without the options those of this
+checkout.
 """
 import argparse
 import pathlib
@@ -33,6 +34,12 @@ COMMANDS = {
     "`gen`": (["gen", "3", "9", "9", "9"], None),
     "`soak`": (["soak", "7"], None),
 }
+SLAB = [LEVEL, "--from=0", "--last"]
+SLAB_COMMANDS = {
+    "`isoslab count`": ["count", *SLAB],
+    "`isoslab write`": ["write", *SLAB, "--edges=0", "--centres=0", "file"],
+}
+SLAB_FILES = ["file.edges", "file.centres", "file.triangles"]
 ASKING = ["set 0 0 0 9", "report", "measure", "contour 3"]
 WRITING = ["ply file", "obj file", "window 0 0 0 9 9 9 ply file", "save file", "savetext file", "savehex file"]
 OLD = b"what the file held before\n"
@@ -41,8 +48,8 @@ OLD = b"what the file held before\n"
 class Bench:
     """The program in a folder of its own, with a volume and its mesh."""
 
-    def __init__(self, program, folder):
-        self.program, self.folder = program, folder
+    def __init__(self, program, slabs, folder):
+        self.program, self.slabs, self.folder = program, slabs, folder
         volume = subprocess.run([program, "gen", "3", "40", "40", "40"], stdout=subprocess.PIPE, check=True).stdout
         (folder / "volume").write_bytes(volume)
         (folder / "mesh").write_bytes(subprocess.run([program, "extract", LEVEL], input=volume, stdout=subprocess.PIPE, check=True).stdout)
@@ -51,9 +58,10 @@ class Bench:
     def can_fix(self):
         return shutil.which("setarch") is not None and subprocess.run(["setarch", "-R", "true"], stderr=subprocess.DEVNULL).returncode == 0
 
-    def run(self, words, given, size):
+    def run(self, words, given, size, program=None):
         """The status and the output with so many KB of stack."""
-        words = [shutil.which(self.fixed[0]), *self.fixed[1:], self.program, *words] if self.fixed else [self.program, *words]
+        words = [program or self.program, *words]
+        words = [shutil.which(self.fixed[0]), *self.fixed[1:], *words] if self.fixed else words
 
         def limit():
             resource.setrlimit(resource.RLIMIT_STACK, (size * 1024, size * 1024))
@@ -67,6 +75,10 @@ class Bench:
         status, _ = self.run(words, (self.folder / given).read_bytes() if given else b"", size)
         return status in (0, 1)
 
+    def does_slab(self, name, size):
+        status, _ = self.run(SLAB_COMMANDS[name], (self.folder / "volume").read_bytes(), size, self.slabs)
+        return status == 0
+
     def does_line(self, line, size):
         status, output = self.run(["session", LEVEL, "volume"], line.encode() + b"\n", size)
         return status == 0 and output.splitlines()[-1].startswith(b"ok")
@@ -76,6 +88,12 @@ class Bench:
         file = self.folder / "file"
         file.write_bytes(OLD)
         return not self.does_line(line, size) and file.read_bytes() != OLD
+
+    def changes_slab(self, size):
+        """Whether `isoslab write` ends with so little stack, and one of its files is not as it was."""
+        for name in SLAB_FILES:
+            (self.folder / name).write_bytes(OLD)
+        return not self.does_slab("`isoslab write`", size) and any((self.folder / name).read_bytes() != OLD for name in SLAB_FILES)
 
 
 def least(works):
@@ -92,6 +110,8 @@ def measured(bench):
     sizes = {name: least(lambda size: bench.does_command(name, size)) for name in COMMANDS}
     for line in ASKING + WRITING:
         sizes[f"session, `{line.split()[0]}`"] = least(lambda size: bench.does_line(line, size))
+    for name in SLAB_COMMANDS:
+        sizes[name] = least(lambda size: bench.does_slab(name, size))
     return sizes
 
 
@@ -119,16 +139,20 @@ def faults(bench, sizes):
         changed = [size for size in range(16, sizes[f"session, `{line.split()[0]}`"], 4) if bench.changes_file(line, size)]
         if changed:
             yield f"{line}: with {changed[0]} to {changed[-1]} KB of stack it ends, and the file is not as it was"
+    changed = [size for size in range(16, sizes["`isoslab write`"], 4) if bench.changes_slab(size)]
+    if changed:
+        yield f"isoslab write: with {changed[0]} to {changed[-1]} KB of stack it ends, and its files are not as they were"
 
 
 def main():
     options = argparse.ArgumentParser()
     options.add_argument("--program", default=str(TOP / "crates" / "isobench" / "out" / "isobench"))
+    options.add_argument("--slabs", default=str(TOP / "crates" / "isoslab" / "out" / "isoslab"))
     options.add_argument("--check", action="store_true")
     options.add_argument("--write", action="store_true")
     given = options.parse_args()
     with tempfile.TemporaryDirectory() as folder:
-        bench = Bench(str(pathlib.Path(given.program).resolve()), pathlib.Path(folder))
+        bench = Bench(str(pathlib.Path(given.program).resolve()), str(pathlib.Path(given.slabs).resolve()), pathlib.Path(folder))
         sizes = measured(bench)
         print(table(sizes), end="")
         if given.write:

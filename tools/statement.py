@@ -28,26 +28,19 @@ MARK = re.compile(r"<!-- drawn by tools/statement.py: (\w+) -->\n.*?<!-- end of 
 CHAPTERS = {
     "mesh": ["iso_defs/Lists", "iso_defs/Grid", "iso_defs/Face", "iso_defs/Cell", "iso_defs/Place", "iso_defs/Scratch"],
     "watertight": ["iso_defs/Manifold", "iso_defs/Verdict", "iso_base/Triangles", "bench_core/Surface"],
-    "text": ["iso_defs/Bytes", "iso_defs/Texts", "mesh_lines/Padded", "bench_core/Texts"],
+    "text": ["iso_defs/Bytes", "iso_defs/Texts"],
     "volume": ["iso_base/Volume", "command_terms/Volumes"],
     "streams": ["byte_streams/Seen", "byte_streams/Causes", "command_terms/Outcome", "commands/Headline"],
     "session": [
-        "voxel_list/Areas", "edit_log/Log", "bench_core/Machine", "script/Names", "script/Commands", "session/Lines",
-        "session/Table", "session/Following", "session/Worlds", "session/Sessions", "iso_io/Shelves", "program/Status",
-        "commands/Outcome", "commands/Volumes", "commands/Sessions", "commands/Serving", "commands/SessionMeshes",
+        "voxel_list/Areas", "edit_log/Log", "iso_base/Points", "unpadded_volume/Unpadded", "bench_core/Machine",
+        "mesh_cache/Cache", "bench_core/Keeping", "script/Names", "script/Commands", "script/Replies", "session/Lines",
+        "session/Worlds", "session/Sessions", "iso_io/Shelves", "commands/Outcome", "commands/Volumes",
+        "commands/Sessions", "commands/Serving", "commands/SessionMeshes",
     ],
-    "words": ["program/Questions", "arguments/Words", "text_lines/Numbers"],
+    "words": ["arguments/Words", "text_lines/Numbers"],
     "file": [
         "text_lines/Lines", "text_lines/Words", "text_samples/Text", "text_samples/Hex", "iso_base/SampleBytes",
         "nrrd_read/Fields", "nrrd_read/Checks", "nrrd_read/Nrrd",
-    ],
-    "cache": ["iso_defs/Bricks", "mesh_cache/Cache", "bench_core/Keeping", "session/Kept"],
-    "replies": [
-        "iso_base/Points", "script/Replies", "iso_defs/Contours", "plane_contour/Texts", "plane_contour/Drawn",
-        "mesh_report/Report",
-        "measure_laws/Vectors", "measure/Measures", "part_laws/Printed", "iso_defs/MeshLists", "flat_mesh/Mesh",
-        "window_laws/Windows", "window_mesh/Crops", "mesh_more/Texts", "bench_core/Windows", "unpadded_volume/Unpadded",
-        "nrrd/Writing", "nrrd_text/Writing",
     ],
 }
 BEGINS = re.compile(r"(?:(?:abbrev|unfoldable)\s+)?(?:pub\s+)?(?:(record|data)\s+)?([^\s:(]+)")

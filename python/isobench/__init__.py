@@ -7,6 +7,7 @@ from ._writers import coinciding_in_stl, write_mesh
 from .errors import MeshTextError, ProgramFailed, ProgramNotFound, Refused, VolumeRefused
 from .meshes import Mesh, extract, marching_cubes
 from .sessions import Session
+from .slabs import extract_slabs, write_slabs
 from .volumes import Volume, read_volume
 
 __all__ = [
@@ -20,8 +21,10 @@ __all__ = [
     "VolumeRefused",
     "coinciding_in_stl",
     "extract",
+    "extract_slabs",
     "marching_cubes",
     "read_volume",
     "write_mesh",
+    "write_slabs",
 ]
 __version__ = VERSION

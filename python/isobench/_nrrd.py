@@ -12,7 +12,7 @@ import shutil
 import subprocess
 import tempfile
 import zlib
-from typing import BinaryIO
+from typing import BinaryIO, NamedTuple
 
 import numpy as np
 
@@ -35,6 +35,19 @@ VECTOR = re.compile(r"none|\([^)]*\)")
 
 class OtherForm(Exception):
     """The file is NRRD of a form that is not read here."""
+
+
+class Layout(NamedTuple):
+    """How the samples lie: their type, the sizes of the fastest axis first, the encoding, and the data file of a detached header."""
+
+    dtype: np.dtype
+    sizes: list[int]
+    encoding: str
+    data_file: str | None
+
+    def length(self) -> int:
+        """How many bytes the samples have, decoded."""
+        return math.prod(self.sizes) * self.dtype.itemsize
 
 
 def read_nrrd(path: str) -> tuple[np.ndarray, dict[str, str]]:
@@ -115,8 +128,33 @@ def _fields_of(file: BinaryIO, path: str) -> dict[str, str]:
     return fields
 
 
-def _samples_of(file: BinaryIO, path: str, fields: dict[str, str]) -> np.ndarray:
-    """The samples of a file whose header was read."""
+def mapped_nrrd(path: str) -> np.memmap:
+    """The samples of a raw NRRD file of any size, where they lie on disk.
+
+    Raises
+    ------
+    ValueError
+        If the file is not NRRD, its samples do not lie raw in one data file, or it is cut short.
+    """
+    with open(path, "rb") as file:
+        fields = _fields_of(file, path)
+        offset = file.tell()
+    try:
+        layout = _layout_of(path, fields)
+        if layout.encoding != "raw":
+            raise OtherForm(f"encoding {layout.encoding}")
+    except OtherForm as fault:
+        raise ValueError(f"{path} has {fault}: save it raw (`unu save -f nrrd -e raw -i {path} -o raw.nrrd`), so that slices can be read alone") from fault
+    data = path if layout.data_file is None else _data_path(path, layout.data_file)
+    offset = offset if layout.data_file is None else 0
+    found = os.path.getsize(data) - offset
+    if found < layout.length():
+        raise ValueError(_cut_short(path, layout.length(), found))
+    return np.memmap(data, layout.dtype, "r", offset, tuple(layout.sizes[::-1]))
+
+
+def _layout_of(path: str, fields: dict[str, str]) -> Layout:
+    """How the samples lie by a header."""
     try:
         kind = TYPE_OF[fields["type"].lower()]
         sizes = [int(word) for word in fields["sizes"].split()]
@@ -134,16 +172,29 @@ def _samples_of(file: BinaryIO, path: str, fields: dict[str, str]) -> np.ndarray
     if any(skip != "0" for skip in skips) or data_file and (data_file.startswith("LIST") or "%" in data_file):
         raise OtherForm("skips or several data files")
     order = ">" if fields.get("endian", "little").lower() == "big" else "<"
-    dtype = np.dtype(order + kind)
-    length = math.prod(sizes) * dtype.itemsize
-    if data_file:
-        with open(os.path.join(os.path.dirname(path), data_file), "rb") as data:
-            text = _bytes_of(data, encoding, length)
+    return Layout(np.dtype(order + kind), sizes, encoding, data_file or None)
+
+
+def _data_path(path: str, data_file: str) -> str:
+    """Where the data file of a detached header is."""
+    return os.path.join(os.path.dirname(path), data_file)
+
+
+def _cut_short(path: str, declared: int, found: int) -> str:
+    return f"{path} is cut short: its header declares {declared} bytes of samples, and it has {found}: copy it again"
+
+
+def _samples_of(file: BinaryIO, path: str, fields: dict[str, str]) -> np.ndarray:
+    """The samples of a file whose header was read."""
+    layout = _layout_of(path, fields)
+    if layout.data_file:
+        with open(_data_path(path, layout.data_file), "rb") as data:
+            text = _bytes_of(data, layout.encoding, layout.length())
     else:
-        text = _bytes_of(file, encoding, length)
-    if len(text) < length:
-        raise ValueError(f"{path} is cut short: its header declares {length} bytes of samples, and it has {len(text)}: copy it again")
-    return np.frombuffer(text, dtype, math.prod(sizes)).reshape(sizes[::-1])
+        text = _bytes_of(file, layout.encoding, layout.length())
+    if len(text) < layout.length():
+        raise ValueError(_cut_short(path, layout.length(), len(text)))
+    return np.frombuffer(text, layout.dtype, math.prod(layout.sizes)).reshape(layout.sizes[::-1])
 
 
 def _bytes_of(file: BinaryIO, encoding: str, length: int) -> bytes:

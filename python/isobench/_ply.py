@@ -92,9 +92,41 @@ def read_mesh(text: bytes | mmap.mmap) -> tuple[np.ndarray, np.ndarray]:
         with concurrent.futures.ThreadPoolExecutor(threads) as pool:
             # Both readers release Python's lock. The list raises what a thread has raised.
             list(pool.map(lambda block: block[0](*block[1:]), blocks))
-    if len(faces) and faces.max() >= len(positions):
-        raise MeshTextError("a face names a vertex that is not there")
+    check_faces(faces, len(positions))
     return positions, faces
+
+
+def check_faces(faces: np.ndarray, vertices: int) -> None:
+    """Refuse faces that name other than so many vertices."""
+    if len(faces) and faces.max() >= vertices:
+        raise MeshTextError("a face names a vertex that is not there")
+
+
+def read_lines(path: str | os.PathLike, rows: np.ndarray, is_faces: bool) -> None:
+    """Fill rows from a file of as many lines, of vertices or of faces, without a header.
+
+    Raises
+    ------
+    MeshTextError
+        If the text is not in the form in which isobench writes meshes, or has more or fewer lines.
+    """
+    reader = _c_reader() or NUMPY_READER
+    fill = reader.fill_faces if is_faces else reader.fill_vertices
+    # A block of whole lines, behind 16 other bytes, and what was read of the next line.
+    block, done, kept = np.zeros(MARGIN + reader.block, np.uint8), 0, 0
+    with open(path, "rb", buffering=0) as file:
+        while got := file.readinto(block[MARGIN + kept:].data):
+            stop = MARGIN + kept + got
+            end = MARGIN + block[MARGIN:stop].tobytes().rfind(b"\n") + 1
+            count = reader.count_lines(block[MARGIN:end])
+            if count > len(rows) - done or stop - end > LONGEST_LINE:
+                raise MeshTextError("a line is in another form, or there are more lines than were counted")
+            if count:
+                fill(block[:end], rows[done:done + count])
+            done, kept = done + count, stop - end
+            block[MARGIN:MARGIN + kept] = block[end:stop].copy()
+    if kept or done < len(rows):
+        raise MeshTextError(CUT_SHORT)
 
 
 def _blocks_of(

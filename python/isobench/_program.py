@@ -1,4 +1,4 @@
-"""Where the program isobench is, and one run of it."""
+"""Where the programs isobench and isoslab are, and one run of isobench."""
 from __future__ import annotations
 
 import functools
@@ -15,42 +15,50 @@ import numpy as np
 from .errors import MeshTextError, ProgramFailed, ProgramNotFound, VolumeRefused
 
 CHECKOUT = pathlib.Path(__file__).resolve().parents[2]
-BUILD_IT = "build it (`./run-it extract --help` in the checkout) and put it on the path, or set the variable ISOBENCH to its path"
+BUILD_IT = {
+    "isobench": "build it (`./run-it extract --help` in the checkout) and put it on the path, or set the variable ISOBENCH to its path",
+    "isoslab": "build it (`./run-it count --help` in the checkout) and put it on the path, or set the variable ISOSLAB to its path",
+}
 
 
-def program() -> str:
-    """Find the program.
+def program(name: str = "isobench") -> str:
+    """Find a program.
+
+    Parameters
+    ----------
+    name : {"isobench", "isoslab"}
 
     Returns
     -------
     str
-        The path in the variable ``ISOBENCH``; else the program of the checkout that this package lies in, if it is
-        built; else the one on the path.
+        The path in the variable ``ISOBENCH``, or ``ISOSLAB``; else the program of the checkout that this package lies
+        in, if it is built; else the one on the path.
 
     Raises
     ------
     ProgramNotFound
         If there is none.
     """
-    named = os.environ.get("ISOBENCH")
-    built = CHECKOUT / "crates" / "isobench" / "out" / "isobench"
-    found = shutil.which(named) if named else str(built) if os.access(built, os.X_OK) else shutil.which("isobench")
+    variable = name.upper()
+    named = os.environ.get(variable)
+    built = CHECKOUT / "crates" / name / "out" / name
+    found = shutil.which(named) if named else str(built) if os.access(built, os.X_OK) else shutil.which(name)
     if not found:
-        what = f"the variable ISOBENCH says {named}, which is no program" if named else "no program isobench is found"
-        raise ProgramNotFound(f"{what}: {BUILD_IT}")
-    return _checked(os.path.abspath(found))
+        what = f"the variable {variable} says {named}, which is no program" if named else f"no program {name} is found"
+        raise ProgramNotFound(f"{what}: {BUILD_IT[name]}")
+    return _checked(os.path.abspath(found), name)
 
 
 @functools.lru_cache(maxsize=None)
-def _checked(path: str) -> str:
-    """The path, once that program has said that it is isobench 1."""
+def _checked(path: str, name: str) -> str:
+    """The path, once that program has said that it is isobench 1, or isoslab 1."""
     try:
         ran = subprocess.run([path, "--version"], stdin=subprocess.DEVNULL, capture_output=True, timeout=60)
     except (OSError, subprocess.TimeoutExpired) as fault:
-        raise ProgramNotFound(f"{path} does not run ({fault}): {BUILD_IT}") from fault
+        raise ProgramNotFound(f"{path} does not run ({fault}): {BUILD_IT[name]}") from fault
     version = ran.stdout.decode("utf-8", "replace").strip()
-    if not re.fullmatch(r"isobench 1\.[0-9.]+", version):
-        raise ProgramNotFound(f"{path} is not isobench 1: its `--version` prints {version[:80]!r}: {BUILD_IT}")
+    if not re.fullmatch(rf"{name} 1\.[0-9.]+", version):
+        raise ProgramNotFound(f"{path} is not {name} 1: its `--version` prints {version[:80]!r}: {BUILD_IT[name]}")
     return path
 
 

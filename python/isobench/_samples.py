@@ -99,14 +99,18 @@ class Samples:
 
     def pieces(self) -> tuple[bytes, np.ndarray]:
         """The volume file: its header, and the samples as they lie."""
-        depth, height, width = self.array.shape
         array = np.ascontiguousarray(self.array)
-        order = ""
-        if array.itemsize > 1:
-            is_big = array.dtype.byteorder == ">" or array.dtype.byteorder == "=" and sys.byteorder == "big"
-            order = f"endian: {'big' if is_big else 'little'}\n"
-        head = f"NRRD0004\ntype: {array.dtype.name}\ndimension: 3\nsizes: {width} {height} {depth}\n{order}encoding: raw\n\n"
-        return head.encode("ascii"), array
+        return header_of(array.dtype, array.shape), array
+
+
+def header_of(dtype: np.dtype, shape: Sequence[int]) -> bytes:
+    """The header of a volume file, behind which samples [z, y, x] stand as they lie in memory."""
+    depth, height, width = shape
+    order = ""
+    if dtype.itemsize > 1:
+        is_big = dtype.byteorder == ">" or dtype.byteorder == "=" and sys.byteorder == "big"
+        order = f"endian: {'big' if is_big else 'little'}\n"
+    return f"NRRD0004\ntype: {dtype.name}\ndimension: 3\nsizes: {width} {height} {depth}\n{order}encoding: raw\n\n".encode("ascii")
 
 
 def thousandths_of(level: float) -> tuple[int, bool]:
@@ -190,12 +194,13 @@ def _check_shape(array: np.ndarray, is_padded: bool) -> None:
         if size < 2:
             raise ValueError(f"axis {axis} of the array has {size} points, and a surface needs two or more")
         if size > most:
+            by_slabs = "" if axis else "go by slabs (extract_slabs), "
             raise ValueError(f"axis {axis} of the array has {size} points, and {most} are the most{' with padding' if is_padded else ''}: "
-                             "take a part, or every second sample, as in array[::2, ::2, ::2]")
+                             f"{by_slabs}take a part, or every second sample, as in array[::2, ::2, ::2]")
     samples = math.prod(size + 2 * is_padded for size in array.shape)
     if samples > MOST_SAMPLES:
         raise ValueError(f"the array has {samples:,} samples{' with its padding' if is_padded else ''}, and {MOST_SAMPLES:,} are the most: "
-                         "take a part, or every second sample, as in array[::2, ::2, ::2]")
+                         "go by slabs (extract_slabs), take a part, or every second sample, as in array[::2, ::2, ::2]")
 
 
 def _type_for(least: int, greatest: int, types: Sequence[str]) -> str | None:

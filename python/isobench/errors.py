@@ -20,10 +20,16 @@ MEANINGS = {
     -signal.SIGXFSZ: "its mesh is larger than a file may be (`ulimit -f`)",
     -signal.SIGKILL: "another process or the system ended it, as the system does when memory runs out",
 }
+# What other statuses of isoslab mean, or the same ones.
+SLAB_MEANINGS = {
+    5: "its input is too long: take more slabs",
+    7: "out of memory: take more slabs, or fewer processes at a time",
+    8: "a file could not be written: make room, or write to another folder",
+}
 
 
 class ProgramNotFound(FileNotFoundError):
-    """There is no program `isobench` to run."""
+    """There is no program `isobench`, or `isoslab`, to run."""
 
 
 class ProgramFailed(OSError):
@@ -35,16 +41,19 @@ class ProgramFailed(OSError):
         Its exit status, or minus the number of the signal that ended it.
     message : str
         What it wrote to standard error, without its name.
+    name : str
+        The program's name.
     """
 
-    def __init__(self, status: int, message: str = "") -> None:
-        self.status, self.message = status, message.strip().removeprefix("isobench: ")
+    def __init__(self, status: int, message: str = "", name: str = "isobench") -> None:
+        self.status, self.message, self.name = status, message.strip().removeprefix(f"{name}: "), name
         ending = f"was ended by signal {-status}" if status < 0 else f"ended with status {status}"
         said = f" ({self.message})" if self.message else ""
-        super().__init__(f"the program isobench {ending}{said}: {MEANINGS.get(status, 'this is not expected')}")
+        meanings = {**MEANINGS, **SLAB_MEANINGS} if name == "isoslab" else MEANINGS
+        super().__init__(f"the program {name} {ending}{said}: {meanings.get(status, 'this is not expected')}")
 
     def __reduce__(self) -> tuple:
-        return type(self), (self.status, self.message)
+        return type(self), (self.status, self.message, self.name)
 
 
 class VolumeRefused(ValueError):

@@ -13,8 +13,8 @@ from ._samples import checked_level, checked_pad, samples_of
 
 __all__ = ["Mesh", "extract", "marching_cubes"]
 
-# Positions lie between -1,000 and 2**21 thousandths.
-KEY_SHIFT = np.array([1, 1 << 21, 1 << 42], np.int64)
+# Along x and y positions span less than 2**20 thousandths, along z, by slabs, less than 2**24.
+KEY_SHIFT = np.array([1, 1 << 20, 1 << 40], np.int64)
 
 
 @dataclass(frozen=True, eq=False)

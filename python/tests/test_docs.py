@@ -9,6 +9,7 @@ import sys
 import isobench
 import numpy as np
 import pytest
+from isobench import _program
 
 TOP = pathlib.Path(__file__).resolve().parents[2]
 PAGE = TOP / "docs" / "python.md"
@@ -29,12 +30,30 @@ def blocks_of(page):
 def test_the_python_of_the_page(examples):
     names = {}
     code = [text for mark, text in blocks_of(PAGE) if mark == "python"]
-    assert len(code) == 4
+    assert len(code) == 5
     for text in code:
-        exec(text, names)
+        if "_slabs" not in text or has_isoslab():
+            exec(text, names)
     assert names["verts"].shape[1] == 3 and (examples / "head.stl").stat().st_size == 84 + 50 * 44512
     verts, faces = isobench.marching_cubes(names["volume"], 100.5, pad="auto")
     assert len(faces) == len(names["faces"])
+
+
+def has_isoslab():
+    try:
+        return bool(_program.program("isoslab"))
+    except isobench.ProgramNotFound:
+        return False
+
+
+@pytest.mark.skipif(not has_isoslab(), reason="isoslab is not built")
+def test_the_python_of_the_page_on_large_volumes(examples):
+    code = [text for mark, text in blocks_of(TOP / "docs" / "large.md") if mark == "python"]
+    assert len(code) == 2 and "Client(" in code[1]
+    names = {}
+    exec(code[0], names)
+    whole = isobench.extract(isobench.read_volume("knot.nrrd"), 100.5, pad=0)
+    assert np.array_equal(names["mesh"].faces, whole.faces) and names["triangles"] == len(whole.faces)
 
 
 def test_the_python_of_the_readme(examples):

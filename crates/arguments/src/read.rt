@@ -92,7 +92,7 @@ fn sizes_in(words: &[String]) -> Option<Sizes>
 }
 
 /// The level, which must be there.
-fn level_in(words: &[String]) -> Option<Level>
+pub fn level_in(words: &[String]) -> Option<Level>
     ensures { result ≡ level_in (map string_bytes words.now) }
 {
     match value_of(words, LEVEL) {
@@ -102,7 +102,7 @@ fn level_in(words: &[String]) -> Option<Level>
 }
 
 /// The pad, which may be left out: then there is none.
-fn pad_in(words: &[String]) -> Option<Option<i64>>
+pub fn pad_in(words: &[String]) -> Option<Option<i64>>
     ensures value { result ≡ pad_in (map string_bytes words.now) }
     ensures range { IfSome result (λ pad. IfSome pad IsSample) }
 {
@@ -114,7 +114,7 @@ fn pad_in(words: &[String]) -> Option<Option<i64>>
 }
 
 /// The form of the mesh, which may be left out: then it is PLY.
-fn format_in(words: &[String]) -> Option<TwoWayFormat>
+pub fn format_in(words: &[String]) -> Option<TwoWayFormat>
     ensures { result ≡ format_in (map string_bytes words.now) }
 {
     match value_of(words, FORMAT) {

@@ -18,8 +18,8 @@ use voxel_list::FillBox;
 use window_mesh::BoxSamples;
 
 /// So many bytes of stack are taken to write a window, beyond the buffers of `write_window`, which are in its own frame: those
-/// that `LineBuffer::new` moves. `tools/measure_stack.py` finds whether they are enough.
-const STACK_BYTES: usize = 300_000;
+/// of the triangles. `tools/measure_stack.py` finds whether they are enough.
+const STACK_BYTES: usize = 464_000;
 
 /// A window to be written: a box of points of the stored grid, the format of the text, and the name of the file.
 #[derive(Clone, Copy)]

@@ -21,9 +21,9 @@ use span_tree::SpanTree;
 use std::sync::ledger::Ledger;
 use stitch::{write_obj, write_ply};
 
-/// So many bytes of stack are taken to write a mesh: by the tables and buffers of `stitch::write_in`, and above it by those that
-/// `LineBuffer::new` moves. `tools/measure_stack.py` finds whether they are enough.
-const STACK_BYTES: usize = 1_536_000;
+/// So many bytes of stack are taken to write a mesh: by the tables and buffers of `stitch::write_in`, and above it by those of
+/// the triangles. `tools/measure_stack.py` finds whether they are enough.
+const STACK_BYTES: usize = 1_080_000;
 
 /// A volume in bricks at a level, with the tree of its spans and what is kept of its mesh.
 #[derive(Clone, Copy)]

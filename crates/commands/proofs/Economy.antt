@@ -18,7 +18,7 @@ use Rattle.commands.specs.Economy.{LeavesBench, LedTo}
 use Rattle.commands.specs.Outcome.{Call, Rejects}
 use Rattle.commands.specs.Serving.{Serves, asked_for}
 use Rattle.commands.specs.SessionMeshes.{WritesReplies}
-use Rattle.commands.specs.Sessions.{Asked, RunsSession, session_between}
+use Rattle.commands.specs.Sessions.{Asked, RunsSession, answer_of, session_between}
 use Rattle.commands.specs.Soaking.{HoldsSoakMeshes, SoakLeaves}
 use Rattle.commands.proofs.Reasons.{same_request}
 use Rattle.commands.proofs.Soaks.{holds_meshes, soak_leaves}
@@ -27,7 +27,7 @@ use Rattle.commands.proofs.Soaks.{holds_meshes, soak_leaves}
 pub record Led (w v : World) (ending : Ending) (lines : List (List ℕ)) : Type 0 where
   pub replies : List (List ℕ)
   pub kept : Kept (scene_of w) lines replies (scene_of v)
-  pub written : WritesReplies ending w.tape v.tape replies
+  pub written : WritesReplies (status_of (answer_of ending)) w.tape v.tape replies
   pub counted : CountsBy w.store.faults v.store.faults replies
 
 cut_text : (replies : List (List ℕ)) (reply front back : List ℕ) → reply ≡ front ++ back → replies_text (replies ++ reply ∷ []) ≡ (replies_text replies ++ front) ++ back

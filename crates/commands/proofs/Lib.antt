@@ -1,3 +1,4 @@
+pub mod Asking
 pub mod Taken
 pub mod Texts
 pub mod Generated

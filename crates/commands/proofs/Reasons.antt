@@ -1,5 +1,5 @@
 -- The cause of each status, from the outcome.
-use Rattle.std.proofs.Common.{◌≡◌, ℕ, ◌<◌, ◌≤◌, List, length, true, Some, None, MatchOption, IfSome, refl, sym, ap, ◌∙◌, subst, inl, inr, ℤ}
+use Rattle.std.proofs.Common.{◌≡◌, ◌∷◌, codes, ℕ, ◌<◌, ◌≤◌, List, length, true, Some, None, MatchOption, IfSome, refl, sym, ap, ◌∙◌, subst, inl, inr, ℤ}
 use Rattle.std.specs.Prelude.{Option}
 use Rattle.byte_streams.specs.Seen.{Files}
 use Rattle.iso_io.specs.Shelves.{content}
@@ -23,7 +23,9 @@ use Rattle.commands.specs.Causes.{Asks, HasBadMesh, HasBadVolume, HasBrokenMesh,
 use Rattle.commands.specs.Checks.{HasVerdict, is_broken}
 use Rattle.commands.specs.Headline.{WritesWatertight}
 use Rattle.commands.specs.Outcome.{Call, Rejects}
-use Rattle.commands.specs.Serving.{Serves}
+use Rattle.commands.specs.Serving.{Ends, Serves}
+use Rattle.commands.proofs.Asking.{asks_extract}
+use Rattle.arguments.specs.Words.{extract_of, request_of}
 use Rattle.commands.specs.Sessions.{answer_of}
 use Rattle.command_terms.specs.Volumes.{volume_limit}
 use Rattle.commands.proofs.Soaks.{not_soaked}
@@ -148,7 +150,12 @@ shown r call a level pad format e d h = (subst (λ (q : Request). Serves q call 
 pub same_request : (a b : Request) → Some a ≡ Some b → a ≡ b
 same_request a b e = cc
 
-pub headline : (o : Option Request) (call : Call) (a : Answer) (level : ℤ) (pad : Option ℤ) (format : TwoWayFormat) → MatchOption o (Rejects call a) (λ r. Serves r call a)
+served_headline : (o : Option Request) (call : Call) (a : Answer) (level : ℤ) (pad : Option ℤ) (format : TwoWayFormat) → MatchOption o (Rejects call a) (λ r. Serves r call a)
     → o ≡ Some (requests.Extract level pad format) → status_of a ≡ statuses.Done → WritesWatertight level pad format call.streams
-headline None call a level pad format h asked done = absurd cc
-headline (Some r) call a level pad format h asked done = shown r call a level pad format (same_request r (requests.Extract level pad format) asked) (is_done a done) h
+served_headline None call a level pad format h asked done = absurd cc
+served_headline (Some r) call a level pad format h asked done = shown r call a level pad format (same_request r (requests.Extract level pad format) asked) (is_done a done) h
+
+pub headline : (words options : List (List ℕ)) (call : Call) (a : Answer) (level : ℤ) (pad : Option ℤ) (format : TwoWayFormat) → Ends words call a
+    → words ≡ codes "extract" ∷ options → extract_of options ≡ Some (requests.Extract level pad format) → status_of a ≡ statuses.Done → WritesWatertight level pad format call.streams
+headline words options call a level pad format h are asked done =
+    served_headline (request_of words) call a level pad format h (ap request_of are ∙ asks_extract options (requests.Extract level pad format) asked) done

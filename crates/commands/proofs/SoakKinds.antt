@@ -10,7 +10,7 @@ use Rattle.script.specs.declared.command.Command.TheVariants.{Fill, Contour, Rep
 use Rattle.script.specs.declared.command.LineFault.TheVariants.{LineTooLong}
 use Rattle.session.specs.Lines.{Saying}
 use Rattle.commands.specs.SoakLoop.{may_want}
-use Rattle.commands.specs.Soaking.{is_fill}
+use Rattle.commands.specs.SessionMeshes.{is_fill}
 
 -- a line for which memory is not wanting, or a fill
 abbrev is_tame : Saying → Bool

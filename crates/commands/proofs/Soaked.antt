@@ -16,7 +16,8 @@ use Rattle.session.specs.Lines.{Saying}
 use Rattle.session.specs.Worlds.{CountsBy, TakesTurn, World, replies_text, scene_of, shelf_errors}
 use Rattle.session.proofs.Running.{replies_text-append, kept_both, line_no_error}
 use Rattle.commands.specs.SoakLoop.{Shows, SoaksLine, may_want}
-use Rattle.commands.specs.Soaking.{HasNoWant, RanQuietly, SoakBreaks, Soaks, is_ply, is_want, shown, shown_by}
+use Rattle.commands.specs.SessionMeshes.{is_want}
+use Rattle.commands.specs.Soaking.{HasNoWant, RanQuietly, SoakBreaks, Soaks, is_ply, shown, shown_by}
 use Rattle.commands.specs.declared.soaking.Pace.{Pace}
 use Rattle.commands.specs.declared.soaking.Pace.TheVariants.{On, Wanting, Fault}
 use Rattle.commands.proofs.Wanting.{kept_still, line_fault_no_want, same_scene, still_by}

@@ -8,7 +8,6 @@ use Rattle.iso_defs.specs.MeshLists.{FlatMesh}
 use Rattle.flat_mesh.specs.Mesh.{mesh_of}
 use Rattle.mesh_lines.specs.Lines.{text_of}
 use Rattle.mesh_lines.proofs.Texts.{pad_obj, pad_ply, volume_obj, volume_ply}
-use Rattle.bench_core.specs.Texts.{obj_text, ply_text}
 use Rattle.commands.specs.Headline.{style_of, text_of_volume}
 use Rattle.mesh_text.specs.declared.format.TwoWayFormat.{TwoWayFormat}
 use Rattle.mesh_text.specs.declared.format.TwoWayFormat.TheVariants.{Ply, Obj}
@@ -24,7 +23,6 @@ as_obj false m = volume_obj m
 
 -- the text of the volume's mesh
 text_is : (format : TwoWayFormat) (v : Volume) (level : ℤ) (padded : Bool) (m : FlatMesh) → padded ≡ is_some v.pad → m ≡ mesh_of v.grid (field v.samples level) → text_of (style_of format padded) m ≡ text_of_volume format level v
-unfolding ply_text obj_text
 text_is Ply v level padded m p e = as_ply padded m ∙ (rw (p, e) refl)
 text_is Obj v level padded m p e = as_obj padded m ∙ (rw (p, e) refl)
 

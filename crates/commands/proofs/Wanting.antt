@@ -27,7 +27,7 @@ use Rattle.session.specs.declared.response.Response.{Response}
 use Rattle.session.specs.declared.response.Response.TheVariants as responses
 use Rattle.session.proofs.Running.{contours_apart}
 use Rattle.commands.specs.SoakLoop.{is_want_response}
-use Rattle.commands.specs.Soaking.{is_want}
+use Rattle.commands.specs.SessionMeshes.{is_want}
 
 -- ---- which texts say that memory was wanting
 

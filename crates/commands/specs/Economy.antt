@@ -8,7 +8,8 @@ use Rattle.session.specs.Worlds.{scene_of}
 use Rattle.session.specs.declared.ending.Ending.{Ending}
 use Rattle.commands.specs.Outcome.{Call}
 use Rattle.commands.specs.SessionMeshes.{WritesReplies}
-use Rattle.commands.specs.Sessions.{Asked, HoldsFile, session_between, world_after, world_before}
+use Rattle.commands.specs.Sessions.{Asked, HoldsFile, answer_of, session_between, world_after, world_before}
+use Rattle.program.specs.Status.{status_of}
 
 -- The lines that were run, with the replies that were written, led to the bench that is left, from one that was opened on the
 -- volume of the file and had kept nothing of its mesh.
@@ -19,7 +20,7 @@ pub record LedTo (asked : Asked) (call : Call) (last : Workbench) : Type 0 where
   pub lines : List (List ℕ)
   pub ends : EndsAfter (session_between asked call volume last) ending lines
   pub replies : List (List ℕ)
-  pub written : WritesReplies ending call.streams.output call.streams.output_after replies
+  pub written : WritesReplies (status_of (answer_of ending)) call.streams.output call.streams.output_after replies
   pub kept : Kept (scene_of (world_before asked call volume)) lines replies (scene_of (world_after call last))
 
 -- so it is where a bench is left; where none is, no cell was classified

@@ -1,6 +1,8 @@
 -- The headline, where a mesh is extracted.
-use Rattle.std.specs.Prelude.{ℕ, Bool, true, false, List, [], Option, Result, ℤ, ◌≡◌, Ok}
-use Rattle.iso_base.specs.Volume.{Volume}
+use Rattle.std.specs.Prelude.{ℕ, Bool, true, false, List, Option, Result, is_some, ℤ, ◌≡◌, Ok}
+use Rattle.iso_defs.specs.Scratch.{vertices}
+use Rattle.iso_defs.specs.Texts.{obj_text, ply_text}
+use Rattle.iso_base.specs.Volume.{Volume, field}
 use Rattle.iso_base.specs.declared.format.MeshFormat.{MeshFormat}
 use Rattle.command_terms.specs.Volumes.{text_by, volume_of, with_pad, volume_limit}
 use Rattle.program.specs.declared.answer.VolumeFault.{VolumeFault}
@@ -8,18 +10,19 @@ use Rattle.mesh_lines.specs.declared.style.Origin.{Origin}
 use Rattle.mesh_lines.specs.declared.style.Style.{Style}
 use Rattle.mesh_text.specs.declared.format.TwoWayFormat.{TwoWayFormat}
 use Rattle.mesh_text.specs.declared.format.TwoWayFormat.TheVariants.{Ply, Obj}
-use Rattle.bench_core.specs.Surface.{IsWatertight}
+use Rattle.bench_core.specs.Surface.{IsWatertight, mesh_triangles}
 use Rattle.command_terms.specs.Outcome.{HasRead, Streams, Writes}
 use Rattle.program.specs.declared.answer.Answer.{Answer}
 use Rattle.iso_base.specs.declared.format.MeshFormat.TheVariants as meshes
-use Rattle.bench_core.specs.Texts as benches
 use Rattle.mesh_lines.specs.declared.style.Origin.TheVariants as origins
 use Rattle.program.specs.declared.answer.Answer.TheVariants as answers
 
--- the text of the mesh of a volume at a level, from scratch: that of a bench that was opened on it
+-- the text of the mesh of a volume at a level, from scratch
 abbrev pub text_of_volume : TwoWayFormat → ℤ → Volume → List ℕ
-text_of_volume format level v = benches.text_of_state format
-    (record { volume = v; level = level; past = []; future = [] })
+text_of_volume Ply level v =
+    ply_text (is_some v.pad) (vertices v.grid (field v.samples level)) (mesh_triangles v level)
+text_of_volume Obj level v =
+    obj_text (is_some v.pad) (vertices v.grid (field v.samples level)) (mesh_triangles v level)
 
 -- what `extract` gives
 abbrev pub mesh_given : ℤ → Option ℤ → TwoWayFormat → List ℕ → Result (List ℕ) VolumeFault

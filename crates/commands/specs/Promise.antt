@@ -1,8 +1,8 @@
 -- What `run` promises.
-use Rattle.std.specs.Prelude.{◌≡◌, ◌↔◌, ℕ, List, None, Option, Some, ℤ}
+use Rattle.std.specs.Prelude.{◌≡◌, ◌↔◌, ℕ, List, ◌∷◌, codes, None, Option, Some, ℤ}
 use Rattle.byte_streams.specs.Causes.{Rose}
 use Rattle.byte_streams.specs.Seen.{Tape}
-use Rattle.arguments.specs.Words.{request_of}
+use Rattle.arguments.specs.Words.{extract_of, request_of, session_of}
 use Rattle.arguments.specs.declared.request.Request.{Request}
 use Rattle.arguments.specs.declared.request.Request.TheVariants.{Extract, Session, Soak}
 use Rattle.program.specs.Notes.{note_of}
@@ -40,14 +40,16 @@ pub record RunsAs (words : List (List ℕ)) (call : Call) (status : Status) (bef
   pub mesh_refused : status ≡ statuses.MeshRefused → Asks (request_of words) HasBrokenMesh call
   -- The headline, where a mesh is extracted: what was written is the text of the mesh of the volume in the input, and
   -- that mesh is watertight.
-  pub headline : (level : ℤ) (pad : Option ℤ) (format : TwoWayFormat)
-      → request_of words ≡ Some (Extract level pad format)
+  pub headline : (options : List (List ℕ)) (level : ℤ) (pad : Option ℤ) (format : TwoWayFormat)
+      → words ≡ codes "extract" ∷ options
+      → extract_of options ≡ Some (Extract level pad format)
       → status ≡ statuses.Done
       → WritesWatertight level pad format call.streams
   -- The headline, in a session, however it ended: each line `ply` or `obj` that was run wrote the mesh of the state that
   -- the lines before it led to, and that mesh is watertight; or it was answered that the shelf failed.
-  pub session_headline : (level : ℤ) (pad : Option ℤ) (name : List ℕ) (bricks pages : ℕ)
-      → request_of words ≡ Some (Session level pad name bricks pages)
+  pub session_headline : (options : List (List ℕ)) (level : ℤ) (pad : Option ℤ) (name : List ℕ) (bricks pages : ℕ)
+      → words ≡ codes "session" ∷ options
+      → session_of options ≡ Some (Session level pad name bricks pages)
       → HoldsWatertightMeshes (asked_for level pad name bricks pages) call status
   -- So it is in a soak, at the lines that were run, whose replies to its lines `ply` were written.
   pub soak_headline : (seed : ℕ) → request_of words ≡ Some (Soak seed) → HoldsSoakMeshes seed call status

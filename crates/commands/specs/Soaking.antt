@@ -1,5 +1,5 @@
 -- What `soak` does: the soak script of a seed, run on the volume that it generates.
-use Rattle.std.specs.Prelude.{◌≡◌, ◌⊎◌, ℕ, ◌≤◌, Bool, true, false, if◌then◌else◌, List, [], ◌∷◌, ◌++◌, bytes_eq, codes, Some, None, Ok, IfSome, MatchOption, ℤ, pos}
+use Rattle.std.specs.Prelude.{◌≡◌, ◌⊎◌, ℕ, ◌≤◌, Bool, true, false, if◌then◌else◌, List, [], ◌∷◌, ◌++◌, Some, None, Ok, IfSome, MatchOption, ℤ, pos}
 use Rattle.std.specs.Io.KnownBytes.{Appends}
 use Rattle.iso_defs.specs.Grid.{Grid}
 use Rattle.iso_base.specs.Volume.{Volume, unpadded}
@@ -11,13 +11,13 @@ use Rattle.bench_core.specs.Machine.{IsState}
 use Rattle.volume_gen.specs.Generated.{generated_volume}
 use Rattle.volume_gen.specs.Soak.{soak_lines}
 use Rattle.script.specs.Commands.{read_of}
-use Rattle.script.specs.declared.command.Command.TheVariants.{Fill, Ply}
+use Rattle.script.specs.declared.command.Command.TheVariants.{Ply}
 use Rattle.session.specs.Kept.{Kept}
 use Rattle.session.specs.Lines.{Saying}
 use Rattle.session.specs.Worlds.{CountsBy, World, replies_text, scene_of, world}
 use Rattle.command_terms.specs.Outcome.{NothingWritten}
 use Rattle.commands.specs.Outcome.{Call, LeavesShelf}
-use Rattle.commands.specs.SessionMeshes.{MeshTurns}
+use Rattle.commands.specs.SessionMeshes.{MeshTurns, is_fill, is_want, opened}
 use Rattle.commands.specs.Sessions.{world_after}
 use Rattle.program.specs.Status.{status_of}
 use Rattle.program.specs.declared.answer.Answer.{Answer}
@@ -54,11 +54,6 @@ abbrev pub is_ply : Saying → Bool
 is_ply (Ok (Some (Ply name))) = true
 is_ply says = false
 
--- whether a line fills a box
-abbrev pub is_fill : Saying → Bool
-is_fill (Ok (Some (Fill corners value))) = true
-is_fill says = false
-
 -- the replies that are shown, those to the lines that ask for the mesh as PLY; a blank line and a comment have no reply
 abbrev pub shown_by : Saying → List (List ℕ) → (List (List ℕ) → List (List ℕ)) → List (List ℕ)
 shown_by (Ok None) replies later = later replies
@@ -68,10 +63,6 @@ shown_by says (reply ∷ replies) later = if is_ply says then reply ∷ later re
 abbrev pub shown : List (List ℕ) → List (List ℕ) → List (List ℕ)
 shown [] replies = []
 shown (line ∷ lines) replies = shown_by (read_of line) replies (shown lines)
-
--- whether a reply says that memory was wanting
-abbrev pub is_want : List ℕ → Bool
-is_want reply = bytes_eq reply (codes "error 1 memory\n")
 
 -- no reply says so
 abbrev pub HasNoWant : List (List ℕ) → Type 0
@@ -188,7 +179,7 @@ SoakLeaves seed call status = MatchOption call.left (call.steps_after ≡ call.s
 -- and each of these lines that asked for a mesh wrote it
 pub record SoakMeshes (seed : ℕ) (call : Call) (status : Status) (last : Workbench) : Type 0 where
   pub led : SoakLedTo seed call status last
-  pub meshes : MeshTurns (soak_world seed call) (world_after call last) led.lines led.replies
+  pub meshes : MeshTurns (opened (soak_volume seed) soak_level) last.state call.store_after.files led.lines led.replies
 
 -- in each soak that was begun
 abbrev pub HoldsSoakMeshes : ℕ → Call → Status → Type 0

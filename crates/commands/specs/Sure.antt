@@ -8,7 +8,8 @@ use Rattle.session.specs.Sessions.{EndsAfter}
 use Rattle.session.specs.declared.ending.Ending.{Ending}
 use Rattle.commands.specs.Outcome.{Call}
 use Rattle.commands.specs.SessionMeshes.{WritesReplies}
-use Rattle.commands.specs.Sessions.{Asked, HoldsFile, session_between}
+use Rattle.commands.specs.Sessions.{Asked, HoldsFile, answer_of, session_between}
+use Rattle.program.specs.Status.{status_of}
 use Rattle.commands.specs.Soaking.{SoakLedTo, soak_level, soak_limits, soak_volume}
 use Rattle.program.specs.declared.answer.Status.{Status}
 
@@ -21,7 +22,7 @@ pub record RepliesSurely (asked : Asked) (call : Call) (last : Workbench) : Type
   pub lines : List (List ℕ)
   pub ends : EndsAfter (session_between asked call volume last) ending lines
   pub replies : List (List ℕ)
-  pub written : WritesReplies ending call.streams.output call.streams.output_after replies
+  pub written : WritesReplies (status_of (answer_of ending)) call.streams.output call.streams.output_after replies
   pub sure : SurelyFollowed (first_bench volume asked.level asked.limits).state call.store.files lines replies
       last.state call.store_after.files
 

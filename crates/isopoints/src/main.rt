@@ -13,6 +13,10 @@ impl Program for Isopoints {
 
     ghost ends = { λ _. MayEnd };
 
+    fn name(&self) -> &'static str {
+        "isobench"
+    }
+
     fn run<S: Source, K: Sink, N: Sink>(
         &self,
         rt: &HostRuntime,

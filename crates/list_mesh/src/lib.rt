@@ -3,5 +3,7 @@
 #![tactic(auto)]
 
 mod mesh;
+mod part;
 
 pub use mesh::ListMesh;
+pub use part::ListPart;

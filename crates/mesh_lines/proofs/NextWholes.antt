@@ -4,9 +4,9 @@ use Rattle.std.proofs.lemmas.Bool.Decides.{eqb_tells}
 use Rattle.std.proofs.lemmas.Fmt.{decimal_digit, decimal_step}
 use Rattle.std.proofs.lemmas.List.{get_or-take, length-take-le}
 use Rattle.std.proofs.Math.Seq.{get_or-append_seam, set-append_seam, take-set-lt}
-use Rattle.mesh_lines.specs.RowLines.{is_layer, whole_size, whole_text}
+use Rattle.mesh_lines.specs.RowLines.{is_layer, size_in_pad, whole_size, whole_text}
 use Rattle.mesh_lines.specs.declared.style.Origin.{Origin}
-use Rattle.mesh_lines.specs.declared.style.Origin.TheVariants.{Volume, Pad, Window}
+use Rattle.mesh_lines.specs.declared.style.Origin.TheVariants.{Volume, Pad, Window, PaddedSlab}
 
 -- a digit and a point end a text
 digit_at : (front bytes : List ℕ) (len digit : ℕ) → len ≤ length bytes → take len bytes ≡ front ++ digit ∷ 46 ∷ [] → len - 2 ≡ length front
@@ -69,39 +69,53 @@ last_digit bytes len s room low is =
     ]
 
 -- a coordinate that does not lie in a pad's layer, and the next one
-pub whole_is : (origin : Origin) (axis n : ℕ) → is_layer origin n ≡ false → whole_text origin axis n ≡ decimal (whole_size origin axis n) ++ 46 ∷ []
-whole_is Volume axis n inside = refl
-whole_is (Window at) axis n inside = refl
-whole_is Pad axis n inside = ap (λ b. cond b (45 ∷ []) [] ++ (decimal (whole_size Pad axis n) ++ 46 ∷ [])) inside
+pub whole_is : (origin : Origin) (axis n : ℕ) → is_layer origin axis n ≡ false → whole_text origin axis n ≡ decimal (whole_size origin axis n) ++ 46 ∷ []
+whole_is origin axis n inside = ap (λ b. cond b (45 ∷ []) [] ++ (decimal (whole_size origin axis n) ++ 46 ∷ [])) inside
 
-pub next_inside : (origin : Origin) (n : ℕ) → is_layer origin (n + 1) ≡ false
-next_inside Volume n = refl
-next_inside (Window at) n = refl
-next_inside Pad n = inside (eqb_tells (n + 1) 0)
+not_first : (n : ℕ) → eqb (n + 1) 0 ≡ false
+not_first n = inside (eqb_tells (n + 1) 0)
   where
     inside : ((eqb (n + 1) 0 ≡ true) × (n + 1 ≡ 0)) ⊎ ((eqb (n + 1) 0 ≡ false) × (n + 1 ≢ 0)) → eqb (n + 1) 0 ≡ false
     inside (inl e) = absurd (omega (arith, e.1))
     inside (inr e) = e.0
 
-pub next_size : (origin : Origin) (axis n : ℕ) → is_layer origin n ≡ false → whole_size origin axis (n + 1) ≡ whole_size origin axis n + 1
-next_size Volume axis n inside = refl
-next_size (Window at) axis n inside = omega arith
-next_size Pad axis n inside =
-    let now : whole_size Pad axis n ≡ n - 1 = ap (λ (b : Bool). if b then 1 else n - 1) inside in
-    let after : whole_size Pad axis (n + 1) ≡ n + 1 - 1 = ap (λ (b : Bool). if b then 1 else n + 1 - 1) (next_inside Pad n) in
+pub next_inside : (origin : Origin) (axis n : ℕ) → is_layer origin axis (n + 1) ≡ false
+next_inside Volume axis n = refl
+next_inside (Window at) axis n = refl
+next_inside Pad axis n = not_first n
+next_inside (PaddedSlab below) axis n = either (eqb axis 2)
+  where
+    either : (b : Bool) → (if b then false else eqb (n + 1) 0) ≡ false
+    either true = refl
+    either false = not_first n
+
+next_in_pad : (n : ℕ) → eqb n 0 ≡ false → size_in_pad (n + 1) ≡ size_in_pad n + 1
+next_in_pad n inside =
+    let now : size_in_pad n ≡ n - 1 = ap (λ (b : Bool). if b then 1 else n - 1) inside in
+    let after : size_in_pad (n + 1) ≡ n + 1 - 1 = ap (λ (b : Bool). if b then 1 else n + 1 - 1) (not_first n) in
     omega (arith, now, after, positive (eqb_tells n 0) inside)
   where
     positive : ((eqb n 0 ≡ true) × (n ≡ 0)) ⊎ ((eqb n 0 ≡ false) × (n ≢ 0)) → eqb n 0 ≡ false → 0 < n
     positive (inl e) inside = absurd (cc)
     positive (inr e) inside = omega (arith, e.1)
 
-pub whole_digit : (origin : Origin) (axis n : ℕ) (bytes : List ℕ) (len : ℕ) → len ≤ length bytes → whole_size origin axis n < 10 ^ 10 → is_layer origin n ≡ false
+pub next_size : (origin : Origin) (axis n : ℕ) → is_layer origin axis n ≡ false → whole_size origin axis (n + 1) ≡ whole_size origin axis n + 1
+next_size Volume axis n inside = refl
+next_size (Window at) axis n inside = omega arith
+next_size Pad axis n inside = next_in_pad n inside
+next_size (PaddedSlab below) axis n inside = either (eqb axis 2) inside
+  where
+    either : (b : Bool) → (if b then false else eqb n 0) ≡ false → (if b then below + (n + 1) else size_in_pad (n + 1)) ≡ (if b then below + n else size_in_pad n) + 1
+    either true inside = omega arith
+    either false inside = next_in_pad n inside
+
+pub whole_digit : (origin : Origin) (axis n : ℕ) (bytes : List ℕ) (len : ℕ) → len ≤ length bytes → whole_size origin axis n < 10 ^ 10 → is_layer origin axis n ≡ false
     → take len bytes ≡ 32 ∷ whole_text origin axis n → LastDigit bytes len (whole_size origin axis n)
 whole_digit origin axis n bytes len room low inside is =
     last_digit bytes len (whole_size origin axis n) room low (is ∙ ap (λ (l : List ℕ). 32 ∷ l) (whole_is origin axis n inside))
 
 -- the text of the next one
-pub whole_next : (origin : Origin) (axis n : ℕ) → is_layer origin n ≡ false → 32 ∷ (decimal (whole_size origin axis n + 1) ++ 46 ∷ []) ≡ 32 ∷ whole_text origin axis (n + 1)
+pub whole_next : (origin : Origin) (axis n : ℕ) → is_layer origin axis n ≡ false → 32 ∷ (decimal (whole_size origin axis n + 1) ++ 46 ∷ []) ≡ 32 ∷ whole_text origin axis (n + 1)
 whole_next origin axis n inside =
     ap (λ (s : ℕ). 32 ∷ (decimal s ++ 46 ∷ [])) (sym (next_size origin axis n inside))
-    ∙ ap (λ (l : List ℕ). 32 ∷ l) (sym (whole_is origin axis (n + 1) (next_inside origin n)))
+    ∙ ap (λ (l : List ℕ). 32 ∷ l) (sym (whole_is origin axis (n + 1) (next_inside origin axis n)))

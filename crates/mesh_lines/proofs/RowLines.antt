@@ -11,21 +11,31 @@ use Rattle.mesh_text.proofs.Pieces.{ten_digits_most}
 use Rattle.mesh_lines.specs.Lines.{origin_coordinate, vertex_letter, vertex_line}
 use Rattle.mesh_text.specs.Pieces.{parts_line, piece_text, thirds_line}
 use Rattle.mesh_text.specs.declared.piece.Piece.{Piece}
-use Rattle.mesh_lines.specs.RowLines.{AreCentreTexts, AreFronts, AreTexts, AreWholes, IsPiece, RowPlace, centre_at, edge_at, front_text, is_layer, no_piece, middle_text, tail_text, whole_at, whole_size, whole_text, y_text, z_text, zeros}
+use Rattle.mesh_lines.specs.RowLines.{AreCentreTexts, AreFronts, AreTexts, AreWholes, IsPiece, RowPlace, centre_at, edge_at, front_text, is_layer, no_piece, middle_text, size_in_pad, tail_text, whole_at, whole_size, whole_text, y_text, z_text, zeros}
 use Rattle.mesh_lines.specs.declared.row_texts.RowParts.{RowParts}
 use Rattle.mesh_lines.specs.declared.style.Origin.{Origin}
-use Rattle.mesh_lines.specs.declared.style.Origin.TheVariants.{Volume, Pad, Window}
+use Rattle.mesh_lines.specs.declared.style.Origin.TheVariants.{Volume, Pad, Window, PaddedSlab}
 use Rattle.mesh_lines.specs.declared.style.Style.{Style}
 
--- a sign and a number are not long
-pub sign_and_digits : (origin : Origin) (axis n : ℕ) → whole_size origin axis n < 10 ^ 10 → (if is_layer origin n then 1 else 0) + length (decimal (whole_size origin axis n)) ≤ 10
-sign_and_digits Volume axis n low = omega (arith, ten_digits_most n low)
-sign_and_digits (Window at) axis n low = omega (arith, ten_digits_most (slice_index (at.x ∷ at.y ∷ at.z ∷ []) axis + n) low)
-sign_and_digits Pad axis n low = layer (eqb n 0) low
+-- a sign and a number in a pad are not long
+pad_sign_and_digits : (n : ℕ) → size_in_pad n < 10 ^ 10 → (if eqb n 0 then 1 else 0) + length (decimal (size_in_pad n)) ≤ 10
+pad_sign_and_digits n low = layer (eqb n 0) low
   where
     layer : (b : Bool) → (if b then 1 else n - 1) < 10 ^ 10 → (if b then 1 else 0) + length (decimal (if b then 1 else n - 1)) ≤ 10
     layer true low = omega (arith, ap length (decimal_digit 1 (omega arith)))
     layer false low = omega (arith, ten_digits_most (n - 1) low)
+
+-- a sign and a number are not long
+pub sign_and_digits : (origin : Origin) (axis n : ℕ) → whole_size origin axis n < 10 ^ 10 → (if is_layer origin axis n then 1 else 0) + length (decimal (whole_size origin axis n)) ≤ 10
+sign_and_digits Volume axis n low = omega (arith, ten_digits_most n low)
+sign_and_digits (Window at) axis n low = omega (arith, ten_digits_most (slice_index (at.x ∷ at.y ∷ at.z ∷ []) axis + n) low)
+sign_and_digits Pad axis n low = pad_sign_and_digits n low
+sign_and_digits (PaddedSlab below) axis n low = either (eqb axis 2) low
+  where
+    either : (b : Bool) → (if b then below + n else size_in_pad n) < 10 ^ 10
+        → (if (if b then false else eqb n 0) then 1 else 0) + length (decimal (if b then below + n else size_in_pad n)) ≤ 10
+    either true low = omega (arith, ten_digits_most (below + n) low)
+    either false low = pad_sign_and_digits n low
 
 -- a whole number and thousandths beyond it
 split_text : (n r : ℕ) → r < 1000 → thousandths (1000 * n + r) ≡ (decimal n ++ 46 ∷ []) ++ three_digits r
@@ -52,15 +62,26 @@ pad_text n r false low side is =
     positive (inl e) = absurd (cc)
     positive (inr e) = omega (arith, e.1)
 
+-- and further on in a larger volume
+further_text : (below n r : ℕ) → r < 1000 → thousandths (1000 * below + (1000 * n + r)) ≡ (decimal (below + n) ++ 46 ∷ []) ++ three_digits r
+further_text below n r low =
+    let sum : 1000 * below + (1000 * n + r) ≡ 1000 * (below + n) + r = omega arith in
+    ap thousandths sum ∙ split_text (below + n) r low
+
 -- a coordinate, as it is printed, is its whole part and its decimals, where its place has none or does not lie in a pad's layer
-pub coordinate_is : (origin : Origin) (axis n r : ℕ) → r < 1000 → (is_layer origin n ≡ false) ⊎ (r ≡ 0)
+pub coordinate_is : (origin : Origin) (axis n r : ℕ) → r < 1000 → (is_layer origin axis n ≡ false) ⊎ (r ≡ 0)
     → decimal_text (origin_coordinate origin axis (1000 * n + r)) ≡ whole_text origin axis n ++ three_digits r
 coordinate_is Volume axis n r low side = split_text n r low
 coordinate_is Pad axis n r low side = pad_text n r (eqb n 0) low side refl
 coordinate_is (Window at) axis n r low side =
-    let b : ℕ = slice_index (at.x ∷ at.y ∷ at.z ∷ []) axis in
-    let sum : 1000 * b + (1000 * n + r) ≡ 1000 * (b + n) + r = omega arith in
-    ap thousandths sum ∙ split_text (b + n) r low
+    further_text (slice_index (at.x ∷ at.y ∷ at.z ∷ []) axis) n r low
+coordinate_is (PaddedSlab below) axis n r low side = either (eqb axis 2) side
+  where
+    either : (b : Bool) → ((if b then false else eqb n 0) ≡ false) ⊎ (r ≡ 0)
+        → decimal_text (if b then pos (1000 * below + (1000 * n + r)) else printed true (1000 * n + r))
+        ≡ (cond (if b then false else eqb n 0) (45 ∷ []) [] ++ (decimal (if b then below + n else size_in_pad n) ++ 46 ∷ [])) ++ three_digits r
+    either true side = further_text below n r low
+    either false side = pad_text n r (eqb n 0) low side refl
 
 -- the parts of a line of three numbers one behind another
 flat : (l x y z a b c p q r : List ℕ) → x ≡ a ++ p → y ≡ b ++ q → z ≡ c ++ r
@@ -68,7 +89,7 @@ flat : (l x y z a b c p q r : List ℕ) → x ≡ a ++ p → y ≡ b ++ q → z 
 flat l x y z a b c p q r e f g = rw (e, f, g) (simp append_assoc)
 
 -- the line of a vertex on an edge along an axis in its parts
-pub edge_parts : (style : Style) (x y z axis r : ℕ) → axis < 3 → r < 1000 → is_layer style.origin (whole_at axis x y z) ≡ false
+pub edge_parts : (style : Style) (x y z axis r : ℕ) → axis < 3 → r < 1000 → is_layer style.origin axis (whole_at axis x y z) ≡ false
     → front_text style x ++ (middle_text style.origin axis y z ++ (three_digits r ++ tail_text style.origin axis y z))
     ≡ vertex_line style (0, (1000 * x + (if eqb 0 axis then r else 0), 1000 * y + (if eqb 1 axis then r else 0), 1000 * z + (if eqb 2 axis then r else 0)))
 unfolding vertex_line
@@ -92,7 +113,7 @@ thirds : (f p b q c r : List ℕ) → line ((f ++ p) ++ ((b ++ q) ++ (c ++ r))) 
 thirds f p b q c r = simp append_assoc
 
 centre_parts : (style : Style) (x y z a b c : ℕ) → a < 1000 → b < 1000 → c < 1000
-    → (is_layer style.origin x ≡ false) ⊎ (a ≡ 0) → (is_layer style.origin y ≡ false) ⊎ (b ≡ 0) → (is_layer style.origin z ≡ false) ⊎ (c ≡ 0)
+    → (is_layer style.origin 0 x ≡ false) ⊎ (a ≡ 0) → (is_layer style.origin 1 y ≡ false) ⊎ (b ≡ 0) → (is_layer style.origin 2 z ≡ false) ⊎ (c ≡ 0)
     → line ((front_text style x ++ three_digits a) ++ ((y_text style.origin y ++ three_digits b) ++ (z_text style.origin z ++ three_digits c)))
     ≡ vertex_line style (0, (1000 * x + a, 1000 * y + b, 1000 * z + c))
 unfolding vertex_line
@@ -132,13 +153,13 @@ whole_is origin axis n pieces h (suc zero) few = h.upper
 whole_is origin axis n pieces h (suc (suc k)) few = absurd (omega (arith, few))
 
 -- a place of 1000 is at the next whole coordinate, where it has no decimals
-near_side : (origin : Origin) (n p k r : ℕ) → p ≤ 1000 → k ≡ p / 1000 → r ≡ p % 1000 → is_layer origin n ≡ false → (is_layer origin (n + k) ≡ false) ⊎ (r ≡ 0)
-near_side origin n p k r low upper over inside =
+near_side : (origin : Origin) (axis n p k r : ℕ) → p ≤ 1000 → k ≡ p / 1000 → r ≡ p % 1000 → is_layer origin axis n ≡ false → (is_layer origin axis (n + k) ≡ false) ⊎ (r ≡ 0)
+near_side origin axis n p k r low upper over inside =
     elim (eq-zero-or-pos (1000 - p)) [
       | inl z ↦ inr (omega (arith, z, low, over))
       | inr g ↦
           let same : n ≡ n + k = omega (arith, g, upper) in
-          inl (subst (λ (m : ℕ). is_layer origin m ≡ false) same inside)
+          inl (subst (λ (m : ℕ). is_layer origin axis m ≡ false) same inside)
     ]
 
 -- equal places have equal lines
@@ -150,7 +171,7 @@ module _ (row : RowPlace) (fronts ys zs : List (Piece 16)) (fs : AreFronts row.s
     (ws : AreWholes row.style.origin 1 row.y ys) (vs : AreWholes row.style.origin 2 row.z zs) where
   near_line : (x a b c i j k p q r : ℕ) → x < row.count → a ≤ 1000 → b ≤ 1000 → c ≤ 1000
       → i ≡ a / 1000 → j ≡ b / 1000 → k ≡ c / 1000 → p ≡ a % 1000 → q ≡ b % 1000 → r ≡ c % 1000
-      → (is_layer row.style.origin (x + i) ≡ false) ⊎ (p ≡ 0) → (is_layer row.style.origin (row.y + j) ≡ false) ⊎ (q ≡ 0) → (is_layer row.style.origin (row.z + k) ≡ false) ⊎ (r ≡ 0)
+      → (is_layer row.style.origin 0 (x + i) ≡ false) ⊎ (p ≡ 0) → (is_layer row.style.origin 1 (row.y + j) ≡ false) ⊎ (q ≡ 0) → (is_layer row.style.origin 2 (row.z + k) ≡ false) ⊎ (r ≡ 0)
       → line ((piece_text (slice_index_or fronts (x + i) no_piece) ++ three_digits p)
       ++ ((piece_text (slice_index_or ys j no_piece) ++ three_digits q) ++ (piece_text (slice_index_or zs k no_piece) ++ three_digits r)))
       ≡ vertex_line row.style (0, (1000 * x + a, 1000 * row.y + b, 1000 * row.z + c))
@@ -202,8 +223,8 @@ module _ (row : RowPlace) (fronts ys zs : List (Piece 16)) (parts : RowParts) (h
       → parts_line (front x) (parts_at parts.middles axis) p (parts_at parts.tails axis) ≡ vertex_line row.style (0, edge_at row e p)
   edge_line e p axis x along here low place least =
       let known : axis < 3 = omega (arith, along) in
-      let inside : is_layer row.style.origin (whole_at axis x row.y row.z) ≡ false
-      = subst (λ (k : ℕ). is_layer row.style.origin (whole_at axis k row.y row.z) ≡ false) (sym here) (h.parts_are.least axis e known (omega (arith, low, h.count)) least) in
+      let inside : is_layer row.style.origin axis (whole_at axis x row.y row.z) ≡ false
+      = subst (λ (k : ℕ). is_layer row.style.origin axis (whole_at axis k row.y row.z) ≡ false) (sym here) (h.parts_are.least axis e known (omega (arith, low, h.count)) least) in
       let whole = equal_parts _ _ (three_digits p) _ _ _ _ (h.fronts_are x (omega (arith, here, low))).has (h.parts_are.middles axis known).has (h.parts_are.tails axis known).has
       ∙ edge_parts row.style x row.y row.z axis p known place inside in
       let text : List ℕ = parts_line (front x) (parts_at parts.middles axis) p (parts_at parts.tails axis) in
@@ -215,11 +236,11 @@ module _ (row : RowPlace) (fronts ys zs : List (Piece 16)) (parts : RowParts) (h
 module _ (row : RowPlace) (fronts ys zs : List (Piece 16)) (inside : ℕ) (h : AreCentreTexts row fronts ys zs inside) where
   -- no coordinate of the cell is in a pad's layer
   clear : (x : ℕ) → x < row.count → inside ≤ 3 * x
-      → (is_layer row.style.origin x ≡ false) × ((is_layer row.style.origin row.y ≡ false) × (is_layer row.style.origin row.z ≡ false))
+      → (is_layer row.style.origin 0 x ≡ false) × ((is_layer row.style.origin 1 row.y ≡ false) × (is_layer row.style.origin 2 row.z ≡ false))
   clear x low begun =
       let few : 3 * x < 3078 = omega (arith, low, h.count) in
       let third : x ≡ 3 * x / 3 = omega arith in (
-        ap (is_layer row.style.origin) third ∙ h.inside_is 0 (3 * x) (omega arith) few begun,
+        ap (is_layer row.style.origin 0) third ∙ h.inside_is 0 (3 * x) (omega arith) few begun,
         (h.inside_is 1 (3 * x) (omega arith) few begun, h.inside_is 2 (3 * x) (omega arith) few begun),
       )
 
@@ -241,4 +262,4 @@ module _ (row : RowPlace) (fronts ys zs : List (Piece 16)) (inside : ℕ) (h : A
       let out = clear x low begun in
       let o : Origin = row.style.origin in
       near_line row fronts ys zs h.fronts_are h.y_texts_are h.z_texts_are x (slice_index at 0) (slice_index at 1) (slice_index at 2) _ _ _ _ _ _ low la lb lc refl refl refl p q r
-      (near_side o x (slice_index at 0) _ _ la refl p out.0) (near_side o row.y (slice_index at 1) _ _ lb refl q out.1.0) (near_side o row.z (slice_index at 2) _ _ lc refl r out.1.1)
+      (near_side o 0 x (slice_index at 0) _ _ la refl p out.0) (near_side o 1 row.y (slice_index at 1) _ _ lb refl q out.1.0) (near_side o 2 row.z (slice_index at 2) _ _ lc refl r out.1.1)

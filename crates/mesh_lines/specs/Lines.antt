@@ -1,5 +1,5 @@
 -- The text of a mesh in a style: its format, and where its coordinates are counted from.
-use Rattle.std.specs.Prelude.{ℕ, ◌+◌, ◌*◌, ℤ, pos, List, [], ◌∷◌, ◌++◌, length, slice_index, true}
+use Rattle.std.specs.Prelude.{ℕ, ◌+◌, ◌*◌, ◌==◌, if◌then◌else◌, ℤ, pos, List, [], ◌∷◌, ◌++◌, length, slice_index, true}
 use Rattle.std.specs.List.{flat_map}
 use Rattle.iso_defs.specs.Bytes.{space, digit_three, lower_f, lower_v}
 use Rattle.iso_defs.specs.Cell.{Triangle}
@@ -12,14 +12,16 @@ use Rattle.iso_defs.specs.MeshLists.{FlatMesh}
 use Rattle.mesh_text.specs.Lines.{coordinates_text, ply_head}
 use Rattle.mesh_more.specs.Texts.{off_head, vtk_faces, vtk_head}
 use Rattle.mesh_lines.specs.declared.style.Origin.{Origin}
-use Rattle.mesh_lines.specs.declared.style.Origin.TheVariants.{Volume, Pad, Window}
+use Rattle.mesh_lines.specs.declared.style.Origin.TheVariants.{Volume, Pad, Window, PaddedSlab}
 use Rattle.mesh_lines.specs.declared.style.Style.{Style}
 
--- a coordinate along an axis as it is printed: less the pad's layer, or counted from the first point of the larger volume
+-- a coordinate along an axis as it is printed: less the pad's layer, or counted from the first point of the larger volume, or
+-- each where a padded slab has a layer and where it has none
 abbrev pub origin_coordinate : Origin → ℕ → ℕ → ℤ
 origin_coordinate Volume axis n = pos n
 origin_coordinate Pad axis n = printed true n
 origin_coordinate (Window at) axis n = pos (1000 * slice_index (at.x ∷ at.y ∷ at.z ∷ []) axis + n)
+origin_coordinate (PaddedSlab below) axis n = if axis == 2 then pos (1000 * below + n) else printed true n
 
 -- a position as its numbers are printed
 abbrev pub origin_text : Origin → Position → List ℕ

@@ -8,7 +8,7 @@ use Rattle.mesh_text.specs.declared.piece.Piece.{Piece}
 use Rattle.mesh_lines.specs.Lines.{vertex_letter}
 use Rattle.mesh_lines.specs.declared.row_texts.RowParts.{RowParts}
 use Rattle.mesh_lines.specs.declared.style.Origin.{Origin}
-use Rattle.mesh_lines.specs.declared.style.Origin.TheVariants.{Volume, Pad, Window}
+use Rattle.mesh_lines.specs.declared.style.Origin.TheVariants.{Volume, Pad, Window, PaddedSlab}
 use Rattle.mesh_lines.specs.declared.style.Style.{Style}
 
 -- how lines are written, how many points the row has, and where it is
@@ -30,21 +30,27 @@ edge_at row e p = (
 abbrev pub centre_at : RowPlace → ℕ → List ℕ → Position
 centre_at row x at = (1000 * x + slice_index at 0, 1000 * row.y + slice_index at 1, 1000 * row.z + slice_index at 2)
 
--- a whole coordinate is that of a pad's layer, which is printed with a sign
-abbrev pub is_layer : Origin → ℕ → Bool
-is_layer Volume n = false
-is_layer Pad n = n == 0
-is_layer (Window at) n = false
+-- a whole coordinate along an axis is that of a pad's layer, which is printed with a sign
+abbrev pub is_layer : Origin → ℕ → ℕ → Bool
+is_layer Volume axis n = false
+is_layer Pad axis n = n == 0
+is_layer (Window at) axis n = false
+is_layer (PaddedSlab below) axis n = if axis == 2 then false else n == 0
+
+-- a whole coordinate that begins with a pad's layer as it is printed, less its sign
+abbrev pub size_in_pad : ℕ → ℕ
+size_in_pad n = if n == 0 then 1 else n - 1
 
 -- a whole coordinate along an axis as it is printed, less its sign
 abbrev pub whole_size : Origin → ℕ → ℕ → ℕ
 whole_size Volume axis n = n
-whole_size Pad axis n = if n == 0 then 1 else n - 1
+whole_size Pad axis n = size_in_pad n
 whole_size (Window at) axis n = slice_index (at.x ∷ at.y ∷ at.z ∷ []) axis + n
+whole_size (PaddedSlab below) axis n = if axis == 2 then below + n else size_in_pad n
 
 -- the sign, the number and the point
 abbrev pub whole_text : Origin → ℕ → ℕ → List ℕ
-whole_text origin axis n = cond (is_layer origin n) (minus ∷ []) [] ++ (decimal (whole_size origin axis n) ++ dot ∷ [])
+whole_text origin axis n = cond (is_layer origin axis n) (minus ∷ []) [] ++ (decimal (whole_size origin axis n) ++ dot ∷ [])
 
 -- a line up to the decimals of its first number
 abbrev pub front_text : Style → ℕ → List ℕ
@@ -98,12 +104,12 @@ whole_at axis x y z = if axis == 0 then x else (if axis == 1 then y else z)
 -- the edges along an axis from an offset on do not lie in a pad's layer
 abbrev pub AreLeast : Origin → ℕ → ℕ → List ℕ → Type 0
 AreLeast origin y z least = (axis e : ℕ) → axis < 3 → e < 3078 → slice_index least axis ≤ e →
-    is_layer origin (whole_at axis (e / 3) y z) ≡ false
+    is_layer origin axis (whole_at axis (e / 3) y z) ≡ false
 
 -- no edge from an offset on has a whole coordinate in a pad's layer
 abbrev pub IsFirstInside : Origin → ℕ → ℕ → ℕ → Type 0
 IsFirstInside origin y z first = (axis e : ℕ) → axis < 3 → e < 3078 → first ≤ e →
-    is_layer origin (whole_at axis (e / 3) y z) ≡ false
+    is_layer origin axis (whole_at axis (e / 3) y z) ≡ false
 
 -- the parts of the lines of a row
 pub record AreParts (origin : Origin) (y z : ℕ) (parts : RowParts) : Type 0 where

@@ -62,7 +62,8 @@ impl Model for LineBuffer {
 }
 
 impl LineBuffer {
-    /// No bytes.
+    /// No bytes. Apart, so that what it moves is gone when lines are made.
+    #[inline(never)]
     pub fn new() -> LineBuffer
         ensures { result ≡ record { waiting = []; page = 0; total = 0 } }
     {

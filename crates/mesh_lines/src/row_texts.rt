@@ -8,7 +8,7 @@ ghost use Rattle.iso_defs.specs.Bytes.{space, minus};
 ghost use Rattle.iso_defs.specs.Texts.{line};
 ghost use Rattle.mesh_text.specs.Pieces.{piece_text};
 ghost use Rattle.mesh_lines.specs.Lines.{vertex_letter, vertex_line};
-ghost use Rattle.mesh_lines.specs.RowLines.{AreFronts, AreLeast, AreParts, AreWholes, IsPiece, edge_at, front_text, is_layer, whole_size, whole_text, y_text, z_text, zeros};
+ghost use Rattle.mesh_lines.specs.RowLines.{AreFronts, AreLeast, AreParts, AreWholes, IsPiece, edge_at, front_text, is_layer, size_in_pad, whole_size, whole_text, y_text, z_text, zeros};
 
 use crate::line_buffer::{LineBuffer, put_bytes};
 use crate::style::{Origin, Style};
@@ -22,14 +22,24 @@ pub(crate) const FRONTS: usize = LONGEST_ROW + 1;
 /// An offset behind that of each edge of a row.
 const ROW_END: u16 = ROW_EDGES as u16;
 
-/// Whether a whole coordinate is that of a pad's layer: it is printed with a sign.
-fn is_layer(origin: Origin, whole: u32) -> bool
-    ensures { result ≡ is_layer origin whole }
+/// Whether a whole coordinate along an axis is that of a pad's layer: it is printed with a sign.
+fn is_layer(origin: Origin, axis: usize, whole: u32) -> bool
+    ensures { result ≡ is_layer origin axis whole }
 {
     match origin {
         Origin::Pad => whole == 0,
+        Origin::PaddedSlab(_) => axis != 2 && whole == 0,
         Origin::Volume | Origin::Window(_) => false,
     }
+}
+
+/// A whole coordinate that begins with a pad's layer as it is printed, less its sign.
+fn size_in_pad(whole: u32) -> u64
+    requires { whole ≤ 1027 }
+    ensures value { result ≡ size_in_pad whole }
+    ensures bound { result < 10 ^ 10 }
+{
+    if whole == 0 { 1 } else { u64::from(whole - 1) }
 }
 
 /// A whole coordinate as it is printed, less its sign.
@@ -41,18 +51,20 @@ fn whole_size(origin: Origin, axis: usize, whole: u32) -> u64
 {
     match origin {
         Origin::Volume => u64::from(whole),
-        Origin::Pad => { if whole == 0 { 1 } else { u64::from(whole - 1) } }
+        Origin::Pad => size_in_pad(whole),
         Origin::Window(at) => u64::from([at.x, at.y, at.z][axis]) + u64::from(whole),
+        Origin::PaddedSlab(below) if axis == 2 => u64::from(below) + u64::from(whole),
+        Origin::PaddedSlab(_) => size_in_pad(whole),
     }
 }
 
 /// Puts the sign of a whole coordinate behind a text.
-fn push_sign(piece: &mut Piece<16>, origin: Origin, whole: u32)
+fn push_sign(piece: &mut Piece<16>, origin: Origin, axis: usize, whole: u32)
     requires { piece.old.len ≤ 2 }
-    ensures text { piece_text piece.new ≡ piece_text piece.old ++ cond (is_layer origin whole) (minus ∷ []) [] }
-    ensures count { piece.new.len ≡ piece.old.len + (if is_layer origin whole then 1 else 0) }
+    ensures text { piece_text piece.new ≡ piece_text piece.old ++ cond (is_layer origin axis whole) (minus ∷ []) [] }
+    ensures count { piece.new.len ≡ piece.old.len + (if is_layer origin axis whole then 1 else 0) }
 {
-    if is_layer(origin, whole) {
+    if is_layer(origin, axis, whole) {
         piece.push(b"-");
     }
 }
@@ -65,7 +77,7 @@ fn push_whole(piece: &mut Piece<16>, origin: Origin, axis: usize, whole: u32, di
     ensures text { piece_text piece.new ≡ piece_text piece.old ++ whole_text origin axis whole }
     ensures few { piece.new.len ≤ piece.old.len + 11 }
 {
-    push_sign(piece, origin, whole);
+    push_sign(piece, origin, axis, whole);
     piece.push_number(digits, whole_size(origin, axis, whole));
     piece.push(b".");
 }
@@ -122,7 +134,7 @@ fn behind_next(
 {
     let _ = whole_size(origin, axis, whole);
     let last = piece.len - 2;
-    if is_layer(origin, whole) || piece.bytes[last] == b'9' {
+    if is_layer(origin, axis, whole) || piece.bytes[last] == b'9' {
         return behind_blank(origin, axis, whole + 1, digits);
     }
     let mut next = *piece;
@@ -253,9 +265,9 @@ fn set_tail_z(tail: &mut Piece<32>)
 pub(crate) fn least_of(origin: Origin, y: u32, z: u32) -> [u16; 3]
     ensures { AreLeast origin y z result }
 {
-    let from_second = if is_layer(origin, 0) { 3 } else { 0 };
-    let along_y = if is_layer(origin, y) { ROW_END } else { 0 };
-    let along_z = if is_layer(origin, z) { ROW_END } else { 0 };
+    let from_second = if is_layer(origin, 0, 0) { 3 } else { 0 };
+    let along_y = if is_layer(origin, 1, y) { ROW_END } else { 0 };
+    let along_z = if is_layer(origin, 2, z) { ROW_END } else { 0 };
     [from_second, along_y, along_z]
 }
 

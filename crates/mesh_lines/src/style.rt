@@ -4,7 +4,6 @@ ghost use Rattle.iso_base.specs.Triangles.{triangle_of};
 ghost use Rattle.mesh_text.specs.Lines.{letter_line};
 ghost use Rattle.mesh_text.specs.Numbers.{IsShort, number_text};
 ghost use Rattle.mesh_lines.specs.Lines.{origin_coordinate, vertex_line};
-ghost use Rattle.mesh_lines.specs.declared.style.Origin.TheVariants.{Window};
 ghost use Rattle.mesh_lines.specs.Triangles.{first_of, letter_of};
 
 use iso_base::{MeshFormat, PAD_SHIFT, Point, Thousandth};
@@ -19,6 +18,9 @@ pub enum Origin {
     Pad,
     /// The lowest point of a larger volume, of which this one is a window that begins at that point: its coordinates are added.
     Window(Point),
+    /// The lowest point of a volume within its padding, of which this one is a padded slab that begins with so many of the volume's
+    /// slices below it and no layer of padding: the ring's layer is subtracted along x and y, and the slices below are added.
+    PaddedSlab(u32),
 }
 
 /// How a mesh is written: its format, and where its coordinates are counted from.
@@ -40,6 +42,8 @@ fn printed_at(stored: u32, origin: Origin, axis: usize) -> Thousandth
         Origin::Volume => stored,
         Origin::Pad => stored - PAD_SHIFT,
         Origin::Window(at) => 1000 * i64::from([at.x, at.y, at.z][axis]) + stored,
+        Origin::PaddedSlab(below) if axis == 2 => 1000 * i64::from(below) + stored,
+        Origin::PaddedSlab(_) => stored - PAD_SHIFT,
     })
 }
 
@@ -64,15 +68,14 @@ impl Style {
         }
     }
 
-    /// Appends the line of a vertex of a window. It is a function of its own, so that what is inlined for volumes stays short.
+    /// Appends the line of a vertex of a part of a volume. It is a function of its own, so that what is inlined for volumes stays short.
     #[inline(never)]
-    fn gather_in_window(self, low: Point, at: &[u32; 3], lines: &mut Lines)
-        requires origin { self.origin ≡ Window low }
+    fn gather_in_part(self, at: &[u32; 3], lines: &mut Lines)
         requires room { length lines.old + 64 ≤ 69632 }
         ensures line { lines.new ≡ lines.old ++ vertex_line self (0, triangle_of at.now) }
         ensures few { length lines.new ≤ length lines.old + 64 }
     {
-        self.gather_printed(Origin::Window(low), at, lines);
+        self.gather_printed(self.origin, at, lines);
     }
 
     /// Puts the line of a vertex at a place behind others, under the name 0, since a line has no name in it.
@@ -86,7 +89,7 @@ impl Style {
         match self.origin {
             Origin::Volume => self.gather_printed(Origin::Volume, at, lines),
             Origin::Pad => self.gather_printed(Origin::Pad, at, lines),
-            Origin::Window(low) => self.gather_in_window(low, at, lines),
+            Origin::Window(_) | Origin::PaddedSlab(_) => self.gather_in_part(at, lines),
         }
     }
 

@@ -7,9 +7,9 @@ abbrev pub four_digits : ℕ → List ℕ
 four_digits n =
     (digit_zero + n / 1000) ∷ (digit_zero + n / 100 % 10) ∷ (digit_zero + n / 10 % 10) ∷ (digit_zero + n % 10) ∷ []
 
--- the four digits of each number below 10,000, one number behind another, and four bytes more
+-- the four digits of each number below 10,000, one number behind another, and eight bytes more
 pub record AreFours (table : List ℕ) : Type 0 where
-  pub all : length table ≡ 40004
+  pub all : length table ≡ 40008
   pub each : (n : ℕ) → n < 10000 → take 4 (drop (4 * n) table) ≡ four_digits n
 
 -- how many digits each number below 10,000 has

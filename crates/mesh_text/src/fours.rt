@@ -12,9 +12,10 @@ use crate::number::ROOM;
 use number_digits::{Digits, count_short, put_array, put_byte};
 use std::marker::Model;
 
-/// The bytes of a table of four digits a number. Behind the last number's stand four bytes more, so that four are there
-/// from each place of a number on.
-const FOURS: usize = 40_004;
+/// The bytes of a table of four digits a number. Behind the last number's stand eight bytes more, so that four are there
+/// from each place of a number on. All sizes are whole words: a struct with padding is copied in pieces, and a large
+/// one then stands twice on the stack of its maker.
+const FOURS: usize = 40_008;
 
 /// How many numbers the tables have.
 const NUMBERS: usize = 10_000;
@@ -38,7 +39,7 @@ fn put_four_digits(n: u32, room: &mut [u8], at: usize) -> usize
 
 /// Writes the table.
 fn write_fours(room: &mut [u8])
-    requires { length room.old ≡ 40004 }
+    requires { length room.old ≡ 40008 }
     ensures { AreFours room.new }
 {
     let mut at = 0;
@@ -236,7 +237,8 @@ impl Model for Fours {
 }
 
 impl Fours {
-    /// The table.
+    /// The table. Apart: with these loops in it, its caller is not seen to set all bytes, and what it makes is copied.
+    #[inline(never)]
     pub fn new() -> Fours {
         let mut bytes = [0; FOURS];
         write_fours(&mut bytes);

@@ -21,3 +21,5 @@ pub mod MeshText
 pub mod WholeMesh
 pub mod RowCentres
 pub mod RowFaces
+pub mod RowCounts
+pub mod PartTexts

@@ -10,9 +10,8 @@ use Rattle.iso_defs.specs.Grid.{Grid, point_count, is_crossing}
 use Rattle.iso_defs.specs.Rows.{row_count}
 use Rattle.iso_base.specs.Volume.{IsGrid}
 use Rattle.crossing_edges.specs.Flags.{names_in, rank}
-use Rattle.crossing_edges.proofs.FlagParts.{row_in}
 use Rattle.edge_points.specs.Rows.{RowNumbers, sums_before}
-use Rattle.flat_mesh.specs.Lattice.{IsLeveled, Leveled, heights}
+use Rattle.flat_mesh.specs.Lattice.{Leveled, heights}
 use Rattle.flat_mesh.specs.Rows.{row_start}
 use Rattle.flat_mesh.proofs.FirstNumbers.{rank_low}
 use Rattle.flat_mesh.proofs.Quiet.{quiet_rows}
@@ -57,12 +56,18 @@ quiet_row v y z near hy hz at low high =
     let d : nx * (near + ny + 2) ≡ row + nx * ny + (nx + nx) = omega (arith, a) in
     record { none = quiet_rows v y z hy hz (sym (ap r a) ∙ (low ∙ ap r b)) (sym (ap r c) ∙ (high ∙ ap r d)) }
 
+-- the points of the rows up to one
+pub few_points : (g : Grid) (row : ℕ) → IsGrid g → row < row_count g → g.nx * row + g.nx ≤ 160000000
+few_points g row is h =
+    let k : g.nx * suc row ≤ g.nx * row_count g = mul-le-mul_left g.nx h in
+    let m : g.nx * suc row ≡ g.nx * row + g.nx = omega arith in
+    let c : g.nx * row_count g ≡ point_count g = omega arith in
+    let count = is.count in
+    omega arith
+
 pub total_low : (v : Leveled) (total row : ℕ) → IsGrid v.grid → row < row_count v.grid → total ≡ rank v.grid (heights v) (3 * (v.grid.nx * row)) → total + 3 * v.grid.nx < 2 ^ 32
 total_low v total row is h e =
-    let k : v.grid.nx * suc row ≤ v.grid.nx * row_count v.grid = mul-le-mul_left v.grid.nx h in
-    let m : v.grid.nx * suc row ≡ v.grid.nx * row + v.grid.nx = omega arith in
-    let c : v.grid.nx * row_count v.grid ≡ point_count v.grid = omega arith in
-    let count = is.count in
+    let few = few_points v.grid row is h in
     let low = rank_low v.grid (heights v) (3 * (v.grid.nx * row)) in
     omega (arith, e)
 
@@ -124,18 +129,6 @@ row_low g y z hy hz =
     let k : g.ny * suc z ≤ g.ny * g.nz = mul-le-mul_left g.ny hz in
     let e : g.ny * suc z ≡ g.ny * z + g.ny = omega arith in
     omega arith
-
--- a row of points lies in the grid
-row_fits : (v : Leveled) (y z : ℕ) → y < v.grid.ny → z < v.grid.nz → row_start v.grid y z + v.grid.nx ≤ point_count v.grid
-row_fits v y z hy hz = row_in v.grid (y + v.grid.ny * z) (row_low v.grid y z hy hz)
-
--- the numbers of the edges of a row
-pub before_low : (v : Leveled) (y z before : ℕ) → IsLeveled v → y < v.grid.ny → z < v.grid.nz → before ≡ rank v.grid (heights v) (3 * row_start v.grid y z) → before + 3 * v.grid.nx < 2 ^ 32
-before_low v y z before is hy hz start =
-    let fits = row_fits v y z hy hz in
-    let count = is.grid.count in
-    let low = rank_low v.grid (heights v) (3 * row_start v.grid y z) in
-    omega (arith, start)
 
 -- where a row of points stands
 pub record RowAt (v : Leveled) (row y z : ℕ) : Type 0 where

@@ -53,7 +53,7 @@ maps_agree f g [] each = refl
 maps_agree f g (x ∷ xs) each = ap₂ (λ y ys. y ∷ ys) (each 0 0 (omega arith)) (maps_agree f g xs (All-tail (λ x. f x ≡ g x) x xs each))
 
 -- triangles whose corners' texts stand in some slots
-joined_count : (faces : List (List ℕ)) → All (λ t. length t ≡ 3) faces → length (concat faces) ≡ 3 * length faces
+pub joined_count : (faces : List (List ℕ)) → All (λ t. length t ≡ 3) faces → length (concat faces) ≡ 3 * length faces
 joined_count [] three = refl
 joined_count (t ∷ ts) three =
     omega (arith, length-append t (concat ts), three 0 [] (omega arith), joined_count ts (All-tail (λ t. length t ≡ 3) t ts three))

@@ -164,6 +164,7 @@ fn write_row<R: MeshRows, K: Sink>(
 }
 
 /// Puts the lines of all centres behind the others.
+#[inline(never)]
 pub fn write_centres<R: MeshRows, K: Sink>(
     rows: &mut R,
     walk: Walk<'_>,

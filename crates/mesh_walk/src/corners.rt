@@ -1,9 +1,9 @@
-//! The slots of the corners of the triangles of a row of cells, and those of its centres, each in one list. No branch rests on the case
+//! The slots of the corners of the triangles of a row of cells, and those of its centres, each in one list.
 //!
 //! A loop over the triangles of each cell ends after a number of turns that a processor guesses wrongly once a cell. So
 //! the slots of all corners of a row are laid into one list, by as many steps for each cell as the longest case needs,
-//! and one loop goes over the row's triangles.
-/// of a cell: as many slots are written for each, and the next cell's go over those that are too many.
+//! and one loop goes over the row's triangles. No branch rests on the case of a cell: as many slots are written for each,
+//! and the next cell's go over those that are too many.
 ghost use Rattle.std.specs.Prelude.{◌≡◌, ℕ, ◌+◌, ◌*◌, ◌%◌, ◌<◌, ◌≤◌, ◌++◌, drop, length, map, slice_index, take};
 ghost use Rattle.case_faces.specs.Faces.{all_corners};
 ghost use Rattle.mesh_walk.specs.Listed.{AreLow, HasCorners, HaveCorners, centre_slots_to, corner_slots_to};

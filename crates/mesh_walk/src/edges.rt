@@ -161,6 +161,7 @@ fn write_row<R: MeshRows, K: Sink>(
 }
 
 /// Puts the lines of the vertices on all crossing edges behind the others.
+#[inline(never)]
 pub fn write_edges<R: MeshRows, K: Sink>(
     rows: &mut R,
     walk: Walk<'_>,

@@ -161,6 +161,7 @@ fn write_row<R: MeshRows, K: Sink>(
 }
 
 /// Puts the lines of all triangles behind the others.
+#[inline(never)]
 pub fn write_faces<R: MeshRows, K: Sink>(
     rows: &mut R,
     walk: Walk<'_>,

@@ -1,5 +1,5 @@
-//! The text of the mesh of a volume at a level, written while its rows are walked: the mesh is never held, and no memory is
-//! taken.
+//! The text of the mesh of a volume at a level, or of the part that its lowest slices have, written while its rows are
+//! walked: the mesh is never held, and no memory is taken.
 #![tactic(auto)]
 
 mod cells;
@@ -7,6 +7,7 @@ mod centres;
 mod corners;
 mod edges;
 mod faces;
+mod parts;
 mod places;
 mod ranks;
 mod slots;
@@ -14,4 +15,7 @@ mod texts;
 mod walk;
 mod write;
 
+pub use parts::{PartCounts, count_part, write_part_centres, write_part_edges, write_part_faces};
+pub use ranks::rank_rows;
+pub use walk::{Numbering, Walk};
 pub use write::write_mesh;

@@ -113,7 +113,9 @@ impl PointRow {
     }
 }
 
-/// Puts the lines of the vertices on all crossing edges behind the others. `signs` and `flags` are buffers.
+/// Puts the lines of the vertices on all crossing edges behind the others. `signs` and `flags` are buffers. Its own ones lie
+/// where those that made the block lay.
+#[inline(never)]
 fn write_rows<S: Samples, K: Sink>(
     rows: &EdgeRows<'_, S>,
     signs: &mut SliceSigns,

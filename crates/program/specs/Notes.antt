@@ -79,18 +79,22 @@ mesh_fault_text meshes.Memory = codes "memory"
 
 -- ---- the note of an answer
 
--- the line of a note
-abbrev pub note_line : List ℕ → List ℕ
-note_line text = line (codes "isobench: " ++ text)
+-- the line of a note of the program of this name
+abbrev pub note_line : List ℕ → List ℕ → List ℕ
+note_line name text = line (name ++ (codes ": " ++ text))
 
-unfoldable pub note_of : Answer → List ℕ
-note_of answers.Done = []
-note_of answers.MeshRefused = []
-note_of answers.BadWords = note_line (codes "bad words")
-note_of (answers.BadVolume fault) = note_line (volume_fault_text fault)
-note_of answers.InputFault = note_line (codes "input fault")
-note_of answers.InputTooLong = note_line (codes "input too long")
-note_of answers.OutputFault = note_line (codes "output fault")
-note_of answers.Memory = note_line (codes "memory")
-note_of answers.ShelfFault = note_line (codes "shelf fault")
-note_of (answers.BadMesh fault) = note_line (mesh_fault_text fault)
+unfoldable pub note_by : List ℕ → Answer → List ℕ
+note_by name answers.Done = []
+note_by name answers.MeshRefused = []
+note_by name answers.BadWords = note_line name (codes "bad words")
+note_by name (answers.BadVolume fault) = note_line name (volume_fault_text fault)
+note_by name answers.InputFault = note_line name (codes "input fault")
+note_by name answers.InputTooLong = note_line name (codes "input too long")
+note_by name answers.OutputFault = note_line name (codes "output fault")
+note_by name answers.Memory = note_line name (codes "memory")
+note_by name answers.ShelfFault = note_line name (codes "shelf fault")
+note_by name (answers.BadMesh fault) = note_line name (mesh_fault_text fault)
+
+-- that of the workbench
+abbrev pub note_of : Answer → List ℕ
+note_of answer = note_by (codes "isobench") answer

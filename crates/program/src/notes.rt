@@ -2,7 +2,7 @@
 
 ghost use Rattle.std.specs.Prelude.{◌≡◌, ◌+◌, ◌++◌, ◌≤◌, codes, length};
 ghost use Rattle.arrayvec.specs.ArrayString.{array_string_len};
-ghost use Rattle.program.specs.Notes.{encoding_name, field_name, mesh_fault_text, note_line, note_of, nrrd_fault_text, size_fault_text, volume_fault_text};
+ghost use Rattle.program.specs.Notes.{encoding_name, field_name, mesh_fault_text, note_by, note_line, note_of, nrrd_fault_text, size_fault_text, volume_fault_text};
 ghost use Rattle.program.specs.Tries.{Tries};
 
 use crate::answer::{Answer, VolumeFault};
@@ -144,66 +144,83 @@ fn put_mesh(fault: MeshFault, into: &mut ArrayString<128>)
     }
 }
 
-/// The front of each note.
-fn front_of_note() -> ArrayString<128>
-    ensures text { result.bytes ≡ codes "isobench: " }
-    ensures room { array_string_len result ≡ 10 }
+/// The name that the notes of the workbench begin with.
+const WORKBENCH: &str = "isobench";
+
+/// The front of each note of the program of this name.
+fn front_of_note(name: &str) -> ArrayString<128>
+    requires { length name.now ≤ 8 }
+    ensures text { result.bytes ≡ name.now ++ codes ": " }
+    ensures room { array_string_len result ≤ 10 }
 {
     let mut text = ArrayString::new();
-    text.push_str("isobench: ");
+    text.push_str(name);
+    text.push_str(": ");
     text
 }
 
-fn line_of(words: &str) -> ArrayString<128>
-    requires { length words.now ≤ 20 }
-    ensures { result.bytes ≡ note_line words.now }
+fn line_of(name: &str, words: &str) -> ArrayString<128>
+    requires name { length name.now ≤ 8 }
+    requires words { length words.now ≤ 20 }
+    ensures { result.bytes ≡ note_line name.now words.now }
 {
-    let mut text = front_of_note();
+    let mut text = front_of_note(name);
     text.push_str(words);
     text.push('\n');
     text
 }
 
-fn volume_line(fault: VolumeFault) -> ArrayString<128>
-    ensures { result.bytes ≡ note_line (volume_fault_text fault) }
+fn volume_line(name: &str, fault: VolumeFault) -> ArrayString<128>
+    requires { length name.now ≤ 8 }
+    ensures { result.bytes ≡ note_line name.now (volume_fault_text fault) }
 {
-    let mut text = front_of_note();
+    let mut text = front_of_note(name);
     put_volume(fault, &mut text);
     text.push('\n');
     text
 }
 
-fn mesh_line(fault: MeshFault) -> ArrayString<128>
-    ensures { result.bytes ≡ note_line (mesh_fault_text fault) }
+fn mesh_line(name: &str, fault: MeshFault) -> ArrayString<128>
+    requires { length name.now ≤ 8 }
+    ensures { result.bytes ≡ note_line name.now (mesh_fault_text fault) }
 {
-    let mut text = front_of_note();
+    let mut text = front_of_note(name);
     put_mesh(fault, &mut text);
     text.push('\n');
     text
 }
 
-#[tactic(auto, unfolding(crate::specs::Notes::note_of))]
-fn note_of(answer: Answer) -> ArrayString<128>
-    ensures { result.bytes ≡ note_of answer }
+#[tactic(auto, unfolding(crate::specs::Notes::note_by))]
+fn note_by(name: &str, answer: Answer) -> ArrayString<128>
+    requires { length name.now ≤ 8 }
+    ensures { result.bytes ≡ note_by name.now answer }
 {
     match answer {
         Answer::Done | Answer::MeshRefused => ArrayString::new(),
-        Answer::BadWords => line_of("bad words"),
-        Answer::BadVolume(fault) => volume_line(fault),
-        Answer::InputFault => line_of("input fault"),
-        Answer::InputTooLong => line_of("input too long"),
-        Answer::OutputFault => line_of("output fault"),
-        Answer::Memory => line_of("memory"),
-        Answer::ShelfFault => line_of("shelf fault"),
-        Answer::BadMesh(fault) => mesh_line(fault),
+        Answer::BadWords => line_of(name, "bad words"),
+        Answer::BadVolume(fault) => volume_line(name, fault),
+        Answer::InputFault => line_of(name, "input fault"),
+        Answer::InputTooLong => line_of(name, "input too long"),
+        Answer::OutputFault => line_of(name, "output fault"),
+        Answer::Memory => line_of(name, "memory"),
+        Answer::ShelfFault => line_of(name, "shelf fault"),
+        Answer::BadMesh(fault) => mesh_line(name, fault),
     }
 }
 
-/// Appends the line that says why the program ends, or nothing where it is done or the mesh is refused.
+/// Appends the line that says why the program of this name ends, or nothing where it is done or the mesh is refused.
 /// Where the sink fails, a front of the line was taken, and no one is told.
+pub fn put_note_by<N: Sink>(notes: &mut N, name: &str, answer: &Answer)
+    requires { length name.now ≤ 8 }
+    ensures { Tries (N.seen notes.old) (N.seen notes.new) (note_by name.now answer.now) }
+{
+    // No one is told where the sink fails.
+    let _ = write_all_of(notes, note_by(name, *answer).as_str().as_bytes());
+}
+
+/// As `put_note_by`, with the name of the workbench.
 pub fn put_note<N: Sink>(notes: &mut N, answer: &Answer)
     ensures { Tries (N.seen notes.old) (N.seen notes.new) (note_of answer.now) }
 {
-    // No one is told where the sink fails.
-    let _ = write_all_of(notes, note_of(*answer).as_str().as_bytes());
+    put_note_by(notes, WORKBENCH, answer);
 }

@@ -1,13 +1,13 @@
 //! A program over the standard streams.
 
-ghost use Rattle.std.specs.Prelude.{◌≡◌, ℕ, List, map, string_bytes};
+ghost use Rattle.std.specs.Prelude.{◌≡◌, ◌≤◌, ℕ, List, length, map, string_bytes};
 ghost use Rattle.std.specs.Process.{exit_status};
 ghost use Rattle.program.specs.Status.{number_of};
 ghost use Rattle.program.specs.declared.answer.Status.{Status};
 ghost use Rattle.program.specs.Ending.{ExitsBy, Given, MayEnd};
 
 use crate::answer::{Answer, Status};
-use crate::notes::put_note;
+use crate::notes::put_note_by;
 use crate::words::given_words;
 use byte_streams::{Sink, Source, StdSink, StdSource};
 use std::alloc::AllocError;
@@ -18,6 +18,10 @@ use std::process::ExitCode;
 /// What a program does. It says by which statuses it may end on some words.
 pub trait Program {
     ghost ends: { Self → List (List ℕ) → Status → Type 0 };
+
+    /// The name that its notes begin with.
+    fn name(&self) -> &'static str
+        ensures { length result.now ≤ 8 };
 
     /// Does what the words ask for, which do not hold the program's name, and says by which status it ends.
     fn run<S: Source, K: Sink, N: Sink>(
@@ -39,10 +43,11 @@ fn exit_code(status: Status) -> ExitCode
 }
 
 /// Says on the standard error that memory could not be had for the words.
-fn without_words(rt: &HostRuntime) -> Status
+fn without_words(rt: &HostRuntime, name: &str) -> Status
+    requires { length name.now ≤ 8 }
     ensures { result ≡ Status.Memory }
 {
-    put_note(&mut StdSink::new(rt.stderr()), &Answer::Memory);
+    put_note_by(&mut StdSink::new(rt.stderr()), name, &Answer::Memory);
     Status::Memory
 }
 
@@ -62,7 +67,7 @@ fn status_on<P: Program>(rt: &HostRuntime, program: &P, given: io::Result<Args>)
 {
     match given_words(rt.alloc(), given) {
         Ok(words) => run_words(rt, program, &words),
-        Err(AllocError) => without_words(rt),
+        Err(AllocError) => without_words(rt, program.name()),
     }
 }
 

@@ -11,7 +11,8 @@ use std::alloc::Global;
 use std::process::Abort;
 use std::test::Fail;
 
-fn is_small(value: &i64) -> bool
+/// Whether a number can be a sample, as those of these tests are.
+pub fn is_small(value: &i64) -> bool
     ensures { IsTrue result → IsSample value.now }
 {
     value.unsigned_abs() < 1000

@@ -32,6 +32,8 @@ mod reports;
 #[cfg(test)]
 mod signs;
 #[cfg(test)]
+mod slabs;
+#[cfg(test)]
 mod texts;
 #[cfg(test)]
 mod verdicts;

@@ -22,6 +22,10 @@ use number_digits::{Counted, Digits};
 use packed_samples::PackedRun;
 use samples::Packed;
 
+/// So many bytes of stack are taken to write a file in print, beyond the buffers of `write_printed`, which are in its own
+/// frame: those of `Fours::new`. `tools/measure_stack.py` finds whether they are enough.
+const STACK_BYTES: usize = 120_000;
+
 /// The most samples in the rows that bricks have of a plane: nine rows of 1,026.
 const HELD_SAMPLES: usize = 9_234;
 
@@ -317,7 +321,7 @@ fn write_printed<H: Shelf>(
 {
     // Reading the sizes brings in what is true of every volume.
     let _ = store.sizes();
-    write_file::<_, _, 0>(shelf, name, &mut PrintedText { store, hex })
+    write_file::<_, _, STACK_BYTES>(shelf, name, &mut PrintedText { store, hex })
 }
 
 /// Makes the name's file the volume without its pad as lines of numbers, and says how many bytes it has. `Failed` comes

@@ -27,8 +27,8 @@ returns g c =
             asked_and_served _ _ answer HasBadMesh ends (not_rejected _ answer _ s (λ x. absurd cc)) (λ r h. why_bad_mesh r _ answer s h);
         mesh_refused = λ e. let s = sym c.status.ensures ∙ e in
             asked_and_served _ _ answer HasBrokenMesh ends (not_rejected _ answer _ s (λ x. absurd cc)) (λ r h. why_mesh_refused r _ answer s h);
-        headline = λ level pad format asked e. headline _ _ answer level pad format ends asked (sym c.status.ensures ∙ e);
-        session_headline = λ level pad name bricks pages asked. session_headline _ _ answer _ level pad name bricks pages ends c.status.ensures asked;
+        headline = λ options level pad format are asked e. headline _ options _ answer level pad format ends are asked (sym c.status.ensures ∙ e);
+        session_headline = λ options level pad name bricks pages are asked. session_headline _ options _ answer _ level pad name bricks pages ends c.status.ensures are asked;
         soak_headline = λ seed asked. soak_headline _ _ _ answer seed ends c.status.ensures asked;
         economy = λ level pad name bricks pages asked. economy _ _ answer level pad name bricks pages ends asked;
         soak_economy = λ seed asked. soak_economy _ _ _ answer seed ends c.status.ensures asked;

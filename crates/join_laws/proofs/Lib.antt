@@ -1,0 +1,5 @@
+pub mod PartTexts
+pub mod SlabLines
+pub mod PartSlabs
+pub mod Joined
+pub mod GivenFiles

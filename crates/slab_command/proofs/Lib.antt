@@ -1,0 +1,5 @@
+pub mod Samples
+pub mod InPad
+pub mod Outputs
+pub mod Served
+pub mod Given
