@@ -65,12 +65,8 @@ fn origin_of(slab: Slab) -> Origin
 fn style_of(slab: Slab, format: TwoWayFormat) -> Style
     ensures { result ≡ style_of slab format }
 {
-    let format = match format {
-        TwoWayFormat::Ply => MeshFormat::Ply,
-        TwoWayFormat::Obj => MeshFormat::Obj,
-    };
     Style {
-        format,
+        format: MeshFormat::from(format),
         origin: origin_of(slab),
     }
 }
