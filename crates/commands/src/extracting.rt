@@ -16,7 +16,7 @@ use iso_io::{Failed, Sink, Source};
 use list_mesh::ListMesh;
 use mesh_lines::{Origin, Style};
 use mesh_text::TwoWayFormat;
-use nrrd_read::{FileVolume, RawVolume, read_file_volume};
+use nrrd_read::{RawVolume, read_file_volume};
 use program::Answer;
 use raw_samples::with_samples;
 use samples::Samples;
@@ -166,13 +166,10 @@ fn extract_bytes<K: Sink>(
         (K.seen output.new) result }
     ensures surface { result ≡ answers.Done → IsMeshWatertight asked.level asked.pad bytes.items }
 {
-    let read = match read_file_volume(alloc, &bytes) {
-        Ok((FileVolume::Raw(raw), _)) => return extract_raw(alloc, asked, &raw, output),
-        Ok((FileVolume::Read(read), _)) => read,
-        Err(fault) => return Answer::from(NoVolume::from(fault)),
-    };
-    drop(bytes);
-    extract_raw(alloc, asked, &read.raw(), output)
+    match read_file_volume(alloc, bytes) {
+        Ok((volume, _)) => extract_raw(alloc, asked, &volume.raw(), output),
+        Err(fault) => Answer::from(NoVolume::from(fault)),
+    }
 }
 
 /// Writes the mesh of the volume in the input, which is never held. Raw samples stay in the bytes of the file, with a pad and

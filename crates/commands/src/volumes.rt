@@ -10,7 +10,7 @@ use brick_store::BrickStore;
 use command_terms::{NoVolume, VOLUME_LIMIT};
 use iso_base::{Level, SampleKind, Sizes};
 use iso_io::Shelf;
-use nrrd_read::{FileVolume, RawVolume, read_file_volume};
+use nrrd_read::{RawVolume, read_file_volume};
 use padded_samples::Padded;
 use program::{Answer, VolumeFault};
 use raw_samples::with_samples;
@@ -117,13 +117,10 @@ pub fn bricks_in(
     ensures above { IfOk result (λ v. begin_fault v.pad level ≡ None) }
     ensures fault { IfErr result (IsNoVolume pad level bytes.items) }
 {
-    let read = match read_file_volume(alloc, &bytes) {
-        Ok((FileVolume::Raw(raw), _)) => return bricks_of_raw(alloc, &raw, pad, level),
-        Ok((FileVolume::Read(read), _)) => read,
-        Err(fault) => return Err(NoVolume::from(fault)),
-    };
-    drop(bytes);
-    bricks_of_raw(alloc, &read.raw(), pad, level)
+    match read_file_volume(alloc, bytes) {
+        Ok((volume, _)) => bricks_of_raw(alloc, &volume.raw(), pad, level),
+        Err(fault) => Err(NoVolume::from(fault)),
+    }
 }
 
 /// The volume of a file of the shelf, in bricks.

@@ -12,6 +12,6 @@ mod meaning;
 mod volume;
 
 pub use encoding::Encoding;
-pub use raw_samples::{InBytes, RawSamples, RawVolume, ReadVolume, SampleFormat};
+pub use raw_samples::{FileVolume, InBytes, RawSamples, RawVolume, SampleFormat};
 pub use refusals::{EncodingWord, Field, NrrdFault};
-pub use volume::{FileVolume, read_file_volume, read_volume};
+pub use volume::{read_file_volume, read_volume};

@@ -8,7 +8,7 @@ use crate::texts::put_points;
 use byte_streams::{Failed, Sink};
 use crossing_edges::EdgeRows;
 use iso_base::{Level, Memory};
-use nrrd_read::{FileVolume, NrrdFault, RawVolume, read_file_volume};
+use nrrd_read::{NrrdFault, RawVolume, read_file_volume};
 use raw_samples::with_samples;
 use samples::Samples;
 use std::alloc::Global;
@@ -58,11 +58,6 @@ pub fn put_points_of_file<K: Sink>(
     ensures fault { IfErr result (λ fault. Fails fault (nrrd_of bytes.items)) }
     ensures nothing { IfErr result (λ _. K.seen sink.new ≡ K.seen sink.old) }
 {
-    let (volume, _) = read_file_volume(alloc, &bytes)?;
-    let read = match volume {
-        FileVolume::Raw(raw) => return Ok(put_points_of_raw(alloc, &raw, level, sink)?),
-        FileVolume::Read(read) => read,
-    };
-    drop(bytes);
-    Ok(put_points_of_raw(alloc, &read.raw(), level, sink)?)
+    let (volume, _) = read_file_volume(alloc, bytes)?;
+    Ok(put_points_of_raw(alloc, &volume.raw(), level, sink)?)
 }

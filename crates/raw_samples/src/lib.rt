@@ -3,14 +3,14 @@
 //! Why: DECISIONS.md, "A type for each kind and byte order".
 #![tactic(auto)]
 
+mod file_volume;
 mod in_bytes;
 mod kinds;
 mod raw;
-mod read;
 mod sample_format;
 
+pub use file_volume::FileVolume;
 pub use in_bytes::InBytes;
 pub use kinds::RawSamples;
 pub use raw::RawVolume;
-pub use read::ReadVolume;
 pub use sample_format::SampleFormat;

@@ -14,7 +14,7 @@ use samples::Samples;
 use std::alloc::{AllocError, Global};
 use std::marker::Model;
 
-/// A volume in bytes, those of its file or of a `ReadVolume`: the samples stay there, and each is read when it is asked for.
+/// A volume in bytes that are lent, as those of a `FileVolume`: the samples stay there, and each is read when it is asked for.
 /// They are listed with x fastest and z slowest.
 #[derive(Drop)]
 pub struct RawVolume<'a> {

@@ -3,8 +3,8 @@
 use iso_base::{SampleKind, Sizes, VoxelData};
 use iso_io::{Failed, MemSink};
 use nrrd::{
-    FileVolume, NrrdFault, RawSamples, RawVolume, put_coded_head, put_nrrd_head, put_samples,
-    read_file_volume, read_volume,
+    NrrdFault, RawSamples, RawVolume, put_coded_head, put_nrrd_head, put_samples, read_file_volume,
+    read_volume,
 };
 use nrrd_text::{put_hex, put_text, read_hex, read_hex_bytes, read_text, read_text_bytes};
 use samples::Samples;
@@ -88,28 +88,25 @@ fn check_raw(rt: &impl Abort, alloc: Global, volume: &RawVolume<'_>) -> Result<(
     check_part(rt, alloc, volume)
 }
 
+/// A file of these samples, with nothing after them.
+fn check_file(rt: &impl Abort, alloc: Global, text: &[u8]) -> Result<(), Fail> {
+    let (volume, surplus) = read_file_volume(alloc, Vec::from_slice(alloc, text)?)?;
+    assert!(rt; surplus == 0);
+    check_raw(rt, alloc, &volume.raw())
+}
+
 #[test]
 fn samples_in_the_bytes_of_a_file(rt: HostRuntime) -> Result<(), Fail> {
     let text =
         b"NRRD0001\ntype: int16\ndimension: 3\nsizes: 2 2 2\nendian: little\nencoding: raw\n\n\x01\x00\x02\x00\x03\x00\x04\x00\x05\x00\x06\x00\xff\xff\x00\x80";
-    let (volume, surplus) = read_file_volume(rt.alloc(), text)?;
-    let FileVolume::Raw(volume) = volume else {
-        return Err("raw samples stay in the file")?;
-    };
-    assert!(rt; surplus == 0);
-    check_raw(&rt, rt.alloc(), &volume)
+    check_file(&rt, rt.alloc(), text)
 }
 
 #[test]
 fn samples_in_print_lie_in_bytes(rt: HostRuntime) -> Result<(), Fail> {
     let text =
         b"NRRD0001\ntype: int16\ndimension: 3\nsizes: 2 2 2\nencoding: text\n\n1 2 3 4 5 6 -1 -32768";
-    let (volume, surplus) = read_file_volume(rt.alloc(), text)?;
-    let FileVolume::Read(volume) = volume else {
-        return Err("samples in print are read")?;
-    };
-    assert!(rt; surplus == 0);
-    check_raw(&rt, rt.alloc(), &volume.raw())
+    check_file(&rt, rt.alloc(), text)
 }
 
 /// Samples of four bytes each, the high one first, and their bytes, the low one first.

@@ -19,7 +19,7 @@ use command_terms::{NoVolume, bytes_of_input};
 use iso_base::Sizes;
 use iso_io::{Failed, Shelf, Sink, Source, write_all_of};
 use list_mesh::ListPart;
-use nrrd_read::{FileVolume, RawVolume, read_file_volume};
+use nrrd_read::{RawVolume, read_file_volume};
 use padded_samples::{Ends, PaddedSlab};
 use program::{Answer, VolumeFault};
 use raw_samples::with_samples;
@@ -218,13 +218,10 @@ fn serve_bytes<K: Sink, H: Shelf>(
     ensures { GivesOutput (slab_given job.now bytes.items)
         (H.seen shelf.old) (H.seen shelf.new) (K.seen output.old) (K.seen output.new) result }
 {
-    let read = match read_file_volume(alloc, &bytes) {
-        Ok((FileVolume::Raw(raw), _)) => return serve_raw(alloc, job, &raw, output, shelf),
-        Ok((FileVolume::Read(read), _)) => read,
-        Err(fault) => return SlabAnswer::from(NoVolume::from(fault)),
-    };
-    drop(bytes);
-    serve_raw(alloc, job, &read.raw(), output, shelf)
+    match read_file_volume(alloc, bytes) {
+        Ok((volume, _)) => serve_raw(alloc, job, &volume.raw(), output, shelf),
+        Err(fault) => SlabAnswer::from(NoVolume::from(fault)),
+    }
 }
 
 /// Counts the slab in the input, and writes its part of the mesh into files, where there are to be any; and then says what it owns.

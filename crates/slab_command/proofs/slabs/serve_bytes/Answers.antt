@@ -1,8 +1,6 @@
-use Rattle.std.proofs.Common.{◌≡◌, ◌∙◌, ℕ, Ok, ap, subst, sym}
+use Rattle.std.proofs.Common.{◌≡◌, ◌∙◌, ℕ, ap, subst, sym}
 use Rattle.std.specs.Prelude.{Result}
 use Rattle.iso_base.specs.Volume.{Voxels}
-use Rattle.nrrd_read.specs.Files.{file_voxels}
-use Rattle.nrrd_read.specs.Nrrd.{Fails, nrrd_of}
 use Rattle.list_mesh.specs.Parts.{Part}
 use Rattle.command_terms.specs.Volumes.{volume_answer, volume_refusal}
 use Rattle.slab_command.specs.Outcome.{GivesOutput}
@@ -13,20 +11,18 @@ use Rattle.slab_command.specs.declared.answer.SlabAnswer.TheVariants.{Common}
 use Rattle.slab_command.proofs.Outputs.{no_volume, read_part}
 use Rattle.slab_command.proofs.slabs.serve_bytes.Goals as goal
 
-pub returns-in-Ok-Raw-default : goal.returns-in-Ok-Raw-default
-returns-in-Ok-Raw-default g c =
-    let bytes = c.args.bytes.items in
+pub returns-in-Ok : goal.returns-in-Ok
+returns-in-Ok g c =
     let job = c.args.job.now in
     let new = c.serve_raw.new in
-    let read : Voxels × ℕ = (file_voxels c.in-Ok-Raw-default.field-0-0, c.in-Ok-Raw-default.field-0-1) in
-    let is : nrrd_of bytes ≡ Ok read = ap nrrd_of (sym c.deref.ensures.value) ∙ c.in-Ok-Raw-default.ensures in
-    let part : part_of job.slab bytes ≡ with_pad job.slab job.slab.pad c.in-Ok-Raw-default.raw
-    = read_part job.slab bytes read is ∙ ap (λ volume. with_pad job.slab job.slab.pad (file_voxels volume)) c.in-Ok-Raw-default.field-0-0-is in
+    let read : Voxels × ℕ = (c.in-Ok.volume, c.in-Ok.field-0-1) in
+    let part : part_of job.slab c.args.bytes.items ≡ with_pad job.slab job.slab.pad c.raw.result
+    = read_part job.slab c.args.bytes.items read c.in-Ok.ensures ∙ ap (with_pad job.slab job.slab.pad) (sym c.raw.ensures) in
     subst (λ (part : Result Part SlabAnswer). GivesOutput (output_by job part) (g.H.Shelf.seen c.args.shelf.now) (g.H.Shelf.seen new.shelf) (g.K.Sink.seen c.args.output.now) (g.K.Sink.seen new.output) c.serve_raw.result)
     (sym part) c.serve_raw.ensures
 
-pub returns-in-Err : goal.returns-in-Err
-returns-in-Err g c =
+pub returns : goal.returns
+returns g c =
     let bytes = c.args.bytes.items in
     let job = c.args.job.now in
     let store = g.H.Shelf.seen c.args.shelf.now in
@@ -34,17 +30,4 @@ returns-in-Err g c =
     let answer : c.from-in-Err.result ≡ Common (volume_answer (volume_refusal c.in-Err.fault))
     = c.from-in-Err.ensures ∙ ap (λ reason. Common (volume_answer reason)) c.from.ensures in
     subst (GivesOutput (slab_given job bytes) store store tape tape) (sym answer)
-    (no_volume job bytes store tape c.in-Err.fault (subst (λ bytes. Fails c.in-Err.fault (nrrd_of bytes)) c.deref.ensures.value c.in-Err.ensures))
-
-pub returns : goal.returns
-returns g c =
-    let bytes = c.args.bytes.items in
-    let job = c.args.job.now in
-    let new = c.serve_raw-2.new in
-    let read : Voxels × ℕ = (file_voxels c.in-Ok-Read-default.field-0-0, c.in-Ok-Read-default.field-0-1) in
-    let is : nrrd_of bytes ≡ Ok read = ap nrrd_of (sym c.deref.ensures.value) ∙ c.in-Ok-Read-default.ensures in
-    let part : part_of job.slab bytes ≡ with_pad job.slab job.slab.pad c.raw.result
-    = read_part job.slab bytes read is
-    ∙ ap (with_pad job.slab job.slab.pad) (ap file_voxels c.in-Ok-Read-default.field-0-0-is ∙ sym c.raw.ensures) in
-    subst (λ (part : Result Part SlabAnswer). GivesOutput (output_by job part) (g.H.Shelf.seen c.args.shelf.now) (g.H.Shelf.seen new.shelf) (g.K.Sink.seen c.args.output.now) (g.K.Sink.seen new.output) c.serve_raw-2.result)
-    (sym part) c.serve_raw-2.ensures
+    (no_volume job bytes store tape c.in-Err.fault c.in-Err.ensures)
