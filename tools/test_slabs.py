@@ -256,6 +256,25 @@ def failing_files(isoslab):
                 yield f"the output is full: {done.returncode} {done.stderr}"
 
 
+def want_of_memory(isoslab):
+    """Where memory is wanting: one status, nothing is written and no file is made, for each encoding, padded and not."""
+    case = a_case((100, 100, 60))
+    case.cuts = [0]
+
+    def limit():
+        # The program is loaded in 3 MB, and the samples of the slab take more than what is left.
+        resource.setrlimit(resource.RLIMIT_AS, (4 << 20, 4 << 20))
+
+    for case.encoding in ("raw", "text", "hex"):
+        for case.pad in (None, -20):
+            words, given = next(iter(case.slabs()))
+            for asked in (["count", *words], write_words(case, words, 0, 900_000, "x")):
+                with tempfile.TemporaryDirectory() as folder:
+                    found = ran(isoslab, asked, given, folder, limit)
+                    if found != (7, b"", b"isoslab: memory\n") or os.listdir(folder):
+                        yield f"{case.encoding} {' '.join(asked)} in little memory: {found}, files {os.listdir(folder)}"
+
+
 def of_the_script(programs):
     """What the script for one machine does in another way than it must."""
     case = a_case()
@@ -313,7 +332,7 @@ def main():
     given = arguments()
     chance = random.Random(given.seed)
     cases = [Case(chance) for _ in range(given.volumes)]
-    failures = [*refusals(given.isoslab), *failing_files(given.isoslab), *of_the_script(given)]
+    failures = [*refusals(given.isoslab), *failing_files(given.isoslab), *want_of_memory(given.isoslab), *of_the_script(given)]
     with concurrent.futures.ThreadPoolExecutor(os.cpu_count()) as pool:
         failures += [why for why in pool.map(lambda case: compare(given, case), cases) if why]
         if given.beside:

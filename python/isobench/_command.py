@@ -2,11 +2,11 @@
 from __future__ import annotations
 
 import argparse
-import os
 import sys
 import warnings
 from collections.abc import Sequence
 
+from ._endings import end_of, print_text, say
 from ._picture import draw_mesh
 from ._progress import Progress
 from ._summary import summary_of
@@ -33,35 +33,15 @@ def main(words: Sequence[str] | None = None) -> int:
         Its exit status: 0 done, 1 refused, failed or interrupted. Wrong arguments end the process with 2.
     """
     given = list(sys.argv[1:] if words is None else words)
-    try:
-        if given[:1] == ["info"]:
-            asked = _info_parser().parse_args(given[1:])
-            _print(summary_of(read_volume(asked.volume), asked.rows))
-        else:
-            _write(_mesh_parser().parse_args(given))
-        return 0
-    except (OSError, ValueError, ImportError) as fault:
-        _say(fault)
-    except MemoryError:
-        _say("out of memory: take a part of the volume, or every second sample")
-    except KeyboardInterrupt:
-        _say("interrupted")
-    return 1
+    return end_of("isomesh", lambda: _run(given), "take a part of the volume, or every second sample")
 
 
-def _say(text: object) -> None:
-    print(f"isomesh: {text}", file=sys.stderr)
-
-
-def _print(text: str) -> None:
-    """Print a text at once, so that a fault is this one's."""
-    try:
-        sys.stdout.write(text)
-        sys.stdout.flush()
-    except OSError:
-        # What is left would be tried once more when the process ends.
-        sys.stdout = open(os.devnull, "w", encoding="utf-8")
-        raise
+def _run(given: list[str]) -> None:
+    if given[:1] == ["info"]:
+        asked = _info_parser().parse_args(given[1:])
+        print_text(summary_of(read_volume(asked.volume), asked.rows))
+    else:
+        _write(_mesh_parser().parse_args(given))
 
 
 def _mesh_parser() -> argparse.ArgumentParser:
@@ -127,16 +107,16 @@ def _write(asked: argparse.Namespace) -> None:
     finally:
         progress.clear()
     for warning in noticed:
-        _say(f"warning: {warning.message}")
+        say("isomesh", f"warning: {warning.message}")
     if not asked.quiet:
         _summarize(asked, volume, mesh)
 
 
 def _summarize(asked: argparse.Namespace, volume: Volume, mesh: Mesh) -> None:
     if mesh.error:
-        _say(f"the samples were scaled to integers: each is within {mesh.error:.3g} of its value and on its side of the level")
+        say("isomesh", f"the samples were scaled to integers: each is within {mesh.error:.3g} of its value and on its side of the level")
     if not len(mesh.faces):
         array = volume.array
-        _say(f"warning: the mesh is empty: no sample is {'above' if array.max() < asked.level else 'below'} the level, "
+        say("isomesh", f"warning: the mesh is empty: no sample is {'above' if array.max() < asked.level else 'below'} the level, "
              f"and they lie between {array.min():.9g} and {array.max():.9g}")
-    _print(f"{asked.output or asked.picture}: {len(mesh.thousandths)} vertices, {len(mesh.faces)} triangles\n")
+    print_text(f"{asked.output or asked.picture}: {len(mesh.thousandths)} vertices, {len(mesh.faces)} triangles\n")

@@ -19,6 +19,7 @@ from typing import Any
 
 import numpy as np
 
+from ._endings import end_of, print_text
 from ._slab_runs import PARTS, Counts, Slab, Surface, counts_by, head_text, numbers_of, part_path, pieces_of, slabs_of, written_by
 from ._slab_sources import KNOWN, Source, mark_of, source_of
 from ._writers import in_place
@@ -88,21 +89,7 @@ def main(words: Sequence[str] | None = None) -> int:
         Its exit status: 0 done, 1 refused, failed or interrupted. Wrong arguments end the process with 2.
     """
     asked = _parser().parse_args(words)
-    try:
-        asked.run(asked)
-        sys.stdout.flush()
-        return 0
-    except (OSError, ValueError, ImportError) as fault:
-        _say(fault)
-    except MemoryError:
-        _say("out of memory: take more slabs")
-    except KeyboardInterrupt:
-        _say("interrupted")
-    return 1
-
-
-def _say(text: object) -> None:
-    print(f"isoslabs: {text}", file=sys.stderr)
+    return end_of("isoslabs", lambda: asked.run(asked), "take more slabs")
 
 
 def _parser() -> argparse.ArgumentParser:
@@ -145,7 +132,7 @@ def _plan(asked: argparse.Namespace) -> None:
     surface = Surface(level_text(asked.level), pad, asked.format)
     os.makedirs(asked.folder, exist_ok=True)
     _put(os.path.join(asked.folder, PLAN), Plan(VERSION, volume, mark_of(source), surface, slabs).text())
-    print(len(slabs))
+    print_text(f"{len(slabs)}\n")
 
 
 def _count(asked: argparse.Namespace) -> None:
@@ -154,7 +141,7 @@ def _count(asked: argparse.Namespace) -> None:
     pieces = Summed(pieces_of(plan.source(), slab))
     counts = counts_by(slab, plan.surface, pieces)
     _keep(asked.folder, slab, "counted", {"plan": plan.mark(), "counts": asdict(counts), "sum": pieces.sum})
-    sys.stdout.write(counts.line())
+    print_text(counts.line())
 
 
 def _write(asked: argparse.Namespace) -> None:
@@ -171,7 +158,7 @@ def _write(asked: argparse.Namespace) -> None:
         raise ValueError(f"slab {slab.number} is not what was counted: was {plan.volume} changed meanwhile? Make the plan again")
     lengths = {part: os.path.getsize(part_path(asked.folder, slab.number, part)) for part in PARTS}
     _keep(asked.folder, slab, "written", {"plan": plan.mark(), "counts": asdict(counts), "lengths": lengths})
-    sys.stdout.write(counts.line())
+    print_text(counts.line())
 
 
 def _join(asked: argparse.Namespace) -> None:
@@ -189,7 +176,7 @@ def _join(asked: argparse.Namespace) -> None:
     with in_place(asked.output, ending) as beside:
         put_together(beside, head_text(plan.surface, counts), parts_in(asked.folder, len(counts)), is_last_use=False)
     edges, centres, triangles = (sum(getattr(count, part) for count in counts) for part in PARTS)
-    print(f"{asked.output}: {edges + centres} vertices, {triangles} triangles")
+    print_text(f"{asked.output}: {edges + centres} vertices, {triangles} triangles\n")
 
 
 def _check_lengths(folder: str, slab: Slab, lengths: dict[str, int]) -> None:

@@ -491,6 +491,13 @@ def test_an_output_that_is_full(tmp_path):
     assert set(os.listdir("/dev")) == before
 
 
+def test_standard_output_that_takes_nothing(tmp_path):
+    words = [sys.executable, "-m", "isobench.isoslabs", "plan", nrrd_at(tmp_path / "volume.nrrd", small()), "--level", "0.5", "-o", tmp_path / "plan"]
+    with open("/dev/full", "wb") as full:
+        ran = subprocess.run(words, cwd=PYTHON, stdout=full, stderr=subprocess.PIPE, text=True, timeout=600)
+    assert (ran.returncode, ran.stderr) == (1, "isoslabs: [Errno 28] No space left on device\n")
+
+
 def test_a_pipe_takes_a_mesh(tmp_path):
     os.mkfifo(tmp_path / "mesh.ply")
     with concurrent.futures.ThreadPoolExecutor(1) as pool:
