@@ -1,31 +1,28 @@
 -- The option `--level=V` alone behind a command.
-use Rattle.std.proofs.Common.{◌≡◌, ℕ, ◌+◌, ◌≤◌, Bool, true, false, ◌&&◌, ◌||◌, cond, not, List, [], ◌∷◌, ◌++◌, length, take, drop, bytes_eq, Option, Some, None, is_some, option_map, refl, sym, ◌∙◌, ap, subst, arith}
-use Rattle.std.specs.List.{filter, list_all}
+use Rattle.std.proofs.Common.{◌≡◌, ℕ, ◌+◌, ◌≤◌, Bool, true, false, ◌||◌, cond, List, [], ◌∷◌, ◌++◌, length, take, drop, codes, bytes_eq, Option, Some, None, is_some, option_map, refl, sym, ◌∙◌, ap, subst, arith}
+use Rattle.std.specs.List.{list_all}
 use Rattle.std.proofs.lemmas.Bool.{and_parts, true≢false}
 use Rattle.std.proofs.lemmas.List.{take-append-drop}
 use Rattle.std.proofs.lemmas.Slice.Eq.{bytes_eq-Decides}
 use Rattle.text_lines.proofs.Places.{decide}
-use Rattle.arguments.specs.Words.{after_prefix, has_head, is_option, only_options, plain_words, values, is_empty, level_in, level_option, level_value, points_of, the_only}
+use Rattle.arguments.specs.Words.{after_prefix, at_most_one, has_head, level_in, level_value, points_of, values}
 use Rattle.arguments.specs.declared.request.Request.{Request}
 use Rattle.arguments.specs.declared.request.Request.TheVariants.{Points}
 use Rattle.arguments.proofs.Prefixes.{after_prefix-none}
 use Rattle.point_command.specs.Words.{level_of_option}
 
--- one value on either side of a test
-alike : (b : Bool) (request : Option Request) → cond b request request ≡ request
-alike true request = refl
-alike false request = refl
+abbrev level_option : List ℕ
+level_option = codes "--level="
 
 -- an option with the head
 with_head : (text : List ℕ) → points_of ((level_option ++ text) ∷ []) ≡ option_map Points (level_of_option (level_option ++ text))
-unfolding points_of only_options plain_words values
+unfolding points_of values
 with_head text = refl
 
 -- a text without it
 without_head : (option : List ℕ) → after_prefix level_option option ≡ None → points_of (option ∷ []) ≡ None
-unfolding points_of only_options plain_words values
-without_head option e =
-    rw e (alike (((not (is_option option) || false) && true) && is_empty (filter (λ w. not (is_option w)) (option ∷ []))) None)
+unfolding points_of values
+without_head option e = rw e refl
 
 -- the words behind `points` ask for what the one option says
 pub one_option : (option : List ℕ) → points_of (option ∷ []) ≡ option_map Points (level_of_option option)
@@ -44,14 +41,9 @@ one_option option = decide (bytes_eq (take 8 option) level_option)
 
 -- ---- more words
 
-some_head : (option : Bool) (value : Option (List ℕ)) → option ≡ true → (not option || (is_some value || false)) ≡ true → is_some value ≡ true
-some_head true (Some text) e h = refl
-some_head true None e h = h
-some_head false value e h = absurd (true≢false (sym e))
-
-option_of : (option : Bool) (word : List ℕ) (words : List (List ℕ)) → is_empty (cond (not option) (word ∷ words) words) ≡ true → (option ≡ true) × (is_empty words ≡ true)
-option_of true word words h = (refl, h)
-option_of false word words h = absurd (true≢false (sym h))
+some_head : (value : Option (List ℕ)) → (is_some value || false) ≡ true → is_some value ≡ true
+some_head (Some text) h = refl
+some_head None h = h
 
 more_value : (value : Option (List ℕ)) (texts : List (List ℕ)) (n : ℕ) → is_some value ≡ true → n ≤ length texts → (head : List ℕ) (word : List ℕ) (words : List (List ℕ))
     → after_prefix head word ≡ value → values head words ≡ texts → n + 1 ≤ length (values head (word ∷ words))
@@ -60,35 +52,32 @@ more_value (Some text) texts n some few head word words e k = rw (e, k) (omega a
 more_value None texts n some few head word words e k = absurd (true≢false (sym some))
 
 -- where all words are such options, each has a value
-each_value : (words : List (List ℕ)) → only_options (level_option ∷ []) words ≡ true → is_empty (plain_words words) ≡ true → length words ≤ length (values level_option words)
-unfolding only_options plain_words
-each_value [] h k = omega arith
-each_value (word ∷ words) h k =
-    let plain = option_of (is_option word) word (filter (λ w. not (is_option w)) words) k in
-    let both = and_parts (not (is_option word) || has_head (level_option ∷ []) word) (list_all (λ w. not (is_option w) || has_head (level_option ∷ []) w) words) h in
-    let some = some_head (is_option word) (after_prefix level_option word) plain.0 both.0 in
-    let more = more_value (after_prefix level_option word) (values level_option words) (length words) some (each_value words both.1 plain.1) level_option word words refl refl in
+each_value : (words : List (List ℕ)) → list_all (has_head (level_option ∷ [])) words ≡ true → length words ≤ length (values level_option words)
+each_value [] h = omega arith
+each_value (word ∷ words) h =
+    let both = and_parts (has_head (level_option ∷ []) word) (list_all (has_head (level_option ∷ [])) words) h in
+    let some = some_head (after_prefix level_option word) both.0 in
+    let more = more_value (after_prefix level_option word) (values level_option words) (length words) some (each_value words both.1) level_option word words refl refl in
     omega (arith, more)
 
-two_values : (texts : List (List ℕ)) → 2 ≤ length texts → the_only level_value texts ≡ None
+two_values : (texts : List (List ℕ)) → 2 ≤ length texts → at_most_one None level_value texts ≡ None
 two_values [] h = absurd (omega (arith, h))
 two_values (text ∷ []) h = absurd (omega (arith, h))
 two_values (text ∷ other ∷ texts) h = refl
 
-unless_both : (b c : Bool) (request : Option Request) → (b ≡ true → c ≡ true → request ≡ None) → cond (b && c) request None ≡ None
-unless_both true true request h = h refl refl
-unless_both true false request h = refl
-unless_both false c request h = refl
+unless : (b : Bool) (request : Option Request) → (b ≡ true → request ≡ None) → cond b request None ≡ None
+unless true request h = h refl
+unless false request h = refl
 
 -- more than one word behind `points` asks for nothing
 pub more_words : (one other : List ℕ) (words : List (List ℕ)) → points_of (one ∷ other ∷ words) ≡ None
 unfolding points_of
 more_words one other words =
     let all : List (List ℕ) = one ∷ other ∷ words in
-    unless_both (only_options (level_option ∷ []) all) (is_empty (plain_words all)) (option_map Points (level_in all))
-    (λ h k. let each = each_value all h k in ap (option_map Points) (two_values (values level_option all) (omega (arith, each))))
+    unless (list_all (has_head (level_option ∷ [])) all) (option_map Points (level_in all))
+    (λ h. let each = each_value all h in ap (option_map Points) (two_values (values level_option all) (omega (arith, each))))
 
 -- and so does none
 pub no_words : points_of [] ≡ None
-unfolding points_of only_options plain_words values
+unfolding points_of values
 no_words = refl

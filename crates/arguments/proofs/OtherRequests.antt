@@ -2,7 +2,7 @@
 use Rattle.std.proofs.Common.{◌≡◌, ℕ, Bool, true, false, cond, List, [], ◌∷◌, Option, Some, None, option_map, refl}
 use Rattle.text_lines.specs.Parts.{◌>>=◌}
 use Rattle.text_lines.specs.Numbers.{whole_of}
-use Rattle.arguments.specs.Words.{plain_words, bricks_in, check_of, extract_of, format_in, format_value, gen_by, gen_of, level_in, name_value, pad_in, pages_in, session_of, sizes_in, soak_of, the_only}
+use Rattle.arguments.specs.Words.{at_most_one, plain_words, bricks_in, check_of, extract_of, format_in, format_value, gen_by, gen_of, level_in, name_value, pad_in, pages_in, session_of, sizes_in, soak_of}
 use Rattle.arguments.specs.declared.request.Request.{Request}
 use Rattle.arguments.specs.declared.request.Request.TheVariants.{Check, Points, Soak}
 
@@ -23,20 +23,24 @@ chosen : (b : Bool) (request : Option Request) → is_points request ≡ false �
 chosen true request h = h
 chosen false request h = refl
 
+not_chosen : (b : Bool) (request : Option Request) → is_points request ≡ false → is_points (cond b None request) ≡ false
+not_chosen true request h = refl
+not_chosen false request h = h
+
 pub extract_asks : (words : List (List ℕ)) → is_points (extract_of words) ≡ false
 unfolding extract_of
 extract_asks words =
-    chosen _ _ (bound (level_in words) _ (λ level. bound (pad_in words) _ (λ pad. bound (format_in words) _ (λ format. refl))))
+    not_chosen _ _ (bound (level_in words) _ (λ level. bound (pad_in words) _ (λ pad. bound (format_in words) _ (λ format. refl))))
 
 pub session_asks : (words : List (List ℕ)) → is_points (session_of words) ≡ false
 unfolding session_of
 session_asks words =
-    chosen _ _ (bound (the_only name_value (plain_words words)) _ (λ name. bound (level_in words) _ (λ level. bound (pad_in words) _ (λ pad.
+    chosen _ _ (bound (at_most_one None name_value (plain_words words)) _ (λ name. bound (level_in words) _ (λ level. bound (pad_in words) _ (λ pad.
     bound (bricks_in words) _ (λ bricks. bound (pages_in words) _ (λ pages. refl))))))
 
 pub check_asks : (words : List (List ℕ)) → is_points (check_of words) ≡ false
 unfolding check_of
-check_asks words = chosen _ _ (mapped (the_only format_value (plain_words words)) Check (λ format. refl))
+check_asks words = chosen _ _ (mapped (at_most_one None format_value (plain_words words)) Check (λ format. refl))
 
 generated : (words : List (List ℕ)) → is_points (gen_by words) ≡ false
 generated [] = refl
@@ -48,4 +52,4 @@ gen_asks words = chosen _ _ (generated words)
 
 pub soak_asks : (words : List (List ℕ)) → is_points (soak_of words) ≡ false
 unfolding soak_of
-soak_asks words = chosen _ _ (mapped (the_only whole_of (plain_words words)) Soak (λ seed. refl))
+soak_asks words = chosen _ _ (mapped (at_most_one None whole_of (plain_words words)) Soak (λ seed. refl))

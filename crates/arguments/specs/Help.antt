@@ -36,7 +36,7 @@ help_lines =
     codes "check    reads a mesh text and writes whether it is a surface:" ∷
     codes "             isobench check ply < corner.ply" ∷
     codes "gen      reads nothing and writes the volume of a seed, in these sizes:" ∷
-    codes "             isobench gen 1 64 64 64 > noise.nrrd" ∷
+    codes "             isobench gen 1 64 64 64 > blocks.nrrd" ∷
     codes "soak     reads nothing, runs the script of a seed as a session does and writes" ∷
     codes "         ten of its replies, and the file soak.ply:" ∷
     codes "             isobench soak 7" ∷

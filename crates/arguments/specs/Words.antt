@@ -1,5 +1,5 @@
 -- What the words of a command line ask for.
-use Rattle.std.specs.Prelude.{◌≡◌, ◌==◌, ◌||◌, not, Bool, false, if◌then◌else◌, ℕ, ◌≤◌, List, [], ◌∷◌, length, filter, Option, Some, None, is_some, ◌&&◌, nat_le, nat_lt, int_le, true, codes, bytes_eq, Result, Ok, Err, ℤ, pos, negsuc, unsigned_abs, IfSome}
+use Rattle.std.specs.Prelude.{◌≡◌, ◌==◌, ◌||◌, not, Bool, false, if◌then◌else◌, ℕ, ◌≤◌, List, [], ◌∷◌, length, filter, Option, Some, None, is_some, ◌&&◌, nat_le, nat_lt, int_le, codes, bytes_eq, Result, Ok, Err, ℤ, pos, negsuc, unsigned_abs, IfSome}
 use Rattle.std.specs.List.{filter_map, list_any, list_all}
 use Rattle.iso_defs.specs.Bytes.{minus}
 use Rattle.arguments.specs.declared.options.Found.{Found}
@@ -53,11 +53,9 @@ IsFound Again texts = 2 ≤ length texts
 -- ---- values
 
 -- a level number within the limit, in thousandths
-abbrev pub as_level : ℤ → Option ℤ
-as_level z = if nat_lt (unsigned_abs z) level_limit then Some z else None
-
 abbrev pub level_value : List ℕ → Option ℤ
-level_value text = option_and_then as_level (level_number_of text)
+level_value text =
+    option_and_then (λ z. if nat_lt (unsigned_abs z) level_limit then Some z else None) (level_number_of text)
 
 -- a number from -2^31 to 2^32 - 1
 abbrev pub as_pad : ℤ → Option ℤ
@@ -83,85 +81,53 @@ name_value text = if is_name text then Some text else None
 
 -- ---- how often
 
--- the value of the only text, which must be there
-abbrev pub the_only : {A : Type 0} → (List ℕ → Option A) → List (List ℕ) → Option A
-the_only value [] = None
-the_only value (text ∷ []) = value text
-the_only value (text ∷ other ∷ texts) = None
-
--- the value of the only text, or of none
-abbrev pub at_most_one : {A : Type 0} → A → (List ℕ → Option A) → List (List ℕ) → Option A
-at_most_one none value [] = Some none
-at_most_one none value (text ∷ []) = value text
-at_most_one none value (text ∷ other ∷ texts) = None
-
--- whether there is none
-abbrev pub is_empty : List (List ℕ) → Bool
-is_empty [] = true
-is_empty (text ∷ texts) = false
+-- the value of the only text, and this where there is no text
+abbrev pub at_most_one : {A : Type 0} → Option A → (List ℕ → Option A) → List (List ℕ) → Option A
+at_most_one without value [] = without
+at_most_one without value (text ∷ []) = value text
+at_most_one without value _ = None
 
 -- ---- options
 
-abbrev pub level_option : List ℕ
-level_option = codes "--level="
-
-abbrev pub pad_option : List ℕ
-pad_option = codes "--pad="
-
-abbrev pub format_option : List ℕ
-format_option = codes "--format="
-
-abbrev pub bricks_option : List ℕ
-bricks_option = codes "--bricks="
-
-abbrev pub pages_option : List ℕ
-pages_option = codes "--pages="
-
 -- the level is required
 abbrev pub level_in : List (List ℕ) → Option ℤ
-level_in words = the_only level_value (values level_option words)
+level_in words = at_most_one None level_value (values (codes "--level=") words)
 
 -- without its option there is no pad
 abbrev pub pad_in : List (List ℕ) → Option (Option ℤ)
-pad_in words = at_most_one None (λ text. option_map Some (pad_value text)) (values pad_option words)
+pad_in words = at_most_one (Some None) (λ text. option_map Some (pad_value text)) (values (codes "--pad=") words)
 
 -- without its option the form is PLY
 abbrev pub format_in : List (List ℕ) → Option TwoWayFormat
-format_in words = at_most_one Ply format_value (values format_option words)
+format_in words = at_most_one (Some Ply) format_value (values (codes "--format=") words)
 
 -- without its option 4,096 bricks keep their mesh
 abbrev pub bricks_in : List (List ℕ) → Option ℕ
-bricks_in words = at_most_one 4096 (count_value 1 65536) (values bricks_option words)
+bricks_in words = at_most_one (Some 4096) (count_value 1 65536) (values (codes "--bricks=") words)
 
 -- without its option in 65,536 pages
 abbrev pub pages_in : List (List ℕ) → Option ℕ
-pages_in words = at_most_one 65536 (count_value 16 1048576) (values pages_option words)
+pages_in words = at_most_one (Some 65536) (count_value 16 1048576) (values (codes "--pages=") words)
 
 -- ---- commands, by the words that follow
 
 -- `points --level=V`
 unfoldable pub points_of : List (List ℕ) → Option Request
-points_of words =
-    if only_options (level_option ∷ []) words && is_empty (plain_words words)
-    then option_map Points (level_in words) else None
+points_of words = if list_all (has_head (codes "--level=" ∷ [])) words then option_map Points (level_in words) else None
 
 -- `extract --level=V [--pad=P] [--format=F]`
-abbrev pub extract_by : List (List ℕ) → Option Request
-extract_by words = do
-  level ← level_in words
-  pad ← pad_in words
-  format ← format_in words
-  Some (Extract level pad format)
-
 unfoldable pub extract_of : List (List ℕ) → Option Request
 extract_of words =
-    if only_options (level_option ∷ pad_option ∷ format_option ∷ []) words && is_empty (plain_words words)
-    then extract_by words else None
+    if not (list_all (has_head (codes "--level=" ∷ codes "--pad=" ∷ codes "--format=" ∷ [])) words) then None else do
+      level ← level_in words
+      pad ← pad_in words
+      format ← format_in words
+      Some (Extract level pad format)
 
 -- `session --level=V [--pad=P] [--bricks=N] [--pages=N] NAME`
 abbrev pub session_by : List (List ℕ) → Option Request
 session_by words = do
-  name ← the_only name_value (plain_words words)
+  name ← at_most_one None name_value (plain_words words)
   level ← level_in words
   pad ← pad_in words
   bricks ← bricks_in words
@@ -170,12 +136,12 @@ session_by words = do
 
 unfoldable pub session_of : List (List ℕ) → Option Request
 session_of words =
-    if only_options (level_option ∷ pad_option ∷ bricks_option ∷ pages_option ∷ []) words then session_by words
-    else None
+    if only_options (codes "--level=" ∷ codes "--pad=" ∷ codes "--bricks=" ∷ codes "--pages=" ∷ []) words
+    then session_by words else None
 
 -- `check FORMAT`
 unfoldable pub check_of : List (List ℕ) → Option Request
-check_of words = if only_options [] words then option_map Check (the_only format_value (plain_words words)) else None
+check_of words = if only_options [] words then option_map Check (at_most_one None format_value (plain_words words)) else None
 
 -- what three lengths are, where they are sizes
 abbrev pub accepted : Result Grid SizeFault → Option Grid
@@ -209,7 +175,7 @@ gen_of words = if only_options [] words then gen_by words else None
 
 -- `soak SEED`
 unfoldable pub soak_of : List (List ℕ) → Option Request
-soak_of words = if only_options [] words then option_map Soak (the_only whole_of (plain_words words)) else None
+soak_of words = if only_options [] words then option_map Soak (at_most_one None whole_of (plain_words words)) else None
 
 -- the commands
 abbrev pub commands : List (List ℕ)

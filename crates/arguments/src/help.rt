@@ -36,7 +36,7 @@ session  opens the volume in the file NAME, reads the lines of a script from
 check    reads a mesh text and writes whether it is a surface:
              isobench check ply < corner.ply
 gen      reads nothing and writes the volume of a seed, in these sizes:
-             isobench gen 1 64 64 64 > noise.nrrd
+             isobench gen 1 64 64 64 > blocks.nrrd
 soak     reads nothing, runs the script of a seed as a session does and writes
          ten of its replies, and the file soak.ply:
              isobench soak 7

@@ -10,6 +10,6 @@ mod request;
 
 pub use help::{help_text, version_text};
 pub use laws::points_words_agree;
-pub use options::{Found, only_options, plain_word, value_of};
+pub use options::{Found, are_options, only_options, plain_word, value_of};
 pub use read::{format_in, level_in, pad_in, read_words};
 pub use request::Request;

@@ -1,6 +1,7 @@
 //! Which of some words are options, and which plain words.
 
 ghost use Rattle.std.specs.Prelude.{◌≡◌, ◌++◌, ◌∷◌, [], ℕ, List, map, option_map, string_bytes};
+ghost use Rattle.std.specs.List.{list_all};
 ghost use Rattle.arguments.specs.Words.{IsFound, after_prefix, has_head, is_option, only_options, plain_words, values};
 
 /// What is found among words that may hold it once at most.
@@ -48,6 +49,18 @@ fn has_head(word: &[u8], heads: &[&[u8]]) -> bool
         }
     }
     false
+}
+
+/// Whether each word begins with one of the heads `--name=`.
+pub fn are_options(words: &[String], heads: &[&[u8]]) -> bool
+    ensures { result ≡ list_all (has_head (map (λ h. h.now) heads.now)) (map string_bytes words.now) }
+{
+    for word in words {
+        if !has_head(word.as_bytes(), heads) {
+            return false;
+        }
+    }
+    true
 }
 
 /// Whether each option has one of the heads `--name=`.

@@ -4,7 +4,7 @@ ghost use Rattle.std.specs.Prelude.{◌≡◌, ◌≤◌, map, string_bytes, IfS
 ghost use Rattle.iso_base.specs.Volume.{IsSample};
 ghost use Rattle.arguments.specs.Words.{level_value, pad_value, format_value, count_value, sizes_value, level_in, pad_in, format_in, bricks_in, pages_in, sizes_in, points_of, extract_of, session_of, check_of, gen_of, soak_of, command_of, request_of, HasSamplePad, HasCapacity};
 
-use crate::options::{Found, only_options, plain_word, value_of};
+use crate::options::{Found, are_options, only_options, plain_word, value_of};
 use crate::request::Request;
 use iso_base::{Level, Sizes};
 use mesh_text::TwoWayFormat;
@@ -156,12 +156,9 @@ fn points(words: &[String]) -> Option<Request>
     ensures pads { IfSome result HasSamplePad }
     ensures capacity { IfSome result HasCapacity }
 {
-    if !only_options(words, &[LEVEL]) {
+    if !are_options(words, &[LEVEL]) {
         return None;
     }
-    let Found::Nothing = plain_word(words) else {
-        return None;
-    };
     let level = level_in(words)?;
     Some(Request::Points { level })
 }
@@ -172,12 +169,9 @@ fn extract(words: &[String]) -> Option<Request>
     ensures pads { IfSome result HasSamplePad }
     ensures capacity { IfSome result HasCapacity }
 {
-    if !only_options(words, &[LEVEL, PAD, FORMAT]) {
+    if !are_options(words, &[LEVEL, PAD, FORMAT]) {
         return None;
     }
-    let Found::Nothing = plain_word(words) else {
-        return None;
-    };
     let level = level_in(words)?;
     let pad = pad_in(words)?;
     let format = format_in(words)?;

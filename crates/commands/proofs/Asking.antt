@@ -5,7 +5,7 @@ use Rattle.text_lines.proofs.Places.{decide}
 use Rattle.text_lines.specs.Numbers.{whole_of}
 use Rattle.text_lines.specs.Parts.{◌>>=◌}
 use Rattle.mesh_text.specs.declared.format.TwoWayFormat.{TwoWayFormat}
-use Rattle.arguments.specs.Words.{bricks_in, check_of, command_of, commands, extract_of, format_in, format_value, gen_by, gen_of, level_in, name_value, only_options, pad_in, pages_in, plain_words, points_of, request_of, session_of, sizes_in, soak_of, the_only}
+use Rattle.arguments.specs.Words.{at_most_one, bricks_in, check_of, command_of, commands, extract_of, format_in, format_value, gen_by, gen_of, level_in, name_value, only_options, pad_in, pages_in, plain_words, points_of, request_of, session_of, sizes_in, soak_of}
 use Rattle.arguments.specs.declared.request.Request.{Request}
 use Rattle.arguments.specs.declared.request.Request.TheVariants.{Check, Extract, Gen, Help, Points, Session, Soak, Version}
 use Rattle.program.specs.Questions.{asks_help, asks_version}
@@ -14,7 +14,7 @@ use Rattle.program.specs.Questions.{asks_help, asks_version}
 
 -- options that ask for something do not ask for help
 extract_help : (word : List ℕ) (r : Request) → extract_of (word ∷ []) ≡ Some r → bytes_eq word (codes "--help") ≡ false
-unfolding extract_of only_options plain_words
+unfolding extract_of
 extract_help word r e = decide (bytes_eq word (codes "--help"))
     (λ t. absurd (let same : extract_of (codes "--help" ∷ []) ≡ Some r = subst (λ (w : List ℕ). extract_of (w ∷ []) ≡ Some r) ((bytes_eq-Decides word (codes "--help")).0 t) e in cc))
     (λ f. f)
@@ -78,6 +78,10 @@ chosen : (n : ℕ) (b : Bool) (o : Option Request) → Asks n o → Asks n (cond
 chosen n true o h = h
 chosen n false o h = none n
 
+not_chosen : (n : ℕ) (b : Bool) (o : Option Request) → Asks n o → Asks n (cond b None o)
+not_chosen n true o h = none n
+not_chosen n false o h = h
+
 points : (words : List (List ℕ)) → Asks 0 (points_of words)
 unfolding points_of
 points words = chosen 0 _ _ (mapped 0 (level_in words) Points (λ level. refl))
@@ -85,17 +89,17 @@ points words = chosen 0 _ _ (mapped 0 (level_in words) Points (λ level. refl))
 extracts : (words : List (List ℕ)) → Asks 1 (extract_of words)
 unfolding extract_of
 extracts words =
-    chosen 1 _ _ (bound 1 (level_in words) _ (λ level. bound 1 (pad_in words) _ (λ pad. bound 1 (format_in words) _ (λ format. some 1 (Extract level pad format) refl))))
+    not_chosen 1 _ _ (bound 1 (level_in words) _ (λ level. bound 1 (pad_in words) _ (λ pad. bound 1 (format_in words) _ (λ format. some 1 (Extract level pad format) refl))))
 
 sessions : (words : List (List ℕ)) → Asks 2 (session_of words)
 unfolding session_of
 sessions words =
-    chosen 2 _ _ (bound 2 (the_only name_value (plain_words words)) _ (λ name. bound 2 (level_in words) _ (λ level. bound 2 (pad_in words) _ (λ pad.
+    chosen 2 _ _ (bound 2 (at_most_one None name_value (plain_words words)) _ (λ name. bound 2 (level_in words) _ (λ level. bound 2 (pad_in words) _ (λ pad.
     bound 2 (bricks_in words) _ (λ bricks. bound 2 (pages_in words) _ (λ pages. some 2 (Session level pad name bricks pages) refl))))))
 
 checks : (words : List (List ℕ)) → Asks 3 (check_of words)
 unfolding check_of
-checks words = chosen 3 _ _ (mapped 3 (the_only format_value (plain_words words)) Check (λ format. refl))
+checks words = chosen 3 _ _ (mapped 3 (at_most_one None format_value (plain_words words)) Check (λ format. refl))
 
 generated : (words : List (List ℕ)) → Asks 4 (gen_by words)
 generated [] = none 4
@@ -107,7 +111,7 @@ generates words = chosen 4 _ _ (generated words)
 
 soaks : (words : List (List ℕ)) → Asks 5 (soak_of words)
 unfolding soak_of
-soaks words = chosen 5 _ _ (mapped 5 (the_only whole_of (plain_words words)) Soak (λ seed. refl))
+soaks words = chosen 5 _ _ (mapped 5 (at_most_one None whole_of (plain_words words)) Soak (λ seed. refl))
 
 -- one of two, by a test; where one has another number than what is asked for, it is the other
 other : (n m : ℕ) (b : Bool) (one two : Option Request) (r : Request) → Asks n one → command_number r ≡ m → (n ≡ m → ⊥) → cond b one two ≡ Some r → two ≡ Some r

@@ -1,5 +1,5 @@
 -- The written head is read again as its sizes and its kind.
-use Rattle.std.proofs.Common.{◌≡◌, ℕ, ◌+◌, ◌-◌, ◌<◌, ◌≤◌, Bool, true, false, cond, eqb, ltb, List, [], ◌∷◌, ◌++◌, length, None, Ok, refl, sym, ap, ◌∙◌, arith, append_assoc, decimal, codes}
+use Rattle.std.proofs.Common.{◌≡◌, ℕ, ◌+◌, ◌-◌, ◌<◌, ◌≤◌, Bool, true, false, cond, eqb, ltb, List, [], ◌∷◌, ◌++◌, length, map, None, Ok, refl, sym, ap, ◌∙◌, arith, append_assoc, decimal, codes}
 use Rattle.std.specs.Prelude.{flat_map}
 use Rattle.std.specs.List.{list_all}
 use Rattle.std.proofs.lemmas.Bool.{eqb-true, le-ltb, lt-ltb}
@@ -14,13 +14,15 @@ use Rattle.refusals.specs.declared.nrrd.Field.TheVariants as fields
 use Rattle.refusals.specs.declared.nrrd.Field.TheVariants.{Dimension, Kind, Sizes, Endian}
 use Rattle.nrrd_read.specs.declared.encoding.Encoding.{Encoding}
 use Rattle.nrrd_read.specs.declared.encoding.Encoding.TheVariants.{Raw, Text, Hex}
-use Rattle.nrrd_read.specs.Checks.{has_order, layout_of, grid_of, encoding_named, kind_named, order_named, is_i8, is_u8, is_i16, is_u16, is_i32, is_u32}
+use Rattle.nrrd_read.specs.Checks.{has_order, layout_of, grid_of, encoding_named, kind_named, big_endian_of, is_one_of}
 use Rattle.text_lines.specs.Lines.{lines_of}
-use Rattle.text_lines.specs.Words.{skip_blanks, trim_end, trimmed, words_of, is_word}
+use Rattle.text_lines.specs.Words.{skip_blanks, three_in, trim_end, trimmed, words_of, is_word}
 use Rattle.text_lines.specs.Numbers.{is_digit}
-use Rattle.nrrd_read.specs.Fields.{Saying, Gives, meaning_of, meanings, field_line, field_named, is_data_file, fields_in, first_fault}
-use Rattle.nrrd_read.specs.Nrrd.{split_of, is_first, nrrd_of}
+use Rattle.nrrd_read.specs.Fields.{Saying, Gives, meaning_of, field_line, field_named, first_fault, value}
+use Rattle.nrrd_read.specs.Nrrd.{split_of, is_first, nrrd_of, volume_of}
 use Rattle.nrrd.specs.Writing.{coded_by, coded_head_text, coded_line, coded_save, encoding_text, head_in, head_text, kind_text, order_text, rows_of, sizes_text, samples_text, save_text}
+use Rattle.nrrd_read.proofs.Agreeing.{grid_by, grid_is, read_again}
+use Rattle.nrrd_read.specs.Scanning.{numbers_of}
 use Rattle.nrrd.proofs.RowsAgain.{printed_again}
 use Rattle.nrrd.proofs.SamplesAgain.{raw_again}
 use Rattle.text_lines.proofs.Places.{decide}
@@ -63,7 +65,7 @@ axis : (n : ℕ) → IsAxis n → IsNumber n (decimal n)
 axis n h = decimal_is n (omega (arith, h.most))
 
 sizes_line : (s : List ℕ) → trimmed (32 ∷ s) ≡ s → meaning_of (codes "sizes: " ++ s) ≡ Gives Sizes s
-unfolding meaning_of field_line field_named is_data_file is_word
+unfolding meaning_of field_line field_named is_word
 sizes_line s e =
     let t : ltb 5 (length (codes "sizes: " ++ s)) ≡ true = lt-ltb 5 (length (codes "sizes: " ++ s)) (omega arith) in
     rw t (ap (Gives Sizes) e)
@@ -80,13 +82,14 @@ sized_grid e g =
     rw (a, b, c, d, f, h, i) refl
 
 grid_again : (e : Grid) → IsGrid e → grid_of (sizes_text e) ≡ Ok e
-unfolding grid_of
 grid_again e g =
     let x = axis e.nx g.x in
     let y = axis e.ny g.y in
     let z = axis e.nz g.z in
     let words = ap words_of (sizes_spaced e) ∙ three_words (decimal e.nx) (decimal e.ny) (decimal e.nz) (solid_digits (decimal e.nx) x.all) (solid_digits (decimal e.ny) y.all) (solid_digits (decimal e.nz) z.all) x.some y.some z.some in
-    rw (words, whole_again e.nx (omega (arith, g.x.most)), whole_again e.ny (omega (arith, g.y.most)), whole_again e.nz (omega (arith, g.z.most))) (rw (sized_grid e g) refl)
+    let taken : grid_by (numbers_of (three_in (words_of (sizes_text e)))) ≡ Ok e
+    = rw (words, whole_again e.nx (omega (arith, g.x.most)), whole_again e.ny (omega (arith, g.y.most)), whole_again e.nz (omega (arith, g.z.most))) (rw (sized_grid e g) refl) in
+    grid_is (sizes_text e) ∙ taken
 
 -- the lines of the head behind the first
 tail_lines : Bool → Encoding → List (List ℕ)
@@ -150,7 +153,7 @@ pub says_for : Bool → Encoding → SampleKind → Grid → List Saying
 says_for ordered encoding kind e = Gives Kind (kind_text kind) ∷ Gives Dimension (codes "3") ∷ Gives Sizes (sizes_text e) ∷ tail_says ordered encoding
 
 type_line : (kind : SampleKind) → meaning_of (codes "type: " ++ kind_text kind) ≡ Gives Kind (kind_text kind)
-unfolding meaning_of field_line field_named is_data_file is_word kind_text
+unfolding meaning_of field_line field_named is_word kind_text
 type_line I8 = refl
 type_line U8 = refl
 type_line I16 = refl
@@ -159,13 +162,13 @@ type_line I32 = refl
 type_line U32 = refl
 
 encoding_line : (encoding : Encoding) → meaning_of (codes "encoding: " ++ encoding_text encoding) ≡ Gives fields.Encoding (encoding_text encoding)
-unfolding meaning_of field_line field_named is_data_file is_word encoding_text
+unfolding meaning_of field_line field_named is_word encoding_text
 encoding_line Raw = refl
 encoding_line Text = refl
 encoding_line Hex = refl
 
 fixed_lines : (meaning_of (codes "dimension: 3") ≡ Gives Dimension (codes "3")) × (meaning_of (codes "endian: little") ≡ Gives Endian (codes "little"))
-unfolding meaning_of field_line field_named is_data_file is_word
+unfolding meaning_of field_line field_named is_word
 fixed_lines = (refl, refl)
 
 sizes_said : (e : Grid) → IsGrid e → meaning_of (codes "sizes: " ++ sizes_text e) ≡ Gives Sizes (sizes_text e)
@@ -175,12 +178,12 @@ sizes_said e g =
     let s = sizes_spaced e in
     sizes_line (sizes_text e) (ap (λ (t : List ℕ). trimmed (32 ∷ t)) s ∙ trimmed_spaced (decimal e.nx) (decimal e.ny) (decimal e.nz) (solid_digits (decimal e.nx) x.all) (solid_digits (decimal e.nz) z.all) x.some z.some ∙ sym s)
 
-tail_said : (ordered : Bool) (encoding : Encoding) → meanings (tail_lines ordered encoding) ≡ tail_says ordered encoding
+tail_said : (ordered : Bool) (encoding : Encoding) → map meaning_of (tail_lines ordered encoding) ≡ tail_says ordered encoding
 unfolding tail_lines tail_says
 tail_said true encoding = rw (fixed_lines.1, encoding_line encoding) refl
 tail_said false encoding = rw (encoding_line encoding) refl
 
-all_said : (ordered : Bool) (encoding : Encoding) (kind : SampleKind) (e : Grid) → IsGrid e → meanings (lines_for ordered encoding kind e) ≡ says_for ordered encoding kind e
+all_said : (ordered : Bool) (encoding : Encoding) (kind : SampleKind) (e : Grid) → IsGrid e → map meaning_of (lines_for ordered encoding kind e) ≡ says_for ordered encoding kind e
 unfolding lines_for says_for
 all_said ordered encoding kind e g =
     let t = type_line kind in
@@ -195,7 +198,7 @@ no_fault true encoding kind e = refl
 no_fault false encoding kind e = refl
 
 kind_again : (kind : SampleKind) → kind_named (kind_text kind) ≡ Ok kind
-unfolding kind_text is_word is_i8 is_u8 is_i16 is_u16 is_i32 is_u32
+unfolding kind_text kind_named is_one_of is_word
 kind_again I8 = refl
 kind_again U8 = refl
 kind_again I16 = refl
@@ -209,14 +212,10 @@ encoding_again Raw = refl
 encoding_again Text = refl
 encoding_again Hex = refl
 
-little_again : order_named (codes "little") ≡ Ok false
-unfolding order_named is_word
-little_again = refl
-
 pub layout_again : (ordered : Bool) (encoding : Encoding) (kind : SampleKind) (e : Grid) → has_order encoding kind ≡ ordered → IsGrid e
-    → layout_of (fields_in (says_for ordered encoding kind e)) ≡ Ok (record { sizes = e; kind = kind; encoding = encoding; big_endian = false })
-unfolding layout_of says_for tail_says
-layout_again true encoding kind e h g = rw (kind_again kind, encoding_again encoding, grid_again e g, h, little_again) refl
+    → layout_of (λ f. value f (says_for ordered encoding kind e)) ≡ Ok (record { sizes = e; kind = kind; encoding = encoding; big_endian = false })
+unfolding layout_of says_for tail_says big_endian_of is_word
+layout_again true encoding kind e h g = rw (kind_again kind, encoding_again encoding, grid_again e g, h) refl
 layout_again false encoding kind e h g = rw (kind_again kind, encoding_again encoding, grid_again e g, h) refl
 
 kind_short : (kind : SampleKind) → length (kind_text kind) ≤ 6
@@ -254,7 +253,7 @@ unfolding is_first
 first_again = refl
 
 pub split_again : (encoding : Encoding) (kind : SampleKind) (e : Grid) (body : List ℕ) → IsGrid e
-    → split_of (head_in encoding e kind ++ body) ≡ Ok (fields_in (says_for (has_order encoding kind) encoding kind e), body)
+    → split_of (head_in encoding e kind ++ body) ≡ Ok (says_for (has_order encoding kind) encoding kind e, body)
 unfolding split_of
 split_again encoding kind e body g =
     let ls = lines_for (has_order encoding kind) encoding kind e in
@@ -275,19 +274,17 @@ split_again encoding kind e body g =
     head_is encoding kind e body = unfold head_in in head_lines (has_order encoding kind) encoding kind e body
 
 pub save_again : (v : Voxels) (rest : List ℕ) → IsVoxels v → nrrd_of (save_text v ++ rest) ≡ Ok (v, length rest)
-unfolding nrrd_of
 save_again v rest h =
     let regrouped = append_assoc (head_text v.grid v.kind) (samples_text v.kind v.samples) rest in
     let split = split_again Raw v.kind v.grid (samples_text v.kind v.samples ++ rest) h.grid in
     let layout = layout_again (has_order Raw v.kind) Raw v.kind v.grid refl h.grid in
-    rw (regrouped, split, layout, raw_again v rest h) refl
+    ap nrrd_of regrouped ∙ read_again _ _ _ _ split layout ∙ ap (volume_of v.grid v.kind) (raw_again v rest h)
 
 -- samples in print are read by the lines of the rows
 pub coded_again : (hex : Bool) (v : Voxels) (rest : List ℕ) → IsVoxels v → nrrd_of (coded_save hex v ++ rest) ≡ Ok (v, length rest + 1)
-unfolding nrrd_of
 coded_again hex v rest h =
     let body : List ℕ = flat_map (coded_line hex v.kind) (rows_of v) in
     let regrouped = append_assoc (coded_head_text v.grid v.kind hex) body rest in
     let split = split_again (coded_by hex) v.kind v.grid (body ++ rest) h.grid in
     let layout = layout_again (has_order (coded_by hex) v.kind) (coded_by hex) v.kind v.grid refl h.grid in
-    rw (regrouped, split, layout, printed_again hex v rest h) refl
+    ap nrrd_of regrouped ∙ read_again _ _ _ _ split layout ∙ ap (volume_of v.grid v.kind) (printed_again hex v rest h)

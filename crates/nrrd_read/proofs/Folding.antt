@@ -1,8 +1,8 @@
 -- The lines in order, and the filters by name.
-use Rattle.std.proofs.Common.{◌≡◌, ℕ, suc, ◌+◌, true, false, cond, List, [], ◌∷◌, ◌++◌, length, append_assoc, Some, None, Ok, Err, refl, sym, ap, ◌∙◌, arith}
+use Rattle.std.proofs.Common.{◌≡◌, ℕ, ◌+◌, ◌-◌, true, false, cond, List, [], ◌∷◌, ◌++◌, length, map, take, append_assoc, Some, None, Ok, Err, refl, sym, ap, ◌∙◌, arith}
 use Rattle.std.specs.Prelude.{Option, Result, is_some, filter_map}
 use Rattle.std.specs.Option.{option_or}
-use Rattle.std.specs.List.{slice_get, cons_option, range_with_len}
+use Rattle.std.specs.List.{slice_get, cons_option, enumerate_from}
 use Rattle.std.proofs.lemmas.Bool.{false≢true}
 use Rattle.std.proofs.lemmas.List.{append-nil, length-append}
 use Rattle.std.proofs.Math.Seq.{take-append_seam}
@@ -10,9 +10,9 @@ use Rattle.text_lines.proofs.Places.{decide}
 use Rattle.refusals.specs.declared.nrrd.Field.{Field}
 use Rattle.refusals.specs.declared.nrrd.Field.TheVariants.{Dimension, Kind, Sizes, Encoding, Endian, LineSkip, ByteSkip}
 use Rattle.refusals.specs.declared.nrrd.NrrdFault.{NrrdFault}
-use Rattle.nrrd_read.specs.Fields.{Fields, Saying, IsBad, IsUnread, NamesFile, Gives, same_field, value_for, values, value, fault_at, line_fault, first_fault, fields_in, meaning_of, meanings}
+use Rattle.nrrd_read.specs.Fields.{Saying, IsBad, IsUnread, NamesFile, Gives, same_field, value_for, value, fault_at, first_fault, meaning_of}
 use Rattle.text_lines.specs.Lines.{◌>>=◌, unless_fault}
-use Rattle.nrrd_read.specs.Scanning.{get_field, put_field, no_fields, after_line, after_lines}
+use Rattle.nrrd_read.specs.Scanning.{Fields, fields_in, get_field, put_field, no_fields, after_line, after_lines}
 
 get_put : (h : Fields) (g f : Field) (v : List ℕ) → get_field (put_field h g v) f ≡ cond (same_field f g) (Some v) (get_field h f)
 get_put h Dimension Dimension v = refl
@@ -168,8 +168,8 @@ or_value (Some x) b r = refl
 value-append : (f : Field) (xs ys : List Saying) → value f (xs ++ ys) ≡ option_or (value f xs) (value f ys)
 value-append f [] ys = refl
 value-append f (x ∷ xs) ys =
-    or_value (value_for f x) None (values f (xs ++ ys)) ∙ ap (option_or (value_for f x)) (value-append f xs ys)
-    ∙ sym (or_assoc (value_for f x) (value f xs) (value f ys)) ∙ ap (λ (o : Option (List ℕ)). option_or o (value f ys)) (sym (or_value (value_for f x) None (values f xs)))
+    or_value (value_for f x) None (filter_map (value_for f) (xs ++ ys)) ∙ ap (option_or (value_for f x)) (value-append f xs ys)
+    ∙ sym (or_assoc (value_for f x) (value f xs) (value f ys)) ∙ ap (λ (o : Option (List ℕ)). option_or o (value f ys)) (sym (or_value (value_for f x) None (filter_map (value_for f) xs)))
 
 -- a field that has no value yet takes it
 value_put : (h : Fields) (g : Field) (v : List ℕ) (says : List Saying) (f : Field) → is_some (get_field h g) ≡ false → option_or (get_field (put_field h g v) f) (value f says) ≡ option_or (get_field h f) (value f (Gives g v ∷ says))
@@ -189,37 +189,38 @@ agrees_put h before g v none agrees f =
     or_none (get_field (put_field h g v) f) ∙ value_put h g v [] f none
     ∙ ap (λ (o : Option (List ℕ)). option_or o (value f (Gives g v ∷ []))) (agrees f) ∙ sym (value-append f before (Gives g v ∷ []))
 
-slice_get_at : (before says : List Saying) (s : Saying) → slice_get (before ++ s ∷ says) (length before) ≡ Some s
-slice_get_at [] says s = refl
-slice_get_at (x ∷ before) says s = slice_get_at before says s
+-- what is wrong with a line, by all of them
+abbrev fault_in : List Saying → ℕ × Saying → Option NrrdFault
+fault_in all l = fault_at (take (l.0 - 2) all) l.0 l.1
 
-fault_here : (before says : List Saying) (s : Saying) → line_fault (before ++ s ∷ says) (length before) ≡ fault_at before (length before + 2) s
+fault_here : (before says : List Saying) (s : Saying) → fault_in (before ++ s ∷ says) (length before + 2, s) ≡ fault_at before (length before + 2) s
 fault_here before says s =
-    let front = take-append_seam before (s ∷ says) in
-    let one = slice_get_at before says s in
-    rw (front, one) refl
+    let n : length before + 2 - 2 ≡ length before = omega arith in
+    ap (λ (k : ℕ). fault_at (take k (before ++ s ∷ says)) (length before + 2) s) n
+    ∙ ap (λ (l : List Saying). fault_at l (length before + 2) s) (take-append_seam before (s ∷ says))
 
 first_or : {A : Type 0} (o : Option A) (xs : List A) → slice_get (cons_option o xs) 0 ≡ option_or o (slice_get xs 0)
 first_or None xs = refl
 first_or (Some x) xs = refl
 
-abbrev faults_from : List Saying → ℕ → ℕ → Option NrrdFault
-faults_from all k n = slice_get (filter_map (line_fault all) (range_with_len k n)) 0
+-- the first fault of these lines among all, of which the first is line n
+abbrev faults_from : List Saying → ℕ → List Saying → Option NrrdFault
+faults_from all n says = slice_get (filter_map (fault_in all) (enumerate_from n says)) 0
 
--- the values of all lines, unless one from k on has a fault
-abbrev left : List Saying → ℕ → ℕ → Result Fields NrrdFault
-left all k n = unless_fault (faults_from all k n) (Ok (fields_in all))
+-- the values of all lines, unless one of these has a fault
+abbrev left : List Saying → ℕ → List Saying → Result Fields NrrdFault
+left all n says = unless_fault (faults_from all n says) (Ok (fields_in all))
 
-left_here : (before says : List Saying) (s : Saying) → left (before ++ s ∷ says) (length before) (suc (length says)) ≡ unless_fault (option_or (fault_at before (length before + 2) s) (faults_from (before ++ s ∷ says) (length before + 1) (length says))) (Ok (fields_in (before ++ s ∷ says)))
+left_here : (before says : List Saying) (s : Saying) → left (before ++ s ∷ says) (length before + 2) (s ∷ says) ≡ unless_fault (option_or (fault_at before (length before + 2) s) (faults_from (before ++ s ∷ says) (length before + 2 + 1) says)) (Ok (fields_in (before ++ s ∷ says)))
 left_here before says s =
     let all = before ++ s ∷ says in
-    let rest = filter_map (line_fault all) (range_with_len (length before + 1) (length says)) in
-    ap (λ (o : Option NrrdFault). unless_fault o (Ok (fields_in all))) (first_or (line_fault all (length before)) rest)
+    let rest = filter_map (fault_in all) (enumerate_from (length before + 2 + 1) says) in
+    ap (λ (o : Option NrrdFault). unless_fault o (Ok (fields_in all))) (first_or (fault_in all (length before + 2, s)) rest)
     ∙ ap (λ (o : Option NrrdFault). unless_fault (option_or o (slice_get rest 0)) (Ok (fields_in all))) (fault_here before says s)
 
 by_saying : (before says : List Saying) (s : Saying) (h : Fields) → Agrees h before
-    → ((h' : Fields) → Agrees h' (before ++ s ∷ []) → after_lines h' (length before + 2 + 1) says ≡ left (before ++ s ∷ says) (length before + 1) (length says))
-    → after_lines h (length before + 2) (s ∷ says) ≡ unless_fault (option_or (fault_at before (length before + 2) s) (faults_from (before ++ s ∷ says) (length before + 1) (length says))) (Ok (fields_in (before ++ s ∷ says)))
+    → ((h' : Fields) → Agrees h' (before ++ s ∷ []) → after_lines h' (length before + 2 + 1) says ≡ left (before ++ s ∷ says) (length before + 2 + 1) says)
+    → after_lines h (length before + 2) (s ∷ says) ≡ unless_fault (option_or (fault_at before (length before + 2) s) (faults_from (before ++ s ∷ says) (length before + 2 + 1) says)) (Ok (fields_in (before ++ s ∷ says)))
 by_saying before says IsBad h agrees later = refl
 by_saying before says NamesFile h agrees later = refl
 by_saying before says IsUnread h agrees later = later h (agrees_unread h before agrees)
@@ -238,7 +239,7 @@ agrees_all h says agrees = same_fields h (fields_in says) (λ f. agrees f ∙ by
   by_field LineSkip = refl
   by_field ByteSkip = refl
 
-lines_left : (before says : List Saying) (h : Fields) → Agrees h before → after_lines h (length before + 2) says ≡ left (before ++ says) (length before) (length says)
+lines_left : (before says : List Saying) (h : Fields) → Agrees h before → after_lines h (length before + 2) says ≡ left (before ++ says) (length before + 2) says
 lines_left before [] h agrees =
     ap (λ (x : Fields). Ok x) (agrees_all h before agrees) ∙ ap (λ (l : List Saying). Ok (fields_in l)) (sym (append-nil before))
 lines_left before (s ∷ says) h agrees =
@@ -247,10 +248,10 @@ lines_left before (s ∷ says) h agrees =
     let same : before' ++ says ≡ all = append_assoc before (s ∷ []) says in
     let n : length before' ≡ length before + 1 = length-append before (s ∷ []) in
     let m : length before' + 2 ≡ length before + 2 + 1 = omega (arith, n) in
-    let later : (h' : Fields) → Agrees h' before' → after_lines h' (length before + 2 + 1) says ≡ left all (length before + 1) (length says) =
+    let later : (h' : Fields) → Agrees h' before' → after_lines h' (length before + 2 + 1) says ≡ left all (length before + 2 + 1) says =
     λ h' a. ap (λ (k : ℕ). after_lines h' k says) (sym m) ∙ lines_left before' says h' a
-    ∙ ap (λ (l : List Saying). left l (length before') (length says)) same
-    ∙ ap (λ (k : ℕ). left all k (length says)) n in
+    ∙ ap (λ (l : List Saying). left l (length before' + 2) says) same
+    ∙ ap (λ (k : ℕ). left all k says) m in
     by_saying before says s h agrees later ∙ sym (left_here before says s)
 
 -- the lines in order give the first values, or the first fault
@@ -258,10 +259,10 @@ pub all_lines : (says : List Saying) → after_lines no_fields 2 says ≡ unless
 all_lines says = lines_left [] says no_fields get_none
 
 -- one line of the pass
-pub next_lines : (h : Fields) (n : ℕ) (text : List ℕ) (texts more : List (List ℕ)) (all : Result Fields NrrdFault) → texts ≡ text ∷ more → after_lines h n (meanings texts) ≡ all → after_line h n (meaning_of text) >>= (λ (h' : Fields). after_lines h' (n + 1) (meanings more)) ≡ all
-next_lines h n text texts more all e so_far = sym (ap (λ (l : List (List ℕ)). after_lines h n (meanings l)) e) ∙ so_far
+pub next_lines : (h : Fields) (n : ℕ) (text : List ℕ) (texts more : List (List ℕ)) (all : Result Fields NrrdFault) → texts ≡ text ∷ more → after_lines h n (map meaning_of texts) ≡ all → after_line h n (meaning_of text) >>= (λ (h' : Fields). after_lines h' (n + 1) (map meaning_of more)) ≡ all
+next_lines h n text texts more all e so_far = sym (ap (λ (l : List (List ℕ)). after_lines h n (map meaning_of l)) e) ∙ so_far
 
 -- the first fault of a line is the answer
-pub refused_line : (h : Fields) (n : ℕ) (text : List ℕ) (texts more : List (List ℕ)) (fault : NrrdFault) (all : Result Fields NrrdFault) → texts ≡ text ∷ more → after_line h n (meaning_of text) ≡ Err fault → after_lines h n (meanings texts) ≡ all → all ≡ Err fault
+pub refused_line : (h : Fields) (n : ℕ) (text : List ℕ) (texts more : List (List ℕ)) (fault : NrrdFault) (all : Result Fields NrrdFault) → texts ≡ text ∷ more → after_line h n (meaning_of text) ≡ Err fault → after_lines h n (map meaning_of texts) ≡ all → all ≡ Err fault
 refused_line h n text texts more fault all e here so_far =
-    sym (next_lines h n text texts more all e so_far) ∙ ap (λ (r : Result Fields NrrdFault). r >>= (λ (h' : Fields). after_lines h' (n + 1) (meanings more))) here
+    sym (next_lines h n text texts more all e so_far) ∙ ap (λ (r : Result Fields NrrdFault). r >>= (λ (h' : Fields). after_lines h' (n + 1) (map meaning_of more))) here

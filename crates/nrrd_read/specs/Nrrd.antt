@@ -3,16 +3,17 @@ use Rattle.text_samples.specs.declared.fault.SampleFault.{SampleFault}
 use Rattle.text_samples.specs.declared.fault.SampleFault.TheVariants.{Bad, Short}
 use Rattle.refusals.specs.declared.nrrd.NrrdFault.{NrrdFault}
 use Rattle.refusals.specs.declared.nrrd.NrrdFault.TheVariants.{BadSample, ShortSamples, Memory, NotNrrd, HeaderTooLong}
-use Rattle.std.specs.Prelude.{ℕ, ◌-◌, ◌*◌, Bool, true, false, ◌||◌, nat_lt, ℤ, List, [], ◌∷◌, length, bytes_eq, Result, Ok, Err, if◌then◌else◌, codes}
+use Rattle.std.specs.Prelude.{ℕ, ◌-◌, ◌*◌, Bool, true, false, not, nat_lt, ℤ, List, [], ◌∷◌, length, map, bytes_eq, Result, Ok, Err, if◌then◌else◌, codes}
+use Rattle.std.specs.List.{list_any}
+use Rattle.std.specs.Result.{result_map_both}
 use Rattle.iso_defs.specs.Grid.{Grid, point_count}
 use Rattle.iso_base.specs.Volume.{width_of, Voxels}
 use Rattle.iso_base.specs.declared.kind.SampleKind.{SampleKind}
 use Rattle.text_lines.specs.Lines.{Line, lines_of, ◌>>=◌, unless_fault, AnswersBut, FailsBut}
-use Rattle.nrrd_read.specs.Fields.{header_texts, sample_bytes, Fields, fields_in, first_fault, meanings}
+use Rattle.nrrd_read.specs.Fields.{Saying, header_texts, sample_bytes, meaning_of, first_fault, value}
 use Rattle.nrrd_read.specs.Checks.{layout_of}
 use Rattle.nrrd_read.specs.declared.encoding.Encoding.{Encoding}
 use Rattle.nrrd_read.specs.declared.encoding.Encoding.TheVariants.{Raw, Text, Hex}
-use Rattle.nrrd_read.specs.declared.layout.Layout.{Layout}
 use Rattle.iso_base.specs.SampleBytes.{samples_in}
 use Rattle.text_samples.specs.Text.{text_samples}
 use Rattle.text_samples.specs.Hex.{hex_samples}
@@ -26,25 +27,23 @@ fault_of samples.Memory = Memory
 
 -- the first line, of any of the five versions
 unfoldable pub is_first : List ℕ → Bool
-is_first text =
-    bytes_eq text (codes "NRRD0001") || bytes_eq text (codes "NRRD0002") || bytes_eq text (codes "NRRD0003")
-    || bytes_eq text (codes "NRRD0004") || bytes_eq text (codes "NRRD0005")
+is_first text = list_any (bytes_eq text)
+    (codes "NRRD0001" ∷ codes "NRRD0002" ∷ codes "NRRD0003" ∷ codes "NRRD0004" ∷ codes "NRRD0005" ∷ [])
 
--- what the lines say, where the whole header has this many bytes
-abbrev pub header_of : ℕ → List Line → Result (Fields × List ℕ) NrrdFault
-header_of bytes lines =
-    if nat_lt 65536 bytes then Err (HeaderTooLong bytes) else
-    unless_fault (first_fault (meanings (header_texts lines)))
-    (Ok (fields_in (meanings (header_texts lines)), sample_bytes lines))
+-- what the lines of a header of this many bytes say, and the bytes behind it
+abbrev pub header_of : ℕ → List Saying → List ℕ → Result (List Saying × List ℕ) NrrdFault
+header_of bytes says samples =
+    if nat_lt 65536 bytes then Err (HeaderTooLong bytes) else unless_fault (first_fault says) (Ok (says, samples))
 
--- the fields and the bytes of the samples, by all lines
-abbrev pub by_lines : ℕ → List Line → Result (Fields × List ℕ) NrrdFault
+-- what the lines behind the first say and the bytes of the samples, where all lines have this many bytes
+abbrev pub by_lines : ℕ → List Line → Result (List Saying × List ℕ) NrrdFault
 by_lines bytes [] = Err NotNrrd
-by_lines bytes (first ∷ lines) = if is_first first.text then header_of (bytes - length (sample_bytes lines)) lines
-    else Err NotNrrd
+by_lines bytes (first ∷ lines) =
+    if not (is_first first.text) then Err NotNrrd else
+    header_of (bytes - length (sample_bytes lines)) (map meaning_of (header_texts lines)) (sample_bytes lines)
 
--- the fields and the bytes of the samples
-unfoldable pub split_of : List ℕ → Result (Fields × List ℕ) NrrdFault
+-- what the lines of a file say, and the bytes of the samples
+unfoldable pub split_of : List ℕ → Result (List Saying × List ℕ) NrrdFault
 split_of bytes = by_lines (length bytes) (lines_of bytes)
 
 -- raw samples, so many, and how many bytes stand after them
@@ -61,19 +60,15 @@ samples_by Hex kind big_endian count body = hex_samples kind big_endian count bo
 
 -- the volume of these samples
 abbrev pub volume_of : Grid → SampleKind → Result (List ℤ × ℕ) SampleFault → Result (Voxels × ℕ) NrrdFault
-volume_of e kind (Ok read) = Ok (record { grid = e; kind = kind; samples = read.0 }, read.1)
-volume_of e kind (Err fault) = Err (fault_of fault)
-
--- the volume in these bytes, and how many bytes stand after it
-abbrev pub measured : Layout → List ℕ → Result (Voxels × ℕ) NrrdFault
-measured l body = volume_of l.sizes l.kind (samples_by l.encoding l.kind l.big_endian (point_count l.sizes) body)
+volume_of e kind read = result_map_both (λ r. (record { grid = e; kind = kind; samples = r.0 }, r.1)) fault_of read
 
 -- the volume in a file, and how many bytes stand after it, or the first refusal
 unfoldable pub nrrd_of : List ℕ → Result (Voxels × ℕ) NrrdFault
 nrrd_of bytes = do
   parts ← split_of bytes
-  layout ← layout_of parts.0
-  measured layout parts.1
+  layout ← layout_of (λ f. value f parts.0)
+  volume_of layout.sizes layout.kind
+      (samples_by layout.encoding layout.kind layout.big_endian (point_count layout.sizes) parts.1)
 
 -- whether memory was wanting
 abbrev pub is_memory : NrrdFault → Bool

@@ -1,5 +1,7 @@
--- What the lines so far say, as the code holds it. No public definition rests on it.
-use Rattle.std.specs.Prelude.{ℕ, ◌+◌, List, [], ◌∷◌, Option, Some, None, Result, Ok, Err, option_map, is_some, if◌then◌else◌}
+-- What is read, as the code holds it. No public definition rests on it.
+use Rattle.std.specs.Prelude.{ℕ, ◌+◌, List, [], ◌∷◌, Option, Some, None, Result, Ok, Err, option_map, option_and_then, is_some, if◌then◌else◌}
+use Rattle.iso_defs.specs.Grid.{Grid, point_count}
+use Rattle.iso_base.specs.Volume.{Voxels}
 use Rattle.refusals.specs.declared.nrrd.Field.{Field}
 use Rattle.refusals.specs.declared.nrrd.Field.TheVariants.{Dimension, Kind, Sizes, Encoding, Endian, LineSkip, ByteSkip}
 use Rattle.refusals.specs.declared.nrrd.NrrdFault.{NrrdFault}
@@ -7,8 +9,16 @@ use Rattle.refusals.specs.declared.nrrd.NrrdFault.TheVariants.{BadLine, Repeated
 use Rattle.nrrd_read.specs.declared.header.Header.{Header}
 use Rattle.nrrd_read.specs.declared.meaning.Meaning.{Meaning}
 use Rattle.nrrd_read.specs.declared.meaning.Meaning.TheVariants as seen
-use Rattle.nrrd_read.specs.Fields.{Fields, Saying, IsBad, IsUnread, NamesFile, Gives}
+use Rattle.nrrd_read.specs.declared.layout.Layout.{Layout}
+use Rattle.nrrd_read.specs.Fields.{Saying, IsBad, IsUnread, NamesFile, Gives, value}
+use Rattle.nrrd_read.specs.Nrrd.{samples_by, volume_of}
 use Rattle.text_lines.specs.Lines.{◌>>=◌}
+use Rattle.text_lines.specs.Numbers.{whole_of}
+
+-- the value, as it is seen
+abbrev pub map_ok : {A B : Type 0} → (A → B) → Result A NrrdFault → Result B NrrdFault
+map_ok f (Ok x) = Ok (f x)
+map_ok f (Err e) = Err e
 
 -- what a line says, without where it lies in memory
 abbrev pub seen_line : Meaning → Saying
@@ -16,6 +26,32 @@ seen_line seen.Bad = IsBad
 seen_line seen.Unread = IsUnread
 seen_line seen.Detached = NamesFile
 seen_line (seen.Value f text) = Gives f text.now
+
+-- the first value of each field that is read
+pub record Fields : Type 0 where
+  pub dimension : Option (List ℕ)
+  pub kind : Option (List ℕ)
+  pub sizes : Option (List ℕ)
+  pub encoding : Option (List ℕ)
+  pub endian : Option (List ℕ)
+  pub line_skip : Option (List ℕ)
+  pub byte_skip : Option (List ℕ)
+
+-- the first values that lines give
+abbrev pub fields_in : List Saying → Fields
+fields_in says = record {
+  dimension = value Dimension says;
+  kind = value Kind says;
+  sizes = value Sizes says;
+  encoding = value Encoding says;
+  endian = value Endian says;
+  line_skip = value LineSkip says;
+  byte_skip = value ByteSkip says;
+}
+
+-- they, and the bytes of the samples
+abbrev pub fields_and_bytes : List Saying × List ℕ → Fields × List ℕ
+fields_and_bytes parts = (fields_in parts.0, parts.1)
 
 -- the values so far, without where they lie in memory
 abbrev pub seen_fields : Header → Fields
@@ -72,3 +108,14 @@ after_line h n (Gives f value) = if is_some (get_field h f) then Err (RepeatedFi
 abbrev pub after_lines : Fields → ℕ → List Saying → Result Fields NrrdFault
 after_lines h n [] = Ok h
 after_lines h n (s ∷ says) = after_line h n s >>= (λ more. after_lines more (n + 1) says)
+
+-- three numbers of three words
+abbrev pub numbers_of : Option (List ℕ × List ℕ × List ℕ) → Option Grid
+numbers_of None = None
+numbers_of (Some words) =
+    option_and_then (λ nx. option_and_then (λ ny. option_and_then (λ nz.
+    Some (record { nx = nx; ny = ny; nz = nz })) (whole_of words.2)) (whole_of words.1)) (whole_of words.0)
+
+-- the volume of a layout in these bytes, and how many bytes stand after it
+abbrev pub measured : Layout → List ℕ → Result (Voxels × ℕ) NrrdFault
+measured l body = volume_of l.sizes l.kind (samples_by l.encoding l.kind l.big_endian (point_count l.sizes) body)

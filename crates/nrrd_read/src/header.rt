@@ -1,12 +1,11 @@
 //! The lines of a header, in order.
 //!
 //! An empty line is no bad line and a line of blanks is one; a CR at the very end of the input stays in its line.
-ghost use Rattle.std.specs.Prelude.{◌≡◌, ◌+◌, ◌^◌, ◌≤◌, ◌<◌, length, Option, MatchOption, IfSome, [], ◌∷◌, Ok};
+ghost use Rattle.std.specs.Prelude.{◌≡◌, ◌+◌, ◌^◌, ◌≤◌, ◌<◌, length, map, Option, MatchOption, IfSome, [], ◌∷◌, Ok};
 ghost use Rattle.std.specs.Option.{option_map};
 ghost use Rattle.text_lines.specs.Lines.{lines_of, unless_fault};
-ghost use Rattle.nrrd_read.specs.Fields.{header_texts, sample_bytes, fields_in, first_fault, meanings, meaning_of};
-ghost use Rattle.nrrd_read.specs.Checks.{map_ok};
-ghost use Rattle.nrrd_read.specs.Scanning.{seen_fields, get_field, put_field, no_fields, after_line};
+ghost use Rattle.nrrd_read.specs.Fields.{header_texts, sample_bytes, first_fault, meaning_of};
+ghost use Rattle.nrrd_read.specs.Scanning.{map_ok, fields_in, seen_fields, get_field, put_field, no_fields, after_line};
 
 use crate::meaning::{Meaning, line_meaning};
 use refusals::{Field, NrrdFault};
@@ -124,8 +123,8 @@ fn header_line(bytes: &[u8]) -> Option<(&[u8], &[u8])>
 pub fn read_fields(bytes: &[u8]) -> Result<Header<'_>, NrrdFault>
     requires { length bytes.now ≤ 65536 + length (sample_bytes (lines_of bytes.now)) }
     ensures { map_ok seen_fields result
-        ≡ unless_fault (first_fault (meanings (header_texts (lines_of bytes.now))))
-        (Ok (fields_in (meanings (header_texts (lines_of bytes.now))))) }
+        ≡ unless_fault (first_fault (map meaning_of (header_texts (lines_of bytes.now))))
+        (Ok (fields_in (map meaning_of (header_texts (lines_of bytes.now))))) }
 {
     let mut header = Header::empty();
     let mut number = 2u32;

@@ -1,6 +1,6 @@
 //! What the fields of a header say of the samples.
 ghost use Rattle.std.specs.Prelude.{◌≡◌};
-ghost use Rattle.nrrd_read.specs.Scanning.{seen_fields};
+ghost use Rattle.nrrd_read.specs.Scanning.{get_field, seen_fields};
 ghost use Rattle.nrrd_read.specs.Checks.{layout_of};
 
 use crate::checks::{
@@ -24,7 +24,7 @@ pub struct Layout {
 /// What the fields say of the samples.
 #[tactic(auto, unfolding(crate::specs::Checks::layout_of))]
 pub fn read_layout(header: &Header<'_>) -> Result<Layout, NrrdFault>
-    ensures { result ≡ layout_of (seen_fields header.now) }
+    ensures { result ≡ layout_of (get_field (seen_fields header.now)) }
 {
     let dimension = ask_value(header.dimension, Field::Dimension)?;
     let kind = ask_value(header.kind, Field::Kind)?;

@@ -1,6 +1,7 @@
 //! What one line of a header says.
 ghost use Rattle.std.specs.Prelude.{◌≡◌, ◌==◌, ◌<◌, ◌≤◌, List, ℕ, length, position, Option, Some, None};
-ghost use Rattle.nrrd_read.specs.Fields.{meaning_of, field_line, field_named, is_data_file, colon_in};
+ghost use Rattle.iso_defs.specs.Bytes.{colon};
+ghost use Rattle.nrrd_read.specs.Fields.{meaning_of, field_line, field_named};
 ghost use Rattle.nrrd_read.specs.Scanning.{seen_line};
 
 use refusals::Field;
@@ -48,20 +49,12 @@ fn field_of(name: &[u8]) -> Option<Field>
     None
 }
 
-/// Whether a name says that the samples lie in another file.
-#[tactic(auto, unfolding(crate::specs::Fields::is_data_file))]
-fn names_data_file(name: &[u8]) -> bool
-    ensures { result ≡ is_data_file name.now }
-{
-    same_word(name, b"data file") || same_word(name, b"datafile")
-}
-
-/// What a field line says.
+/// What a field line says. One that names a file says that the samples lie there.
 #[tactic(auto, unfolding(crate::specs::Fields::field_line))]
 fn field_meaning<'a>(name: &[u8], value: &'a [u8]) -> Meaning<'a>
     ensures { seen_line result ≡ field_line name.now value.now }
 {
-    if names_data_file(name) {
+    if same_word(name, b"data file") || same_word(name, b"datafile") {
         return Meaning::Detached;
     }
     match field_of(name) {
@@ -72,7 +65,7 @@ fn field_meaning<'a>(name: &[u8], value: &'a [u8]) -> Meaning<'a>
 
 /// The place of the first colon.
 fn colon_at(text: &[u8]) -> Option<usize>
-    ensures value { result ≡ colon_in text.now }
+    ensures value { result ≡ position (λ b. b == colon) text.now }
 {
     text.iter().position(|b| *b == b':')
 }

@@ -4,9 +4,8 @@ ghost use Rattle.iso_defs.specs.Grid.{point_count};
 ghost use Rattle.text_samples.specs.Text.{text_samples};
 ghost use Rattle.text_samples.specs.Hex.{hex_samples};
 ghost use Rattle.refusals.specs.declared.nrrd.NrrdFault.TheVariants.{ShortSamples};
-ghost use Rattle.nrrd_read.specs.Scanning.{seen_fields};
-ghost use Rattle.nrrd_read.specs.Checks.{map_ok};
-ghost use Rattle.nrrd_read.specs.Nrrd.{fault_of, is_first, split_of, measured, nrrd_of, raw_samples, volume_of, Answers};
+ghost use Rattle.nrrd_read.specs.Scanning.{map_ok, fields_and_bytes, measured, seen_fields};
+ghost use Rattle.nrrd_read.specs.Nrrd.{fault_of, is_first, split_of, nrrd_of, raw_samples, volume_of, Answers};
 ghost use Rattle.nrrd_read.specs.Files.{file_voxels, seen_volume};
 
 use crate::encoding::Encoding;
@@ -38,7 +37,7 @@ fn is_first_line(text: &[u8]) -> bool
 /// first: one that is too long is refused before its lines are read.
 #[tactic(auto, unfolding(crate::specs::Nrrd::split_of))]
 fn split(bytes: &[u8]) -> Result<(Header<'_>, &[u8]), NrrdFault>
-    ensures { map_ok (λ x. (seen_fields x.0, x.1.now)) result ≡ split_of bytes.now }
+    ensures { map_ok (λ x. (seen_fields x.0, x.1.now)) result ≡ map_ok fields_and_bytes (split_of bytes.now) }
 {
     let Some((first, rest)) = next_line(bytes) else {
         return Err(NrrdFault::NotNrrd);
@@ -160,7 +159,7 @@ fn read_body(alloc: Global, layout: Layout, body: &[u8]) -> Result<(FileVolume<'
 /// `SkipUnsupported`), of the sizes (`BadValue`, `Size`) and, for samples of more than one byte that are raw or hex digits,
 /// of the byte order (`NoEndian`, `BadValue`); then, for samples in print, `BadSample`; then `ShortSamples`; and last
 /// `Memory`, which is asked for once, for samples in print alone.
-#[tactic(auto, unfolding(crate::specs::Nrrd::nrrd_of))]
+#[tactic(auto, using(crate::proofs::Agreeing::volume_is))]
 pub fn read_file_volume(alloc: Global, bytes: &[u8]) -> Result<(FileVolume<'_>, u64), NrrdFault>
     ensures { Answers (map_ok seen_volume result) (nrrd_of bytes.now) }
 {

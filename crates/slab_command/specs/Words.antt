@@ -1,12 +1,13 @@
 -- What the words of a command line ask for.
 use Rattle.std.specs.Prelude.{◌≤◌, ◌==◌, ◌&&◌, not, nat_le, Bool, true, false, if◌then◌else◌, ℕ, List, [], ◌∷◌, length, Option, Some, None, IfSome, codes, bytes_eq, option_map, option_and_then}
+use Rattle.std.specs.List.{list_all}
 use Rattle.iso_defs.specs.Bytes.{digit_zero}
 use Rattle.iso_base.specs.Volume.{IsSample}
 use Rattle.text_lines.specs.Numbers.{digits_value}
 use Rattle.text_lines.specs.Parts.{◌>>=◌}
 use Rattle.script.specs.Names.{is_name}
 use Rattle.program.specs.Questions.{asks_help, asks_version}
-use Rattle.arguments.specs.Words.{at_most_one, format_in, format_option, is_empty, level_in, level_option, only_options, pad_in, pad_option, plain_words, the_only, values}
+use Rattle.arguments.specs.Words.{at_most_one, format_in, has_head, level_in, only_options, pad_in, plain_words, values}
 use Rattle.mesh_walk.specs.Numbers.{AreFirst}
 use Rattle.slab_command.specs.declared.asked.Slab.{Slab}
 use Rattle.slab_command.specs.declared.asked.SlabFiles.{SlabFiles}
@@ -56,14 +57,14 @@ centres_option = codes "--centres="
 
 -- a number that is required
 abbrev pub number_in : List ℕ → List (List ℕ) → Option ℕ
-number_in head words = the_only number_value (values head words)
+number_in head words = at_most_one None number_value (values head words)
 
 -- without its option the slab is not the last one
 abbrev pub last_in : List (List ℕ) → Option Bool
-last_in words = at_most_one false flag_value (values last_option words)
+last_in words = at_most_one (Some false) flag_value (values last_option words)
 
 abbrev pub name_in : List (List ℕ) → Option (List ℕ)
-name_in words = the_only name_value (plain_words words)
+name_in words = at_most_one None name_value (plain_words words)
 
 abbrev pub slab_in : List (List ℕ) → Option Slab
 slab_in words = do
@@ -90,7 +91,7 @@ files_in words = do
 -- `count --level=V --from=Z [--pad=P] [--last]`
 unfoldable pub count_of : List (List ℕ) → Option Asked
 count_of words =
-    if only_options (level_option ∷ pad_option ∷ from_option ∷ last_option ∷ []) words && is_empty (plain_words words)
+    if list_all (has_head (codes "--level=" ∷ codes "--pad=" ∷ from_option ∷ last_option ∷ [])) words
     then option_map (λ slab. wishes.Slab (record { slab = slab; files = None })) (slab_in words) else None
 
 -- `write --level=V --from=Z [--pad=P] [--last] [--format=F] --edges=O --centres=C NAME`
@@ -102,7 +103,7 @@ write_by words = do
 
 unfoldable pub write_of : List (List ℕ) → Option Asked
 write_of words =
-    if only_options (level_option ∷ pad_option ∷ from_option ∷ last_option ∷ format_option ∷ edges_option
+    if only_options (codes "--level=" ∷ codes "--pad=" ∷ from_option ∷ last_option ∷ codes "--format=" ∷ edges_option
     ∷ centres_option ∷ []) words
     then write_by words else None
 

@@ -5,7 +5,9 @@ ghost use Rattle.iso_base.specs.Volume.{IsSample};
 ghost use Rattle.slab_command.specs.Words.{AreSound, IsSound, asked_by, asked_of, count_of, files_in, head_of, last_in, name_in, number_in, number_value, slab_in, write_of};
 
 use crate::asked::{Asked, Slab, SlabFiles, SlabJob};
-use arguments::{Found, format_in, level_in, only_options, pad_in, plain_word, value_of};
+use arguments::{
+    Found, are_options, format_in, level_in, only_options, pad_in, plain_word, value_of,
+};
 use mesh_walk::Numbering;
 use program::{asks_help, asks_version};
 use script::FileName;
@@ -122,12 +124,9 @@ fn count(words: &[String]) -> Option<Asked>
     ensures value { result ≡ count_of (map string_bytes words.now) }
     ensures sound { IfSome result IsSound }
 {
-    if !only_options(words, &[LEVEL, PAD, FROM, LAST]) {
+    if !are_options(words, &[LEVEL, PAD, FROM, LAST]) {
         return None;
     }
-    let Found::Nothing = plain_word(words) else {
-        return None;
-    };
     let slab = slab_in(words)?;
     let job = SlabJob { slab, files: None };
     Some(Asked::Slab { job })

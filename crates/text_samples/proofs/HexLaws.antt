@@ -7,17 +7,17 @@ use Rattle.std.proofs.lemmas.List.{append_assoc, append-nil}
 use Rattle.std.proofs.Math.ListN.{get_or-append}
 use Rattle.std.proofs.lemmas.List.Elements.{All-nil}
 use Rattle.std.proofs.Math.Seq.{drop-append-add}
-use Rattle.std.specs.List.{range_with_len}
+use Rattle.std.specs.List.{enumerate_from, range_with_len}
 use Rattle.byteorder.specs.Endian.{big_from, little_from}
 use Rattle.iso_base.specs.Volume.{IsOfKind, width_of}
 use Rattle.iso_base.specs.declared.kind.SampleKind.{SampleKind}
 use Rattle.text_samples.specs.declared.fault.SampleFault.{SampleFault}
 use Rattle.text_samples.specs.declared.fault.SampleFault.TheVariants.{Bad, Short, Memory}
 use Rattle.text_samples.specs.declared.hex.Wanted.{Wanted}
-use Rattle.text_lines.specs.Lines.{◌>>=◌}
+use Rattle.text_lines.specs.Lines.{◌>>=◌, all_or_first}
 use Rattle.text_samples.specs.Answers.{Fails}
 use Rattle.text_samples.specs.Text.{is_separator}
-use Rattle.text_samples.specs.Hex.{Mark, marks_in, hex_value, digits_said, paired, after_marks, digits_needed, hex_samples}
+use Rattle.text_samples.specs.Hex.{Mark, marks_in, hex_value, digit_at, paired, digits_needed, hex_samples}
 use Rattle.text_samples.specs.HexScan.{digit_of, digit_read, byte_read, bytes_read, number_read, sample_read}
 use Rattle.iso_base.specs.SampleBytes.{as_kind, number_in, sample_of, samples_in}
 
@@ -51,6 +51,23 @@ digits_read (suc n) wanted done rest = do
   first ← digit_read wanted done rest
   more ← digits_read n wanted (done + 1) first.1
   Ok (first.0 ∷ more.0, more.1)
+
+-- the digits that these bytes are, the first of which is at this place, or the first that is none
+abbrev pub digits_said : ℕ → ℕ → List Mark → Result (List ℕ) SampleFault
+digits_said each place marks = all_or_first (map (digit_at each) (enumerate_from place marks))
+
+-- the bytes after so many that are no separators
+abbrev pub after_marks : ℕ → List ℕ → List Mark → List ℕ
+after_marks zero bytes marks = bytes
+after_marks (suc n) bytes [] = []
+after_marks (suc n) bytes (m ∷ marks) = after_marks n m.after marks
+
+-- how many they are
+number_after : (n : ℕ) (bytes : List ℕ) (marks : List Mark)
+    → get_or (length bytes ∷ map (λ (m : Mark). length m.after) marks) n 0 ≡ length (after_marks n bytes marks)
+number_after zero bytes marks = refl
+number_after (suc n) bytes [] = refl
+number_after (suc n) bytes (m ∷ marks) = number_after n m.after marks
 
 -- the digits of the first marks, so many, and the bytes after them
 abbrev digits_among : ℕ → Wanted → ℕ → List ℕ → List Mark → Result (List ℕ × List ℕ) SampleFault
@@ -318,7 +335,10 @@ at_first kind big_endian count bytes =
     (digits_said (2 * width_of kind) 0 (take (digits_needed kind count) (marks_in bytes)))
     ∙ ap (λ n. digits_said (2 * width_of kind) 0 (take (digits_needed kind count) (marks_in bytes)) >>= (λ digits. cond {A = Result (List ℤ × ℕ) SampleFault} few
     (Err (Short (digits_needed kind count) n)) (Ok (samples_in kind big_endian (paired digits) count, length (after_marks (digits_needed kind count) bytes (marks_in bytes))))))
-    all))
+    all)
+    ∙ ap (λ (n : ℕ). digits_said (2 * width_of kind) 0 (take (digits_needed kind count) (marks_in bytes)) >>= (λ digits. cond {A = Result (List ℤ × ℕ) SampleFault} few
+    (Err (Short (digits_needed kind count) (length (marks_in bytes)))) (Ok (samples_in kind big_endian (paired digits) count, n))))
+    (sym (number_after (digits_needed kind count) bytes (marks_in bytes))))
 
 pub begins : (kind : SampleKind) (big_endian : Bool) (count : ℕ) (bytes : List ℕ) → IsDecoding kind big_endian count bytes 0 [] bytes
 begins kind big_endian count bytes =

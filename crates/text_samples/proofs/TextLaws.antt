@@ -1,15 +1,33 @@
 -- The samples of a text, word by word.
-use Rattle.std.proofs.Common.{◌≡◌, ℕ, suc, ◌+◌, ◌-◌, ◌<◌, ◌≤◌, true, false, cond, ltb, ℤ, List, [], ◌∷◌, ◌++◌, length, take, Some, None, Result, Ok, Err, refl, sym, ap, ◌∙◌, arith, add-zero, All}
+use Rattle.std.proofs.Common.{◌≡◌, ℕ, zero, suc, ◌+◌, ◌-◌, ◌<◌, ◌≤◌, true, false, cond, ltb, ℤ, List, [], ◌∷◌, ◌++◌, length, get_or, map, take, Some, None, Result, Ok, Err, refl, sym, ap, ◌∙◌, arith, add-zero, All}
 use Rattle.std.proofs.lemmas.Bool.{le-ltb, lt-ltb}
 use Rattle.std.proofs.lemmas.Bool.Decides.{nat_tests}
 use Rattle.std.proofs.lemmas.List.{append_assoc, append-nil}
 use Rattle.std.proofs.lemmas.List.Elements.{All-nil}
+use Rattle.std.specs.List.{enumerate_from}
 use Rattle.iso_base.specs.Volume.{IsOfKind}
 use Rattle.iso_base.specs.declared.kind.SampleKind.{SampleKind}
 use Rattle.text_samples.specs.declared.fault.SampleFault.{SampleFault}
 use Rattle.text_samples.specs.declared.fault.SampleFault.TheVariants.{Bad, Short}
-use Rattle.text_samples.specs.Text.{Word, words_in, sample_said, samples_said, after_words, text_samples}
-use Rattle.text_lines.specs.Lines.{◌>>=◌}
+use Rattle.text_samples.specs.Text.{Word, words_in, sample_said, said_at, text_samples}
+use Rattle.text_lines.specs.Lines.{◌>>=◌, all_or_first}
+
+-- the samples that words say, the first of which is at this place, or the first word that says none
+abbrev pub samples_said : SampleKind → ℕ → List Word → Result (List ℤ) SampleFault
+samples_said kind place words = all_or_first (map (said_at kind) (enumerate_from place words))
+
+-- the bytes after so many words
+abbrev pub after_words : ℕ → List ℕ → List Word → List ℕ
+after_words zero bytes words = bytes
+after_words (suc n) bytes [] = []
+after_words (suc n) bytes (w ∷ words) = after_words n w.after words
+
+-- how many they are
+number_after : (n : ℕ) (bytes : List ℕ) (words : List Word)
+    → get_or (length bytes ∷ map (λ (w : Word). length w.after) words) n 0 ≡ length (after_words n bytes words)
+number_after zero bytes words = refl
+number_after (suc n) bytes [] = refl
+number_after (suc n) bytes (w ∷ words) = number_after n w.after words
 
 -- what is read on from a place: these samples stand before it, and so many are still wanted
 unfoldable pub onward : SampleKind → List ℤ → ℕ → ℕ → List ℕ → List Word → Result (List ℤ × ℕ) SampleFault
@@ -22,7 +40,8 @@ unfolding text_samples onward
 at_first kind count bytes =
     let e : 0 + count ≡ count = omega arith in
     let f : 0 + length (words_in bytes) ≡ length (words_in bytes) = omega arith in
-    ap (λ a. samples_said kind 0 (take count (words_in bytes)) >>= (λ more. cond (ltb (length (words_in bytes)) count) (Err (Short a (length (words_in bytes)))) (Ok (more, length (after_words count bytes (words_in bytes)))))) (sym e)
+    ap (λ (a : ℕ). samples_said kind 0 (take count (words_in bytes)) >>= (λ more. cond {A = Result (List ℤ × ℕ) SampleFault} (ltb (length (words_in bytes)) count) (Err (Short count (length (words_in bytes)))) (Ok (more, a)))) (number_after count bytes (words_in bytes))
+    ∙ ap (λ a. samples_said kind 0 (take count (words_in bytes)) >>= (λ more. cond (ltb (length (words_in bytes)) count) (Err (Short a (length (words_in bytes)))) (Ok (more, length (after_words count bytes (words_in bytes)))))) (sym e)
     ∙ ap (λ a. samples_said kind 0 (take count (words_in bytes)) >>= (λ more. cond (ltb (length (words_in bytes)) count) (Err (Short (0 + count) a)) (Ok (more, length (after_words count bytes (words_in bytes)))))) (sym f)
 
 -- the two ends of a reading

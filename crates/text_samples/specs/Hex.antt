@@ -1,5 +1,5 @@
 -- Samples as the hex digits of their bytes.
-use Rattle.std.specs.Prelude.{ℕ, zero, suc, ◌+◌, ◌-◌, ◌*◌, ◌/◌, Bool, ◌&&◌, nat_le, nat_lt, ℤ, List, [], ◌∷◌, map, take, length, Option, Some, None, ok_or, Result, Ok, Err, if◌then◌else◌}
+use Rattle.std.specs.Prelude.{ℕ, ◌+◌, ◌-◌, ◌*◌, ◌/◌, Bool, ◌&&◌, nat_le, nat_lt, ℤ, List, [], ◌∷◌, map, take, length, get_or, Option, Some, None, ok_or, Result, Ok, Err, if◌then◌else◌}
 use Rattle.std.specs.List.{enumerate_from}
 use Rattle.iso_defs.specs.Bytes.{digit_zero, digit_nine, upper_a, upper_f, lower_a, lower_f}
 use Rattle.iso_base.specs.Volume.{width_of}
@@ -31,21 +31,11 @@ hex_value b =
 abbrev pub digit_at : ℕ → ℕ × Mark → Result ℕ SampleFault
 digit_at each m = ok_or (hex_value m.1.byte) (Bad (m.0 / each))
 
--- the digits that these bytes are, the first of which is at this place, or the first that is none
-abbrev pub digits_said : ℕ → ℕ → List Mark → Result (List ℕ) SampleFault
-digits_said each place marks = all_or_first (map (digit_at each) (enumerate_from place marks))
-
 -- two digits make a byte, the high one first
 abbrev pub paired : List ℕ → List ℕ
 paired [] = []
 paired (high ∷ []) = []
 paired (high ∷ low ∷ digits) = (16 * high + low) ∷ paired digits
-
--- the bytes after so many that are no separators
-abbrev pub after_marks : ℕ → List ℕ → List Mark → List ℕ
-after_marks zero bytes marks = bytes
-after_marks (suc n) bytes [] = []
-after_marks (suc n) bytes (m ∷ marks) = after_marks n m.after marks
 
 -- how many digits so many samples have
 abbrev pub digits_needed : SampleKind → ℕ → ℕ
@@ -55,10 +45,11 @@ digits_needed kind count = 2 * width_of kind * count
 -- or the sample of the first byte that is no digit, or else how many digits there are where there are too few
 unfoldable pub hex_samples : SampleKind → Bool → ℕ → List ℕ → Result (List ℤ × ℕ) SampleFault
 hex_samples kind big_endian count bytes = do
-  digits ← digits_said (2 * width_of kind) 0 (take (digits_needed kind count) (marks_in bytes))
+  digits ← all_or_first (map (digit_at (2 * width_of kind))
+      (enumerate_from 0 (take (digits_needed kind count) (marks_in bytes))))
   if nat_lt (length (marks_in bytes)) (digits_needed kind count)
       then Err (Short (digits_needed kind count) (length (marks_in bytes)))
       else Ok (
         samples_in kind big_endian (paired digits) count,
-        length (after_marks (digits_needed kind count) bytes (marks_in bytes)),
+        get_or (length bytes ∷ map (λ (m : Mark). length m.after) (marks_in bytes)) (digits_needed kind count) 0,
       )

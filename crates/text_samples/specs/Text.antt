@@ -1,5 +1,5 @@
 -- Samples as decimal numbers between separators.
-use Rattle.std.specs.Prelude.{ℕ, Bool, true, ◌==◌, ◌&&◌, ◌||◌, nat_le, List, [], ◌∷◌, if◌then◌else◌, zero, suc, nat_lt, int_le, ℤ, map, take, length, Option, Some, None, option_and_then, ok_or, Result, Ok, Err}
+use Rattle.std.specs.Prelude.{ℕ, Bool, true, ◌==◌, ◌&&◌, ◌||◌, nat_le, List, [], ◌∷◌, if◌then◌else◌, nat_lt, int_le, ℤ, map, take, length, get_or, Option, Some, None, option_and_then, ok_or, Result, Ok, Err}
 use Rattle.iso_defs.specs.Bytes.{tab, carriage_return, space, comma}
 use Rattle.std.specs.List.{enumerate_from}
 use Rattle.iso_base.specs.Volume.{least_of, greatest_of}
@@ -41,33 +41,21 @@ abbrev pub skip_separators : List ℕ → List ℕ
 skip_separators [] = []
 skip_separators (b ∷ bs) = if is_separator b then skip_separators bs else b ∷ bs
 
--- the number where it is a sample of the kind
-abbrev pub if_of_kind : SampleKind → ℤ → Option ℤ
-if_of_kind kind v = if int_le (least_of kind) v && int_le v (greatest_of kind) then Some v else None
-
--- the sample that a word says
+-- the sample that a word says: a number within the range of the kind
 unfoldable pub sample_said : SampleKind → List ℕ → Option ℤ
-sample_said kind word = option_and_then (if_of_kind kind) (number_of word)
+sample_said kind word =
+    option_and_then (λ v. if int_le (least_of kind) v && int_le v (greatest_of kind) then Some v else None)
+    (number_of word)
 
 -- the sample of the word at a place, or that it says none
 abbrev pub said_at : SampleKind → ℕ × Word → Result ℤ SampleFault
 said_at kind w = ok_or (sample_said kind w.1.text) (Bad w.0)
 
--- the samples that words say, the first of which is at this place, or the first word that says none
-abbrev pub samples_said : SampleKind → ℕ → List Word → Result (List ℤ) SampleFault
-samples_said kind place words = all_or_first (map (said_at kind) (enumerate_from place words))
-
--- the bytes after so many words
-abbrev pub after_words : ℕ → List ℕ → List Word → List ℕ
-after_words zero bytes words = bytes
-after_words (suc n) bytes [] = []
-after_words (suc n) bytes (w ∷ words) = after_words n w.after words
-
 -- the samples that the first words of a text say, so many, and the number of bytes after the last of them;
 -- or the first of them that says none, or else how many words there are where there are too few
 unfoldable pub text_samples : SampleKind → ℕ → List ℕ → Result (List ℤ × ℕ) SampleFault
 text_samples kind count bytes = do
-  samples ← samples_said kind 0 (take count (words_in bytes))
+  samples ← all_or_first (map (said_at kind) (enumerate_from 0 (take count (words_in bytes))))
   if nat_lt (length (words_in bytes)) count
       then Err (Short count (length (words_in bytes)))
-      else Ok (samples, length (after_words count bytes (words_in bytes)))
+      else Ok (samples, get_or (length bytes ∷ map (λ (w : Word). length w.after) (words_in bytes)) count 0)
