@@ -5,9 +5,9 @@
 
 prints the smallest `ulimit -s`, in KB, with which each command and each line of a session works, with an empty environment
 and, where setarch can do that, at fixed addresses; with --write the table of docs/limits.md, rounded up, is put there. With
---check it ends with 1 where a command takes more than that table says, or where a line that writes a file ends for want of
-stack and the file is not as it was. PATH is a built isobench, and with --slabs a built isoslab; without the options those of this
-checkout.
+--check it ends with 1 where a command takes more than that table says or than the page allows, or where a line that writes a
+file ends for want of stack and the file is not as it was. PATH is a built isobench, and with --slabs a built isoslab; without
+the options those of this checkout.
 """
 import argparse
 import pathlib
@@ -23,6 +23,8 @@ BEGIN, END = "<!-- written by tools/measure_stack.py -->\n", "<!-- end of what i
 
 # With all of these each command works; what it takes does not grow with the volume.
 MOST = 8192
+# With so many, docs/limits.md says, every command of isobench works, and of isoslab, in any environment.
+ENOUGH, ENOUGH_FOR_SLABS = 640, 768
 LEVEL = "--level=128"
 COMMANDS = {
     "`points`": (["points", LEVEL], "volume"),
@@ -135,6 +137,9 @@ def faults(bench, sizes):
     for name, size in sizes.items():
         if size > known.get(name, 0):
             yield f"{name} takes {size} KB of stack, and docs/limits.md says {known.get(name, 'nothing')}"
+        enough = ENOUGH_FOR_SLABS if name in SLAB_COMMANDS else ENOUGH
+        if rounded(size) > enough:
+            yield f"{name} takes {size} KB of stack, and is to work with {enough}"
     for line in WRITING:
         changed = [size for size in range(16, sizes[f"session, `{line.split()[0]}`"], 4) if bench.changes_file(line, size)]
         if changed:

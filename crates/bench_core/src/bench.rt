@@ -21,11 +21,10 @@ use crate::edits::{area_change, is_in_range, one_change};
 use crate::fault::BeginFault;
 use crate::follow::follow;
 use crate::mesh_numbers::{walked_measures, walked_numbers};
-use crate::ranks::ranks_of;
+use crate::room::room_of;
 use crate::windows::{Window, write_window};
 use brick_store::BrickStore;
-use cached_mesh::{KeptVolume, refresh_bricks, write_mesh};
-use edge_points::RowRanks;
+use cached_mesh::{KeptVolume, MeshRoom, refresh_bricks, write_mesh};
 use edit_log::{Change, EditLog};
 use iso_base::{BenchFault, Level, MeshFormat, Point, SampleKind, Steps, Written};
 use iso_io::Shelf;
@@ -52,7 +51,7 @@ pub struct Bench {
     tree: SpanTree,
     cache: MeshCache,
     // Of use while a mesh is written.
-    ranks: RowRanks,
+    room: MeshRoom,
 }
 
 impl Model for Bench {
@@ -65,7 +64,7 @@ impl Model for Bench {
     ghost view = { λ b. record { state = state_of b.store b.level b.log; cache = b.cache } };
 
     ghost invariant = { λ b. IsHistory b.store b.level b.log
-        × (IsKept b.store b.tree b.cache × (b.ranks.grid ≡ b.store.grid)) };
+        × (IsKept b.store b.tree b.cache × (b.room.rows.ranks.grid ≡ b.store.grid)) };
 }
 
 // How many points one `fill` may change.
@@ -113,7 +112,7 @@ impl Bench {
         let tree = SpanTree::of(alloc, &store)?;
         let cache = MeshCache::new(alloc, capacity)?;
         let log = EditLog::new(alloc)?;
-        let ranks = ranks_of(alloc, &store.sizes())?;
+        let room = room_of(alloc, &store.sizes())?;
         Ok(Bench {
             alloc,
             store,
@@ -121,7 +120,7 @@ impl Bench {
             log,
             tree,
             cache,
-            ranks,
+            room,
         })
     }
 
@@ -376,7 +375,7 @@ impl Bench {
             cache: &self.cache,
             level: self.level,
         };
-        let written = write_mesh(shelf, name, &volume, format, &mut self.ranks, steps)?;
+        let written = write_mesh(shelf, name, &volume, format, &mut self.room, steps)?;
         Ok(written)
     }
 

@@ -9,7 +9,7 @@ mod edits;
 mod fault;
 mod follow;
 mod mesh_numbers;
-mod ranks;
+mod room;
 mod surface;
 mod windows;
 

@@ -11,7 +11,7 @@ ghost use Rattle.mesh_report.specs.Report.{summary_of};
 ghost use Rattle.span_tree.specs.Spans.{IsRightFor};
 
 use brick_store::BrickStore;
-use cached_mesh::CachedRows;
+use cached_mesh::{CachedRows, no_slices};
 use component_walk::{part_measures, part_numbers};
 use iso_base::{Level, Memory, Steps};
 use measure::Measures;
@@ -41,7 +41,8 @@ fn counted_numbers<L: Ledger>(
         (triangles store.now.grid (field store.now.samples level))) }
 {
     let (book, share) = blank.open::<L>();
-    let mut rows = CachedRows::new(store, cache, level);
+    let mut held = no_slices();
+    let mut rows = CachedRows::new(store, cache, level, &mut held);
     let mut steps = Steps::new(book, share);
     part_numbers(alloc, store, tree, level, &mut rows, &mut steps)
 }
@@ -79,7 +80,8 @@ fn counted_measures<L: Ledger>(
     ensures { IfOk result (λ m. m ≡ measures_at store.now level) }
 {
     let (book, share) = blank.open::<L>();
-    let mut rows = CachedRows::new(store, cache, level);
+    let mut held = no_slices();
+    let mut rows = CachedRows::new(store, cache, level, &mut held);
     let mut steps = Steps::new(book, share);
     part_measures(alloc, store, tree, level, &mut rows, &mut steps)
 }

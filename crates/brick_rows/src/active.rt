@@ -97,6 +97,17 @@ impl ActiveRow {
         }
     }
 
+    /// Lets the row and what is noted of its slice go: a row of no volume again.
+    pub fn forget(&mut self)
+        ensures { (v : Leveled) → IsGrid v.grid → AreMarked v self.new }
+    {
+        self.y = u32::MAX;
+        self.z = u32::MAX;
+        self.first = u32::MAX;
+        self.start = 0;
+        self.slice.first = u32::MAX;
+    }
+
     /// Goes to a row of points that other bricks hold, and marks their slice unless it is marked.
     fn mark_anew(&mut self, field: &BricksAtLevel, y: u32, z: u32)
         requires y { y < field.now.grid.ny }

@@ -25,7 +25,7 @@ use span_tree::SpanTree;
 use std::alloc::Global;
 use std::marker::Brand;
 use std::sync::ledger::{Blank, Ledger};
-use stitch::{write_obj, write_ply};
+use stitch::{RowRoom, write_obj, write_ply};
 use volume_gen::generate;
 use voxel_list::VoxelList;
 
@@ -123,12 +123,12 @@ fn counted_walk<L: Ledger>(
     tree: &SpanTree,
     level: Level,
     format: TwoWayFormat,
-    ranks: &mut RowRanks,
+    room: &mut RowRoom,
     sink: &mut MemSink,
     blank: Blank,
 ) -> Result<Written, Failed>
     requires tree { IsRightFor tree.now store.now }
-    requires ranks { ranks.old.grid ≡ store.now.grid }
+    requires ranks { room.old.ranks.grid ≡ store.now.grid }
     requires named { blank.name ≡ L.name }
     requires shares { blank.parts ≡ L.parts }
     requires one { blank.parts ≡ 1 }
@@ -137,8 +137,8 @@ fn counted_walk<L: Ledger>(
     let mut steps = Steps::new(book, share);
     let mut rows = FreshRows { store, level };
     match format {
-        TwoWayFormat::Ply => write_ply(store, tree, level, &mut rows, ranks, sink, &mut steps),
-        TwoWayFormat::Obj => write_obj(store, tree, level, &mut rows, ranks, sink, &mut steps),
+        TwoWayFormat::Ply => write_ply(store, tree, level, &mut rows, room, sink, &mut steps),
+        TwoWayFormat::Obj => write_obj(store, tree, level, &mut rows, room, sink, &mut steps),
     }
 }
 
@@ -153,9 +153,10 @@ fn put_walk(
 ) -> Result<Result<Written, Failed>, Memory>
     requires { IsRightFor tree.now store.now }
 {
-    let mut ranks = RowRanks::new(alloc, &store.sizes())?;
+    let ranks = RowRanks::new(alloc, &store.sizes())?;
+    let mut room = RowRoom::new(alloc, ranks)?;
     let blank = Blank::new(1);
-    Ok(counted_walk::<Brand>(store, tree, level, format, &mut ranks, sink, blank))
+    Ok(counted_walk::<Brand>(store, tree, level, format, &mut room, sink, blank))
 }
 
 /// The text of a walk.

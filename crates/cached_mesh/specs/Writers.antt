@@ -26,7 +26,7 @@ written_of t = two_way_written t.format (is_some (store_of t).pad)
 pub record IsReadyText {L : Type 0} (t : MeshText L) : Type 0 where
   pub tree : IsRightFor t.volume.now.tree.now (store_of t)
   pub items : IsRight (store_of t).grid (store_of t).samples t.volume.now.cache.now.items
-  pub ranks : t.ranks.now.grid ≡ (store_of t).grid
+  pub ranks : t.room.now.rows.ranks.grid ≡ (store_of t).grid
 
 -- the bricks that are not cached at the level
 abbrev pub waiting_in : {L : Type 0} → MeshText L → List ℕ
@@ -34,8 +34,8 @@ waiting_in t = waiting (store_of t).grid (store_of t).samples t.volume.now.level
 
 -- it has the same loans, the ranks are made for the same sizes, and at most 1,536 cells were classified for each waiting brick
 pub record KeepsLoans {L : Type 0} (t u : MeshText L) : Type 0 where
-  pub same_ranks : u.ranks.ghost_name ≡ t.ranks.ghost_name
+  pub same_room : u.room.ghost_name ≡ t.room.ghost_name
   pub same_steps : u.steps.ghost_name ≡ t.steps.ghost_name
-  pub ranks : u.ranks.now.grid ≡ t.ranks.now.grid
+  pub ranks : u.room.now.rows.ranks.grid ≡ t.room.now.rows.ranks.grid
   pub least : t.steps.now ≤ u.steps.now
   pub most : u.steps.now ≤ t.steps.now + 1536 * length (waiting_in t)

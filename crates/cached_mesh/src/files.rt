@@ -10,9 +10,10 @@ ghost use Rattle.mesh_cache.specs.Economy.{IsRight, waiting};
 ghost use Rattle.span_tree.specs.Spans.{IsRightFor};
 ghost use Rattle.cached_mesh.specs.Texts.{scratch_text};
 
+use crate::room::MeshRoom;
 use crate::rows::CachedRows;
+use crate::slices::clear_slices;
 use brick_store::BrickStore;
-use edge_points::RowRanks;
 use iso_base::{Level, Steps, Written};
 use iso_io::{Failed, FileText, Shelf, Sink, write_file};
 use mesh_cache::MeshCache;
@@ -21,9 +22,9 @@ use span_tree::SpanTree;
 use std::sync::ledger::Ledger;
 use stitch::{write_obj, write_ply};
 
-/// So many bytes of stack are taken to write a mesh: by the tables and buffers of `stitch::write_in`, and above it by those of
-/// the triangles. `tools/measure_stack.py` finds whether they are enough.
-const STACK_BYTES: usize = 1_080_000;
+/// So many bytes of stack are taken to write a mesh: by the block of lines, and above it by the buffers of the triangles.
+/// `tools/measure_stack.py` finds whether they are enough.
+const STACK_BYTES: usize = 584_000;
 
 /// A volume in bricks at a level, with the tree of its spans and what is kept of its mesh.
 #[derive(Clone, Copy)]
@@ -39,28 +40,30 @@ fn put_mesh<K: Sink, L: Ledger>(
     sink: &mut K,
     volume: &KeptVolume<'_>,
     format: TwoWayFormat,
-    ranks: &mut RowRanks,
+    room: &mut MeshRoom,
     steps: &mut Steps<L>,
 ) -> Result<Written, Failed>
     requires tree { IsRightFor volume.now.tree.now volume.now.store.now }
     requires items { IsRight volume.now.store.now.grid volume.now.store.now.samples volume.now.cache.now.items }
-    requires ranks { ranks.old.grid ≡ volume.now.store.now.grid }
+    requires ranks { room.old.rows.ranks.grid ≡ volume.now.store.now.grid }
     ensures text { Puts (K.seen sink.old) (K.seen sink.new) result
         (scratch_text format volume.now.store.now volume.now.level) }
     ensures written { let v = volume.now.store.now in
         IfOk result (λ w. w ≡ two_way_written format (is_some v.pad)
         (mesh_of v.grid (field v.samples volume.now.level))) }
-    ensures ranks { ranks.new.grid ≡ ranks.old.grid }
+    ensures ranks { room.new.rows.ranks.grid ≡ room.old.rows.ranks.grid }
     ensures least { steps.old ≤ steps.new }
     ensures most { let v = volume.now.store.now in
         steps.new ≤ steps.old + 1536 * length (waiting v.grid v.samples volume.now.level volume.now.cache.now.items) }
 {
     let (store, tree, cache) = (volume.store, volume.tree, volume.cache);
     let level = volume.level;
-    let mut rows = CachedRows::new(store, cache, level);
+    let held = room.held.as_mut();
+    clear_slices(held);
+    let mut rows = CachedRows::new(store, cache, level, held);
     match format {
-        TwoWayFormat::Ply => write_ply(store, tree, level, &mut rows, ranks, sink, steps),
-        TwoWayFormat::Obj => write_obj(store, tree, level, &mut rows, ranks, sink, steps),
+        TwoWayFormat::Ply => write_ply(store, tree, level, &mut rows, &mut room.rows, sink, steps),
+        TwoWayFormat::Obj => write_obj(store, tree, level, &mut rows, &mut room.rows, sink, steps),
     }
 }
 
@@ -69,7 +72,7 @@ fn put_mesh<K: Sink, L: Ledger>(
 struct MeshText<'a, L: Ledger> {
     volume: &'a KeptVolume<'a>,
     format: TwoWayFormat,
-    ranks: &'a mut RowRanks,
+    room: &'a mut MeshRoom,
     steps: &'a mut Steps<L>,
 }
 
@@ -78,20 +81,20 @@ impl<'a, L: Ledger> MeshText<'a, L> {
     fn new(
         volume: &'a KeptVolume<'a>,
         format: TwoWayFormat,
-        ranks: &'a mut RowRanks,
+        room: &'a mut MeshRoom,
         steps: &'a mut Steps<L>,
     ) -> MeshText<'a, L>
         ensures volume { result.volume.now ≡ volume.now }
         ensures format { result.format ≡ format }
-        ensures same_ranks { result.ranks.ghost_name ≡ ranks.entry.ghost_name }
+        ensures same_room { result.room.ghost_name ≡ room.entry.ghost_name }
         ensures same_steps { result.steps.ghost_name ≡ steps.entry.ghost_name }
-        ensures ranks { result.ranks.now ≡ ranks.old }
+        ensures room { result.room.now ≡ room.old }
         ensures steps { result.steps.now ≡ steps.old }
     {
         MeshText {
             volume,
             format,
-            ranks,
+            room,
             steps,
         }
     }
@@ -113,7 +116,7 @@ impl<'a, L: Ledger> FileText for MeshText<'a, L> {
     ghost keeps = { KeepsLoans };
 
     ghost stays = { λ t. record {
-      same_ranks = refl;
+      same_room = refl;
       same_steps = refl;
       ranks = refl;
       least = le_refl t.steps.now;
@@ -121,7 +124,7 @@ impl<'a, L: Ledger> FileText for MeshText<'a, L> {
     } };
 
     fn put<K: Sink>(&mut self, sink: &mut K) -> Result<Written, Failed> {
-        put_mesh(sink, self.volume, self.format, self.ranks, self.steps)
+        put_mesh(sink, self.volume, self.format, self.room, self.steps)
     }
 }
 
@@ -134,22 +137,22 @@ pub fn write_mesh<H: Shelf, L: Ledger>(
     name: &str,
     volume: &KeptVolume<'_>,
     format: TwoWayFormat,
-    ranks: &mut RowRanks,
+    room: &mut MeshRoom,
     steps: &mut Steps<L>,
 ) -> Result<Written, Failed>
     requires tree { IsRightFor volume.now.tree.now volume.now.store.now }
     requires items { IsRight volume.now.store.now.grid volume.now.store.now.samples volume.now.cache.now.items }
-    requires ranks { ranks.old.grid ≡ volume.now.store.now.grid }
+    requires ranks { room.old.rows.ranks.grid ≡ volume.now.store.now.grid }
     ensures file { Stores (H.seen shelf.old) (H.seen shelf.new) result name.now
         (scratch_text format volume.now.store.now volume.now.level) }
     ensures written { let v = volume.now.store.now in
         IfOk result (λ w. w ≡ two_way_written format (is_some v.pad)
         (mesh_of v.grid (field v.samples volume.now.level))) }
-    ensures ranks { ranks.new.grid ≡ ranks.old.grid }
+    ensures ranks { room.new.rows.ranks.grid ≡ room.old.rows.ranks.grid }
     ensures least { steps.old ≤ steps.new }
     ensures most { let v = volume.now.store.now in
         steps.new ≤ steps.old + 1536 * length (waiting v.grid v.samples volume.now.level volume.now.cache.now.items) }
 {
-    let mut text = MeshText::new(volume, format, ranks, steps);
+    let mut text = MeshText::new(volume, format, room, steps);
     write_file::<_, _, STACK_BYTES>(shelf, name, &mut text)
 }

@@ -5,10 +5,13 @@ mod counts;
 mod entries;
 mod files;
 mod refresh;
+mod room;
 mod rows;
 mod slices;
 
 pub use counts::count_entries;
 pub use files::{KeptVolume, write_mesh};
 pub use refresh::refresh_bricks;
+pub use room::MeshRoom;
 pub use rows::CachedRows;
+pub use slices::no_slices;

@@ -7,10 +7,10 @@ ghost use Rattle.mesh_cache.specs.Cache.{kept_at};
 ghost use Rattle.mesh_cache.specs.Economy.{IsRight, is_fresh};
 ghost use Rattle.brick_rows.specs.Named.{IsCellRow};
 ghost use Rattle.cached_mesh.specs.Kept.{named_by};
-ghost use Rattle.cached_mesh.specs.Slices.{AreSlices, HaveSlice, IsHeld};
+ghost use Rattle.cached_mesh.specs.Slices.{AreNone, AreSlices, HaveSlice, IsHeld};
 
 use crate::counts::{count_anew, count_pages};
-use crate::slices::{SLICE_BRICKS, Slices, across_of, has_few_bricks, no_slices};
+use crate::slices::{SLICE_BRICKS, Slices, across_of, has_few_bricks};
 use arrayvec::ArrayVec;
 use brick_mesh::extract_row;
 use brick_rows::{CellRows, Counts};
@@ -47,6 +47,7 @@ fn hold_anew(
     requires there { in_brick store.now.grid brick.0 1 1 (z + 1) ≡ true }
     requires held { All (AreSlices store.now level cache.now.items) held.old }
     ensures held { All (AreSlices store.now level cache.now.items) held.new }
+    ensures places { length held.new ≡ 256 }
     ensures here { OnTrue result (IsHeld brick.0 z held.new) }
     ensures kept { result ≡ is_fresh brick.0 level cache.now.items }
 {
@@ -76,6 +77,7 @@ fn hold(
     requires there { in_brick store.now.grid brick.0 1 1 (z + 1) ≡ true }
     requires held { All (AreSlices store.now level cache.now.items) held.old }
     ensures held { All (AreSlices store.now level cache.now.items) held.new }
+    ensures places { length held.new ≡ 256 }
     ensures here { OnTrue result (IsHeld brick.0 z held.new) }
     ensures kept { result ≡ is_fresh brick.0 level cache.now.items }
 {
@@ -119,7 +121,7 @@ pub struct CachedRows<'a> {
     store: &'a BrickStore,
     cache: &'a MeshCache,
     level: Level,
-    held: [Slices; SLICE_BRICKS as usize],
+    held: &'a mut [Slices; SLICE_BRICKS as usize],
 }
 
 impl<'a> Model for CachedRows<'a> {
@@ -133,20 +135,26 @@ impl<'a> Model for CachedRows<'a> {
     ghost view = { λ r. record { volume = r.store.now; level = r.level; cache = r.cache.now } };
 
     ghost invariant = { λ r. IsRight r.store.now.grid r.store.now.samples r.cache.now.items
-        × All (AreSlices r.store.now r.level r.cache.now.items) r.held };
+        × All (AreSlices r.store.now r.level r.cache.now.items) r.held.now };
 }
 
 impl<'a> CachedRows<'a> {
-    /// The rows of a volume at a level, by a cache that is right for it.
-    pub fn new(store: &'a BrickStore, cache: &'a MeshCache, level: Level) -> CachedRows<'a>
-        requires { IsRight store.now.grid store.now.samples cache.now.items }
+    /// The rows of a volume at a level, by a cache that is right for it. `held` is a buffer with no slices.
+    pub fn new(
+        store: &'a BrickStore,
+        cache: &'a MeshCache,
+        level: Level,
+        held: &'a mut [Slices; SLICE_BRICKS as usize],
+    ) -> CachedRows<'a>
+        requires items { IsRight store.now.grid store.now.samples cache.now.items }
+        requires none { All AreNone held.old }
         ensures { result ≡ record { volume = store.now; level = level; cache = cache.now } }
     {
         CachedRows {
             store,
             cache,
             level,
-            held: no_slices(),
+            held,
         }
     }
 }
@@ -164,7 +172,7 @@ impl<'a> CellRows for CachedRows<'a> {
         steps: &mut Steps<L>,
     ) {
         let (store, cache, level) = (self.store, self.cache, self.level);
-        if hold(store, cache, level, brick, z, &mut self.held) {
+        if hold(store, cache, level, brick, z, self.held) {
             fill_row(&self.held[(brick.0 % SLICE_BRICKS) as usize], y, z, rows);
             return;
         }

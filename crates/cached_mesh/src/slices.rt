@@ -114,6 +114,14 @@ pub fn no_slices() -> [Slices; SLICE_BRICKS as usize]
     [Slices::none(); SLICE_BRICKS as usize]
 }
 
+/// Lets the slices in each place go. Apart, so that what is moved is gone from the stack then.
+#[inline(never)]
+pub fn clear_slices(held: &mut [Slices; SLICE_BRICKS as usize])
+    ensures { All AreNone held.new }
+{
+    *held = no_slices();
+}
+
 /// Whether a slice has few bricks. This saves work and no result rests on it: the contract leaves both answers free.
 pub fn has_few_bricks(store: &BrickStore) -> bool {
     let sizes = store.sizes();

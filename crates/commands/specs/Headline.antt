@@ -1,20 +1,18 @@
 -- The headline, where a mesh is extracted.
-use Rattle.std.specs.Prelude.{ℕ, Bool, true, false, List, Option, Result, is_some, ℤ, ◌≡◌, Ok}
+use Rattle.std.specs.Prelude.{ℕ, Bool, List, Option, Result, is_some, ℤ, ◌≡◌, Ok}
 use Rattle.iso_defs.specs.Scratch.{vertices}
 use Rattle.iso_defs.specs.Texts.{obj_text, ply_text}
 use Rattle.iso_base.specs.Volume.{Volume, field}
-use Rattle.iso_base.specs.declared.format.MeshFormat.{MeshFormat}
 use Rattle.command_terms.specs.Volumes.{text_by, volume_of, with_pad, volume_limit}
 use Rattle.program.specs.declared.answer.VolumeFault.{VolumeFault}
-use Rattle.mesh_lines.specs.declared.style.Origin.{Origin}
+use Rattle.mesh_lines.specs.Origins.{origin_of}
 use Rattle.mesh_lines.specs.declared.style.Style.{Style}
+use Rattle.mesh_text.specs.Formats.{mesh_format}
 use Rattle.mesh_text.specs.declared.format.TwoWayFormat.{TwoWayFormat}
 use Rattle.mesh_text.specs.declared.format.TwoWayFormat.TheVariants.{Ply, Obj}
 use Rattle.bench_core.specs.Surface.{IsWatertight, mesh_triangles}
 use Rattle.command_terms.specs.Outcome.{HasRead, Streams, Writes}
 use Rattle.program.specs.declared.answer.Answer.{Answer}
-use Rattle.iso_base.specs.declared.format.MeshFormat.TheVariants as meshes
-use Rattle.mesh_lines.specs.declared.style.Origin.TheVariants as origins
 use Rattle.program.specs.declared.answer.Answer.TheVariants as answers
 
 -- the text of the mesh of a volume at a level, from scratch
@@ -33,16 +31,8 @@ abbrev pub mesh_in : ℤ → Option ℤ → TwoWayFormat → Volume → Result (
 mesh_in level pad format v = text_by (text_of_volume format level) (with_pad pad level v)
 
 -- how a mesh is written: in a format, and with a pad or without one
-abbrev pub format_of : TwoWayFormat → MeshFormat
-format_of Ply = meshes.Ply
-format_of Obj = meshes.Obj
-
-abbrev pub origin_of : Bool → Origin
-origin_of true = origins.Pad
-origin_of false = origins.Volume
-
 abbrev pub style_of : TwoWayFormat → Bool → Style
-style_of format padded = record { format = format_of format; origin = origin_of padded }
+style_of format padded = record { format = mesh_format format; origin = origin_of padded }
 
 -- The mesh of the volume in the bytes of a file is watertight: an oriented surface in which each crossing lattice edge carries
 -- exactly one vertex, each edge off the border lies in two triangles that run it in opposite directions, each border edge in

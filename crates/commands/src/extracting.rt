@@ -35,15 +35,10 @@ impl MeshRequest {
     fn style(self) -> Style
         ensures { result ≡ style_of self.format (is_some self.pad) }
     {
-        let origin = match self.pad {
-            Some(_) => Origin::Pad,
-            None => Origin::Volume,
-        };
-        let format = match self.format {
-            TwoWayFormat::Ply => MeshFormat::Ply,
-            TwoWayFormat::Obj => MeshFormat::Obj,
-        };
-        Style { format, origin }
+        Style {
+            format: MeshFormat::from(self.format),
+            origin: Origin::of(self.pad),
+        }
     }
 }
 

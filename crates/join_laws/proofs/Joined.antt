@@ -15,7 +15,8 @@ use Rattle.mesh_text.specs.declared.format.TwoWayFormat.TheVariants.{Obj, Ply}
 use Rattle.mesh_walk.specs.declared.walk.Numbering.{Numbering}
 use Rattle.padded_samples.specs.PaddedSlabs.{layers, ringed}
 use Rattle.padded_samples.proofs.SlabRows.{at_most_one}
-use Rattle.slab_command.specs.Parts.{counts_of, format_of, style_of}
+use Rattle.mesh_text.specs.Formats.{mesh_format}
+use Rattle.slab_command.specs.Parts.{counts_of, style_of}
 use Rattle.slab_command.specs.Slabs.{check_slices, ends_of, of_read, owned_part, padded, part_of, raised, refused, with_pad, with_slices}
 use Rattle.program.specs.declared.answer.VolumeFault.TheVariants.{LevelNotAbovePad, Pad}
 use Rattle.slab_command.specs.declared.answer.SlabAnswer.{SlabAnswer}
@@ -290,9 +291,9 @@ module _ (v : Voxels) (level : ℤ) (pad : Option ℤ) (format : TwoWayFormat) (
       (ap₂ (λ t u. t ++ u) (files_are (file_text format Centres) (texts.centre_text (lines_of format) (is_padded pad)) centre_file bs 0 first a)
       (triangle_files bs 0 first a ∙ ap (λ k. texts.triangle_texts (lines_of format) 0 k (map slab_in bs)) (edges_sum bs)))
 
-  whole_head : (bs : List WrittenSlab) → head_of (format_of format) (edges_in bs + centres_in bs) (triangles_in bs)
-      ≡ head_of (format_of format) (sum_by slabs.edge_count (map slab_in bs) + sum_by slabs.centre_count (map slab_in bs)) (sum_by slabs.triangle_count (map slab_in bs))
-  whole_head bs = ap₂ (λ m n. head_of (format_of format) m n) (ap₂ (λ m n. m + n) (edges_sum bs) (centres_sum bs)) (triangles_sum bs)
+  whole_head : (bs : List WrittenSlab) → head_of (mesh_format format) (edges_in bs + centres_in bs) (triangles_in bs)
+      ≡ head_of (mesh_format format) (sum_by slabs.edge_count (map slab_in bs) + sum_by slabs.centre_count (map slab_in bs)) (sum_by slabs.triangle_count (map slab_in bs))
+  whole_head bs = ap₂ (λ m n. head_of (mesh_format format) m n) (ap₂ (λ m n. m + n) (edges_sum bs) (centres_sum bs)) (triangles_sum bs)
 
   -- the mesh of the whole, by its slabs
   large : IsSolid g
@@ -318,7 +319,7 @@ module _ (v : Voxels) (level : ℤ) (pad : Option ℤ) (format : TwoWayFormat) (
       ap₂ (λ t u. t ++ u) (whole_head bs) (lines_joined bs a) ∙ sym (by_format format (map slab_in bs) cut)
     where
       by_format : (f : TwoWayFormat) (cs : List slabs.Slab) → slabs.AreSlabs g s 0 cs → mesh_text f (is_padded pad) g s
-          ≡ head_of (format_of f) (sum_by slabs.edge_count cs + sum_by slabs.centre_count cs) (sum_by slabs.triangle_count cs)
+          ≡ head_of (mesh_format f) (sum_by slabs.edge_count cs + sum_by slabs.centre_count cs) (sum_by slabs.triangle_count cs)
           ++ texts.joined_texts (lines_of f) (is_padded pad) cs
       by_format Ply cs cut = ply_by_slabs g large s cs cut (is_padded pad)
       by_format Obj cs cut = obj_by_slabs g large s cs cut (is_padded pad)

@@ -10,7 +10,8 @@ use Rattle.mesh_lines.specs.declared.style.Origin.TheVariants.{Volume, Pad, Wind
 use Rattle.mesh_text.specs.Lines.{coordinates_text}
 use Rattle.mesh_text.specs.declared.format.TwoWayFormat.{TwoWayFormat}
 use Rattle.mesh_text.specs.declared.format.TwoWayFormat.TheVariants.{Obj, Ply}
-use Rattle.slab_command.specs.Parts.{format_of, origin_by, style_of}
+use Rattle.mesh_text.specs.Formats.{mesh_format}
+use Rattle.slab_command.specs.Parts.{origin_by, style_of}
 use Rattle.slab_command.specs.declared.asked.Slab.{Slab}
 use Rattle.slab_laws.specs.Slabs.{lifted}
 use Rattle.slab_laws.specs.SlabTexts.{Lines, obj_lines, ply_lines}
@@ -69,17 +70,17 @@ module _ (origin : Origin) (padded : Bool) (height : ℕ) (are : AreLifted origi
       ∙ ap (coordinates_text (printed padded p.0) (printed padded p.1)) (are.z_is p.2))
 
   line_is : (format : TwoWayFormat) (u : ℕ × Position)
-      → vertex_line (record { format = format_of format; origin = origin }) u ≡ (lines_of format).vertex padded (lifted height u.1)
+      → vertex_line (record { format = mesh_format format; origin = origin }) u ≡ (lines_of format).vertex padded (lifted height u.1)
   unfolding vertex_line
-  line_is Ply u = ap (λ t. line (vertex_letter (format_of Ply) ++ t)) (coordinates_are u.1)
-  line_is Obj u = ap (λ t. line (vertex_letter (format_of Obj) ++ t)) (coordinates_are u.1)
+  line_is Ply u = ap (λ t. line (vertex_letter (mesh_format Ply) ++ t)) (coordinates_are u.1)
+  line_is Obj u = ap (λ t. line (vertex_letter (mesh_format Obj) ++ t)) (coordinates_are u.1)
 
 pub vertex_is : (slab : Slab) (format : TwoWayFormat) (u : ℕ × Position)
     → vertex_line (style_of slab format) u ≡ (lines_of format).vertex (is_padded slab.pad) (lifted (height_of slab.pad slab.from) u.1)
 vertex_is slab format u =
     line_is (origin_by slab.pad slab.from) (is_padded slab.pad) (height_of slab.pad slab.from) (are_lifted slab.pad slab.from) format u
 
-pub triangle_is : (format : TwoWayFormat) (t : Triangle) → face_line (format_of format) t ≡ (lines_of format).triangle t
+pub triangle_is : (format : TwoWayFormat) (t : Triangle) → face_line (mesh_format format) t ≡ (lines_of format).triangle t
 unfolding face_line
 triangle_is Ply t = refl
 triangle_is Obj t = refl

@@ -13,7 +13,8 @@ use Rattle.mesh_walk.specs.declared.parts.PartCounts.{PartCounts}
 use Rattle.mesh_walk.specs.declared.walk.Numbering.{Numbering}
 use Rattle.nrrd_read.specs.Nrrd.{nrrd_of}
 use Rattle.slab_laws.specs.SlabVolumes.{sliced}
-use Rattle.slab_command.specs.Parts.{Output, counts_of, counts_text, file_name, format_of, part_text, slab_given, style_of}
+use Rattle.mesh_text.specs.Formats.{mesh_format}
+use Rattle.slab_command.specs.Parts.{Output, counts_of, counts_text, file_name, part_text, slab_given, style_of}
 use Rattle.slab_command.specs.Slabs.{part_of}
 use Rattle.slab_command.specs.declared.asked.Slab.{Slab}
 use Rattle.slab_command.specs.declared.asked.SlabFiles.{SlabFiles}
@@ -113,7 +114,7 @@ GivesFiles = (b : WrittenSlab) (files : SlabFiles) (output : Output) → part_of
 -- then all triangles
 abbrev pub joined_text : TwoWayFormat → List WrittenSlab → List ℕ
 joined_text format bs =
-    head_of (format_of format) (edges_in bs + centres_in bs) (triangles_in bs)
+    head_of (mesh_format format) (edges_in bs + centres_in bs) (triangles_in bs)
     ++ (flat_map (file_text format Edges) bs
     ++ (flat_map (file_text format Centres) bs ++ flat_map (file_text format Triangles) bs))
 

@@ -1,9 +1,10 @@
 //! How vertices and faces are written.
-ghost use Rattle.std.specs.Prelude.{◌≡◌, ◌+◌, ◌<◌, ◌≤◌, ◌^◌, ◌++◌, length, unsigned_abs};
+ghost use Rattle.std.specs.Prelude.{◌≡◌, ◌+◌, ◌<◌, ◌≤◌, ◌^◌, ◌++◌, is_some, length, unsigned_abs};
 ghost use Rattle.iso_base.specs.Triangles.{triangle_of};
 ghost use Rattle.mesh_text.specs.Lines.{letter_line};
 ghost use Rattle.mesh_text.specs.Numbers.{IsShort, number_text};
 ghost use Rattle.mesh_lines.specs.Lines.{origin_coordinate, vertex_line};
+ghost use Rattle.mesh_lines.specs.Origins.{origin_of};
 ghost use Rattle.mesh_lines.specs.Triangles.{first_of, letter_of};
 
 use iso_base::{MeshFormat, PAD_SHIFT, Point, Thousandth};
@@ -21,6 +22,18 @@ pub enum Origin {
     /// The lowest point of a volume within its padding, of which this one is a padded slab that begins with so many of the volume's
     /// slices below it and no layer of padding: the ring's layer is subtracted along x and y, and the slices below are added.
     PaddedSlab(u32),
+}
+
+impl Origin {
+    /// That of a whole volume, in its padding where it has one.
+    pub fn of(pad: Option<i64>) -> Origin
+        ensures { result ≡ origin_of (is_some pad) }
+    {
+        match pad {
+            Some(_) => Origin::Pad,
+            None => Origin::Volume,
+        }
+    }
 }
 
 /// How a mesh is written: its format, and where its coordinates are counted from.

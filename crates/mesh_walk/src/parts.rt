@@ -137,8 +137,11 @@ pub fn count_part<R: MeshRows>(rows: &mut R, walk: Walk<'_>) -> PartCounts
     }
 }
 
+// Each of the three calls below has a frame of its own, so that the blocks of lines do not lie side by side on the stack.
+
 /// Appends the lines of the vertices on the edges that begin in the lowest slices. `Failed` comes only where the sink's count
 /// rose; a prefix of the lines was then taken.
+#[inline(never)]
 pub fn write_part_edges<R: MeshRows, K: Sink>(
     rows: &mut R,
     walk: Walk<'_>,
@@ -160,6 +163,7 @@ pub fn write_part_edges<R: MeshRows, K: Sink>(
 
 /// Appends the lines of the centres of the cells of the lowest slices. `Failed` comes only where the sink's count rose; a
 /// prefix of the lines was then taken. Each row of cells is asked for at most once.
+#[inline(never)]
 pub fn write_part_centres<R: MeshRows, K: Sink>(
     rows: &mut R,
     walk: Walk<'_>,
@@ -184,6 +188,7 @@ pub fn write_part_centres<R: MeshRows, K: Sink>(
 
 /// Appends the lines of the triangles of the cells of the lowest slices, by the numbers of the walk. `Failed` comes only where
 /// the sink's count rose; a prefix of the lines was then taken. Each row of cells is asked for at most once.
+#[inline(never)]
 pub fn write_part_faces<R: MeshRows, K: Sink>(
     rows: &mut R,
     walk: Walk<'_>,

@@ -1,12 +1,11 @@
 -- What a slab owns of the whole mesh, in numbers and as texts.
 use Rattle.std.specs.Prelude.{ℕ, ◌+◌, ◌-◌, ◌==◌, ◌++◌, ℤ, nat_lt, if◌then◌else◌, max, List, [], ◌∷◌, codes, decimal, Option, None, Some, Result, Ok, Err}
 use Rattle.iso_defs.specs.Texts.{line}
-use Rattle.iso_base.specs.declared.format.MeshFormat.{MeshFormat}
-use Rattle.iso_base.specs.declared.format.MeshFormat.TheVariants as meshes
 use Rattle.mesh_lines.specs.declared.style.Origin.{Origin}
 use Rattle.mesh_lines.specs.declared.style.Origin.TheVariants as origins
 use Rattle.mesh_lines.specs.declared.style.Style.{Style}
 use Rattle.mesh_rows.specs.Counts.{centres_among, triangles_among}
+use Rattle.mesh_text.specs.Formats.{mesh_format}
 use Rattle.mesh_text.specs.declared.format.TwoWayFormat.{TwoWayFormat}
 use Rattle.mesh_text.specs.declared.format.TwoWayFormat.TheVariants.{Ply, Obj}
 use Rattle.mesh_walk.specs.Numbers.{edges_to}
@@ -70,12 +69,8 @@ origin_by (Some pad) from = if from == 0 then origins.Pad else origins.PaddedSla
 abbrev pub origin_of : Slab → Origin
 origin_of slab = origin_by slab.pad slab.from
 
-abbrev pub format_of : TwoWayFormat → MeshFormat
-format_of Ply = meshes.Ply
-format_of Obj = meshes.Obj
-
 abbrev pub style_of : Slab → TwoWayFormat → Style
-style_of slab format = record { format = format_of format; origin = origin_of slab }
+style_of slab format = record { format = mesh_format format; origin = origin_of slab }
 
 -- these lines of a part
 abbrev pub part_text : Part → Style → Numbering → PartLines → List ℕ

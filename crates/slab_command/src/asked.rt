@@ -5,6 +5,9 @@ use mesh_text::TwoWayFormat;
 use mesh_walk::Numbering;
 use script::FileName;
 
+/// The largest number of a slice, of a vertex and of a triangle.
+pub const MOST_NUMBER: u64 = 2_147_483_647;
+
 /// A slab of a volume: the slices from `from` on, counted without padding. All but the last one share their two uppermost slices
 /// with the next slab. A pad surrounds the volume, of which the slab has a ring round each slice.
 #[derive(Clone, Copy)]

@@ -6,14 +6,11 @@ ghost use Rattle.slab_command.specs.Parts.{check_numbers, counts_text, largest_n
 ghost use Rattle.slab_command.specs.Slabs.{check_slices};
 
 use crate::answer::SlabAnswer;
-use crate::asked::{Slab, SlabFiles};
+use crate::asked::{MOST_NUMBER, Slab, SlabFiles};
 use arrayvec::ArrayString;
 use mesh_text::TwoWayFormat;
 use mesh_walk::{Numbering, PartCounts};
 use number_digits::put_number;
-
-/// The largest number of a vertex that a mesh file holds.
-const MOST_NUMBER: u64 = 2_147_483_647;
 
 /// How many of its stored slices a slab owns: the last one owns all of them, the others all but two.
 pub fn owned_slices(slab: Slab, slices: u32) -> Result<u32, SlabAnswer>

@@ -16,9 +16,9 @@ use mesh_text::TwoWayFormat;
 use mesh_walk::Numbering;
 use samples::Samples;
 
-/// So many bytes of stack are taken to write a file, beyond the block of lines, which is in the frame of `write_lines`: those of
-/// the triangles. `tools/measure_stack.py` finds whether they are enough.
-const STACK_BYTES: usize = 480_000;
+/// So many bytes of stack are taken to write a file: by the block of lines, and above it by the buffers of the triangles.
+/// `tools/measure_stack.py` finds whether they are enough.
+const STACK_BYTES: usize = 694_000;
 
 /// Which lines of a part a file has.
 #[derive(Clone, Copy)]
@@ -65,12 +65,8 @@ fn origin_of(slab: Slab) -> Origin
 fn style_of(slab: Slab, format: TwoWayFormat) -> Style
     ensures { result ≡ style_of slab format }
 {
-    let format = match format {
-        TwoWayFormat::Ply => MeshFormat::Ply,
-        TwoWayFormat::Obj => MeshFormat::Obj,
-    };
     Style {
-        format,
+        format: MeshFormat::from(format),
         origin: origin_of(slab),
     }
 }

@@ -4,7 +4,7 @@ ghost use Rattle.std.specs.Prelude.{◌≡◌, ◌≤◌, IfSome, length, map, s
 ghost use Rattle.iso_base.specs.Volume.{IsSample};
 ghost use Rattle.slab_command.specs.Words.{AreSound, IsSound, asked_by, asked_of, count_of, files_in, head_of, last_in, name_in, number_in, number_value, slab_in, write_of};
 
-use crate::asked::{Asked, Slab, SlabFiles, SlabJob};
+use crate::asked::{Asked, MOST_NUMBER, Slab, SlabFiles, SlabJob};
 use arguments::{
     Found, are_options, format_in, level_in, only_options, pad_in, plain_word, value_of,
 };
@@ -29,9 +29,6 @@ const EDGES: &[u8] = b"--edges=";
 
 const CENTRES: &[u8] = b"--centres=";
 
-/// The largest number of a slice, a vertex or a triangle.
-const MOST: u64 = 2_147_483_647;
-
 /// The most bytes of the name that those of the files begin with: the longest of these has ten more, and a name has 255 at most.
 const NAME_BYTES: usize = 245;
 
@@ -44,7 +41,11 @@ fn number(text: &[u8]) -> Option<u32>
         return None;
     }
     let n = digits(text)?;
-    if n <= MOST { Some(n as u32) } else { None }
+    if n <= MOST_NUMBER {
+        Some(n as u32)
+    } else {
+        None
+    }
 }
 
 /// The number of the option with this head `--name=`, which must be there.

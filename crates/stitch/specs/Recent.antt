@@ -56,6 +56,6 @@ pub record AreRecent (v : Leveled) (lists : RecentLists) : Type 0 where
 
 -- what is known of the rows of a volume
 pub record AreKnown (v : Leveled) (known : KnownRows) : Type 0 where
-  pub even : AreMarked v known.even
-  pub odd : AreMarked v known.odd
+  pub even : AreMarked v known.even.now
+  pub odd : AreMarked v known.odd.now
   pub recent : AreRecent v known.recent

@@ -1,13 +1,16 @@
 //! What is known of the rows of a volume in bricks.
 ghost use Rattle.std.specs.Prelude.{◌≡◌, ◌+◌, ◌*◌, ◌/◌, ◌^◌, ◌<◌, ◌≤◌, ◌++◌, IfSome, drop, length, take};
-ghost use Rattle.mesh_rows.specs.Rows.{AreActive, AreEdges, row_names, row_places};
+ghost use Rattle.flat_mesh.specs.Lattice.{heights};
+ghost use Rattle.mesh_rows.specs.Rows.{AreActive, AreCases, AreEdges, row_names, row_places};
 ghost use Rattle.brick_rows.specs.Bricks.{AreMarked};
+ghost use Rattle.brick_rows.specs.Named.{NamesCases, asked_along};
 ghost use Rattle.stitch.specs.Recent.{AreKnown};
 
 use crate::recent::{ListRoom, RecentLists};
-use brick_rows::{ActiveRow, BricksAtLevel, flag_row, place_row};
-use iso_base::{LONGEST_ROW, ROW_EDGES};
-use row_bits::list_edges;
+use brick_rows::{ActiveRow, BricksAtLevel, CellRows, case_row, flag_row, place_row};
+use iso_base::{LONGEST_ROW, ROW_EDGES, Steps};
+use row_bits::{CASES, list_edges};
+use std::sync::ledger::Ledger;
 
 /// Whether a slice of points lies in a slice of bricks of even number.
 #[inline(always)]
@@ -91,31 +94,66 @@ fn list_marked(
     list_edges(&flags[..nx], edges)
 }
 
-/// What is known of the rows of a volume: the lists of those that were asked for last, buffers for the flags and the crossing edges of
-/// one, and the bricks that hold those rows, in slices of bricks of even and of odd number: a traversal goes to and fro between two slices
-/// of points.
+/// Writes the cases of the cells of a row whose bricks are marked at the front of a buffer.
+fn case_marked<R: CellRows, L: Ledger>(
+    field: &BricksAtLevel,
+    active: &ActiveRow,
+    rows: &mut R,
+    all: &mut [u16; CASES],
+    steps: &mut Steps<L>,
+)
+    requires active { AreMarked field.now active.now }
+    requires y { active.now.y + 1 < field.now.grid.ny }
+    requires z { active.now.z + 1 < field.now.grid.nz }
+    requires named { NamesCases (R.named rows.old) field.now.grid (heights field.now) }
+    ensures cases { AreCases field.now active.now.y active.now.z all.new }
+    ensures same { R.named rows.new ≡ R.named rows.old }
+    ensures least { steps.old ≤ steps.new }
+    ensures most { steps.new
+        ≤ steps.old + 8 * asked_along field.now.grid (heights field.now) (R.named rows.old) active.now.y active.now.z }
+{
+    let nx = field.sizes().nx() as usize;
+    case_row(field, active, rows, &mut all[..nx], steps);
+}
+
+/// Room for what is known of rows, of which nothing is known.
+#[derive(Drop)]
+pub struct KnownRoom<'a> {
+    pub lists: ListRoom<'a>,
+    pub even: &'a mut ActiveRow,
+    pub odd: &'a mut ActiveRow,
+}
+
+/// What is known of the rows of a volume: the lists of those that were asked for last, buffers for the flags, the crossing edges and
+/// the cases of one, and the bricks that hold those rows, in slices of bricks of even and of odd number: a traversal goes to and fro
+/// between two slices of points.
 #[derive(Drop)]
 pub struct KnownRows<'a> {
-    pub even: ActiveRow,
-    pub odd: ActiveRow,
+    pub even: &'a mut ActiveRow,
+    pub odd: &'a mut ActiveRow,
     pub recent: RecentLists<'a>,
     flags: [u8; LONGEST_ROW],
     list: [u16; ROW_EDGES],
+    pub cases: [u16; CASES],
 }
 
 impl<'a> KnownRows<'a> {
     /// Nothing is known.
-    pub fn new(field: &BricksAtLevel, room: ListRoom<'a>) -> KnownRows<'a>
+    pub fn new(field: &BricksAtLevel, room: KnownRoom<'a>) -> KnownRows<'a>
         ensures { AreKnown field.now result }
     {
         // Reading the sizes brings in what is true of every volume at a level.
         let _ = field.sizes();
+        let KnownRoom { lists, even, odd } = room;
+        even.forget();
+        odd.forget();
         KnownRows {
-            even: ActiveRow::new(),
-            odd: ActiveRow::new(),
-            recent: RecentLists::new(room),
+            even,
+            odd,
+            recent: RecentLists::new(lists),
             flags: [0; LONGEST_ROW],
             list: [0; ROW_EDGES],
+            cases: [0; CASES],
         }
     }
 
@@ -130,10 +168,10 @@ impl<'a> KnownRows<'a> {
     {
         if is_even(z) {
             self.even.mark(field, y, z);
-            list_marked(field, &self.even, &mut self.flags, &mut self.list)
+            list_marked(field, self.even, &mut self.flags, &mut self.list)
         } else {
             self.odd.mark(field, y, z);
-            list_marked(field, &self.odd, &mut self.flags, &mut self.list)
+            list_marked(field, self.odd, &mut self.flags, &mut self.list)
         }
     }
 
@@ -228,6 +266,35 @@ impl<'a> KnownRows<'a> {
         }
         place_row(field, y, z, edges, places);
         self.recent.put(key, places);
+    }
+
+    /// Writes the cases of the cells of a row at the front of their buffer.
+    pub fn case_cells<R: CellRows, L: Ledger>(
+        &mut self,
+        field: &BricksAtLevel,
+        y: u32,
+        z: u32,
+        rows: &mut R,
+        steps: &mut Steps<L>,
+    )
+        requires y { y + 1 < field.now.grid.ny }
+        requires z { z + 1 < field.now.grid.nz }
+        requires known { AreKnown field.now self.old }
+        requires named { NamesCases (R.named rows.old) field.now.grid (heights field.now) }
+        ensures cases { AreCases field.now y z self.new.cases }
+        ensures known { AreKnown field.now self.new }
+        ensures same { R.named rows.new ≡ R.named rows.old }
+        ensures least { steps.old ≤ steps.new }
+        ensures most { steps.new
+            ≤ steps.old + 8 * asked_along field.now.grid (heights field.now) (R.named rows.old) y z }
+    {
+        if is_even(z) {
+            self.even.mark(field, y, z);
+            case_marked(field, self.even, rows, &mut self.cases, steps);
+        } else {
+            self.odd.mark(field, y, z);
+            case_marked(field, self.odd, rows, &mut self.cases, steps);
+        }
     }
 
     /// Lists the active cells of a row with their cases, and says how many there are, if that is known.

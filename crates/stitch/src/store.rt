@@ -7,51 +7,26 @@ ghost use Rattle.std.specs.Prelude.{◌≡◌, ◌+◌, ◌*◌, ◌<◌, ◌≤
 ghost use Rattle.flat_mesh.specs.Lattice.{heights};
 ghost use Rattle.iso_defs.specs.Bricks.{brick_count};
 ghost use Rattle.mesh_rows.specs.Rows.{AreCases};
-ghost use Rattle.brick_rows.specs.Bricks.{AreMarked};
 ghost use Rattle.brick_rows.specs.Named.{NamesCases, asked_along, asked_among};
 ghost use Rattle.stitch.specs.Asked.{asked_in_row};
 ghost use Rattle.stitch.specs.Kept.{StoreKept};
 ghost use Rattle.stitch.specs.Recent.{AreKnown};
 
 use crate::counts::count_all;
-use crate::recent::ListRoom;
-use crate::row_memory::{KnownRows, is_even};
-use brick_rows::{ActiveRow, BricksAtLevel, CellRows, case_row};
+use crate::row_memory::{KnownRoom, KnownRows};
+use brick_rows::{BricksAtLevel, CellRows};
 use flat_mesh::{Cell, Heights};
 use iso_base::{LONGEST_ROW, ROW_EDGES, Sizes, Steps};
 use mesh_rows::{Counts, MeshRows};
-use row_bits::{CASES, list_cases};
+use row_bits::list_cases;
 use std::sync::ledger::Ledger;
 
-/// Writes the cases of the cells of a row whose bricks are marked at the front of a buffer.
-fn case_marked<R: CellRows, L: Ledger>(
-    field: &BricksAtLevel,
-    active: &ActiveRow,
-    rows: &mut R,
-    all: &mut [u16; CASES],
-    steps: &mut Steps<L>,
-)
-    requires active { AreMarked field.now active.now }
-    requires y { active.now.y + 1 < field.now.grid.ny }
-    requires z { active.now.z + 1 < field.now.grid.nz }
-    requires named { NamesCases (R.named rows.old) field.now.grid (heights field.now) }
-    ensures cases { AreCases field.now active.now.y active.now.z all.new }
-    ensures same { R.named rows.new ≡ R.named rows.old }
-    ensures least { steps.old ≤ steps.new }
-    ensures most { steps.new
-        ≤ steps.old + 8 * asked_along field.now.grid (heights field.now) (R.named rows.old) active.now.y active.now.z }
-{
-    let nx = field.sizes().nx() as usize;
-    case_row(field, active, rows, &mut all[..nx], steps);
-}
-
-/// The rows of a volume in bricks at a level: with who names the cases of its cells, the counter of what that takes, what is known of
-/// its rows, and a buffer for the cases of one.
+/// The rows of a volume in bricks at a level: with who names the cases of its cells, the counter of what that takes, and what is known
+/// of its rows.
 #[derive(Drop)]
 pub struct StoreRows<'a, R: CellRows, L: Ledger> {
     field: &'a BricksAtLevel<'a>,
     known: KnownRows<'a>,
-    cases: [u16; CASES],
     rows: &'a mut R,
     steps: &'a mut Steps<L>,
     ghost known_are: { AreKnown field.now known },
@@ -63,7 +38,7 @@ impl<'a, R: CellRows, L: Ledger> StoreRows<'a, R, L> {
     pub fn new(
         field: &'a BricksAtLevel<'a>,
         rows: &'a mut R,
-        room: ListRoom<'a>,
+        room: KnownRoom<'a>,
         steps: &'a mut Steps<L>,
     ) -> StoreRows<'a, R, L>
         requires { NamesCases (R.named rows.old) field.now.grid (heights field.now) }
@@ -78,17 +53,16 @@ impl<'a, R: CellRows, L: Ledger> StoreRows<'a, R, L> {
         StoreRows {
             field,
             known: KnownRows::new(field, room),
-            cases: [0; CASES],
             rows,
             steps,
         }
     }
 
-    /// Writes the cases of the cells of a row into the buffer.
+    /// Writes the cases of the cells of a row into the buffer of what is known.
     fn case_cells(&mut self, y: u32, z: u32)
         requires y { y + 1 < self.old.field.now.grid.ny }
         requires z { z + 1 < self.old.field.now.grid.nz }
-        ensures cases { AreCases self.old.field.now y z self.new.cases }
+        ensures cases { AreCases self.old.field.now y z self.new.known.cases }
         ensures field { self.new.field.now ≡ self.old.field.now }
         ensures same { R.named self.new.rows.now ≡ R.named self.old.rows.now }
         ensures same_rows { self.new.rows.ghost_name ≡ self.old.rows.ghost_name }
@@ -97,25 +71,8 @@ impl<'a, R: CellRows, L: Ledger> StoreRows<'a, R, L> {
         ensures most { self.new.steps.now ≤ self.old.steps.now + 8 * asked_along self.old.field.now.grid
             (heights self.old.field.now) (R.named self.old.rows.now) y z }
     {
-        if is_even(z) {
-            self.known.even.mark(self.field, y, z);
-            case_marked(
-                self.field,
-                &self.known.even,
-                self.rows,
-                &mut self.cases,
-                self.steps,
-            );
-        } else {
-            self.known.odd.mark(self.field, y, z);
-            case_marked(
-                self.field,
-                &self.known.odd,
-                self.rows,
-                &mut self.cases,
-                self.steps,
-            );
-        }
+        self.known
+            .case_cells(self.field, y, z, self.rows, self.steps);
     }
 }
 
@@ -176,7 +133,7 @@ impl<'a, R: CellRows, L: Ledger> MeshRows for StoreRows<'a, R, L> {
         }
         self.case_cells(y, z);
         let nx = self.field.sizes().nx() as usize;
-        let count = list_cases(&self.cases, nx - 1, places, cases);
+        let count = list_cases(&self.known.cases, nx - 1, places, cases);
         self.known
             .keep_cells(self.field, y, z, &places[..count], &cases[..count]);
         count

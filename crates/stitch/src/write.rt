@@ -12,12 +12,13 @@ ghost use Rattle.span_tree.specs.Spans.{IsRightFor};
 ghost use Rattle.brick_rows.specs.Named.{NamesCases, asked_among};
 ghost use Rattle.stitch.specs.Origins.{origin_for};
 
-use crate::recent::{LIST_PLACES, ListRoom};
+use crate::recent::ListRoom;
+use crate::room::RowRoom;
+use crate::row_memory::KnownRoom;
 use crate::store::StoreRows;
 use brick_rows::{BricksAtLevel, CellRows};
 use brick_store::BrickStore;
 use byte_streams::{Failed, Sink};
-use edge_points::RowRanks;
 use iso_base::{Level, MeshFormat, Steps, Written};
 use mesh_lines::{Origin, Style};
 use mesh_walk::write_mesh;
@@ -40,16 +41,16 @@ fn write_in<R: CellRows, K: Sink, L: Ledger>(
     style: Style,
     field: &BricksAtLevel,
     rows: &mut R,
-    ranks: &mut RowRanks,
+    room: &mut RowRoom,
     sink: &mut K,
     steps: &mut Steps<L>,
 ) -> Result<Written, Failed>
     requires named { NamesCases (R.named rows.old) field.now.grid (heights field.now) }
-    requires ranks { ranks.old.grid ≡ field.now.grid }
+    requires ranks { room.old.ranks.grid ≡ field.now.grid }
     ensures text { Puts (K.seen sink.old) (K.seen sink.new) result
         (text_of style (mesh_of field.now.grid (heights field.now))) }
     ensures written { IfOk result (λ w. w ≡ written_of style (mesh_of field.now.grid (heights field.now))) }
-    ensures ranks { ranks.new.grid ≡ ranks.old.grid }
+    ensures ranks { room.new.ranks.grid ≡ room.old.ranks.grid }
     ensures same { R.named rows.new ≡ R.named rows.old }
     ensures least { steps.old ≤ steps.new }
     ensures most { steps.new
@@ -58,21 +59,21 @@ fn write_in<R: CellRows, K: Sink, L: Ledger>(
 {
     // Reading the sizes brings in what is true of every volume at a level.
     let _ = field.sizes();
-    // Buffers, made here so that they are never moved.
-    let mut tags = [0; LIST_PLACES];
-    let mut starts = [0; LIST_PLACES];
-    let mut counts = [0; LIST_PLACES];
-    // What is kept of rows has room that stays with the ranks from one write to the next.
-    let mut numbers = ranks.take_room();
-    let room = ListRoom {
-        tags: &mut tags,
-        starts: &mut starts,
-        counts: &mut counts,
+    let mut numbers = room.ranks.take_room();
+    let lists = ListRoom {
+        tags: room.tags.as_mut(),
+        starts: room.starts.as_mut(),
+        counts: room.counts.as_mut(),
         numbers: &mut numbers,
     };
-    let mut store = StoreRows::new(field, rows, room, steps);
-    let written = write_mesh(&mut store, style, ranks, sink);
-    ranks.set_room(numbers);
+    let known = KnownRoom {
+        lists,
+        even: room.even.as_mut(),
+        odd: room.odd.as_mut(),
+    };
+    let mut store = StoreRows::new(field, rows, known, steps);
+    let written = write_mesh(&mut store, style, &mut room.ranks, sink);
+    room.ranks.set_room(numbers);
     written
 }
 
@@ -84,18 +85,18 @@ pub fn write_ply<R: CellRows, K: Sink, L: Ledger>(
     tree: &SpanTree,
     level: Level,
     rows: &mut R,
-    ranks: &mut RowRanks,
+    room: &mut RowRoom,
     sink: &mut K,
     steps: &mut Steps<L>,
 ) -> Result<Written, Failed>
     requires tree { IsRightFor tree.now store.now }
     requires named { NamesCases (R.named rows.old) store.now.grid (field store.now.samples level) }
-    requires ranks { ranks.old.grid ≡ store.now.grid }
+    requires ranks { room.old.ranks.grid ≡ store.now.grid }
     ensures text { Puts (K.seen sink.old) (K.seen sink.new) result
         (scratch_ply (is_some store.now.pad) store.now.grid (field store.now.samples level)) }
     ensures written { IfOk result (λ w. w ≡ ply_written (is_some store.now.pad)
         (mesh_of store.now.grid (field store.now.samples level))) }
-    ensures ranks { ranks.new.grid ≡ ranks.old.grid }
+    ensures ranks { room.new.ranks.grid ≡ room.old.ranks.grid }
     ensures same { R.named rows.new ≡ R.named rows.old }
     ensures least { steps.old ≤ steps.new }
     ensures most { steps.new ≤ steps.old + 1536 * asked_among store.now.grid (field store.now.samples level)
@@ -108,7 +109,7 @@ pub fn write_ply<R: CellRows, K: Sink, L: Ledger>(
         origin: origin_of(store),
     };
     let field = BricksAtLevel::new(store, tree, level);
-    write_in(style, &field, rows, ranks, sink, steps)
+    write_in(style, &field, rows, room, sink, steps)
 }
 
 /// Appends the text of the same mesh as OBJ, as `write_ply` does. Its faces count vertices from 1.
@@ -117,18 +118,18 @@ pub fn write_obj<R: CellRows, K: Sink, L: Ledger>(
     tree: &SpanTree,
     level: Level,
     rows: &mut R,
-    ranks: &mut RowRanks,
+    room: &mut RowRoom,
     sink: &mut K,
     steps: &mut Steps<L>,
 ) -> Result<Written, Failed>
     requires tree { IsRightFor tree.now store.now }
     requires named { NamesCases (R.named rows.old) store.now.grid (field store.now.samples level) }
-    requires ranks { ranks.old.grid ≡ store.now.grid }
+    requires ranks { room.old.ranks.grid ≡ store.now.grid }
     ensures text { Puts (K.seen sink.old) (K.seen sink.new) result
         (scratch_obj (is_some store.now.pad) store.now.grid (field store.now.samples level)) }
     ensures written { IfOk result (λ w. w ≡ obj_written (is_some store.now.pad)
         (mesh_of store.now.grid (field store.now.samples level))) }
-    ensures ranks { ranks.new.grid ≡ ranks.old.grid }
+    ensures ranks { room.new.ranks.grid ≡ room.old.ranks.grid }
     ensures same { R.named rows.new ≡ R.named rows.old }
     ensures least { steps.old ≤ steps.new }
     ensures most { steps.new ≤ steps.old + 1536 * asked_among store.now.grid (field store.now.samples level)
@@ -141,5 +142,5 @@ pub fn write_obj<R: CellRows, K: Sink, L: Ledger>(
         origin: origin_of(store),
     };
     let field = BricksAtLevel::new(store, tree, level);
-    write_in(style, &field, rows, ranks, sink, steps)
+    write_in(style, &field, rows, room, sink, steps)
 }

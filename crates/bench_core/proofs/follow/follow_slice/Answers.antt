@@ -51,7 +51,7 @@ start c y = ap₂ (λ m n. m * (y + n * c.args.z)) (along_x c) (along_y c) ∙ s
 pub loop-y-init : goal.loop-y-init
 loop-y-init c =
     let g = c.args.store.now.grid in
-    let none = rows_begun g c.args.area.now c.args.z c.requires.layer c.requires.reached c.bricks_at-first_y.result.0 c.bricks_at-first_y.result.1 (reach_y c) in
+    let none = rows_begun g c.args.area.now c.args.z c.requires.slice c.requires.reached c.bricks_at-first_y.result.0 c.bricks_at-first_y.result.1 (reach_y c) in
     record {
       tree = ap (λ l. record c.args.tree.now { spans = spans_after c.args.store.now l c.args.tree.now.spans }) (sym none);
       cache = without_none c.args.cache.now ∙ ap (λ l. without_bricks l c.args.cache.now) (sym none);
@@ -65,13 +65,13 @@ follow_run-requires-clause-bricks c =
     let g = c.args.store.now.grid in
     let y : c.loop-y.y < bricks_along g 1 = (let h = end_low g.ny c.args.area.now.low.y c.args.area.now.high.y _ _ (reach_y (goal.at.follow_run-requires-clause-bricks c).After-bricks_along-along_y) in omega arith) in
     subst (λ n. n + c.bricks_at-first_x.result.1 ≤ brick_count g) (sym (start (goal.at.follow_run-requires-clause-bricks c).After-bricks_along-along_y c.loop-y.y))
-    (row_inside g c.loop-y.y c.args.z c.bricks_at-first_x.result.1 y c.requires.layer (end_low g.nx c.args.area.now.low.x c.args.area.now.high.x _ _ (reach_x (goal.at.follow_run-requires-clause-bricks c).After-bricks_along-along_y)))
+    (row_inside g c.loop-y.y c.args.z c.bricks_at-first_x.result.1 y c.requires.slice (end_low g.nx c.args.area.now.low.x c.args.area.now.high.x _ _ (reach_x (goal.at.follow_run-requires-clause-bricks c).After-bricks_along-along_y)))
 
 pub loop-y-preserved : goal.loop-y-preserved
 loop-y-preserved c =
     let g = c.args.store.now.grid in
     let a = c.args.area.now in
-    let more = row_followed g a c.args.z c.requires.layer c.requires.reached c.bricks_at-first_y.result.0 c.bricks_at-first_y.result.1 (reach_y (goal.at.loop-y-preserved c).After-bricks_along-along_y)
+    let more = row_followed g a c.args.z c.requires.slice c.requires.reached c.bricks_at-first_y.result.0 c.bricks_at-first_y.result.1 (reach_y (goal.at.loop-y-preserved c).After-bricks_along-along_y)
     c.loop-y.y _ _ _ c.bricks_at-first_x.result.0 c.bricks_at-first_x.result.1 (reach_x (goal.at.loop-y-preserved c).After-bricks_along-along_y) (omega arith) (omega arith) (start (goal.at.loop-y-preserved c).After-bricks_along-along_y c.loop-y.y) refl refl in
     record {
       tree = tree_followed c.args.store.now c.args.tree.now c.loop-y.tree c.follow_run.new.tree (rows_held g a c.args.z c.loop-y.y) _ (rows_held g a c.args.z (c.loop-y.y + 1))
@@ -86,7 +86,7 @@ returns-clause-tree c =
     let a = c.args.area.now in
     let last : c.loop-y.y ≡ c.bricks_at-first_y.result.1 = (let h = first_end g.ny a.low.y a.high.y _ _ (reach_y (goal.at.returns-clause-tree c).After-bricks_along-along_y) in omega arith) in
     c.loop-y.invariant.tree ∙ ap (λ l. record c.args.tree.now { spans = spans_after c.args.store.now l c.args.tree.now.spans })
-    (ap (rows_held g a c.args.z) last ∙ rows_done g a c.args.z c.requires.layer c.requires.reached _ _ (reach_y (goal.at.returns-clause-tree c).After-bricks_along-along_y))
+    (ap (rows_held g a c.args.z) last ∙ rows_done g a c.args.z c.requires.slice c.requires.reached _ _ (reach_y (goal.at.returns-clause-tree c).After-bricks_along-along_y))
 
 pub returns-clause-cache : goal.returns-clause-cache
 returns-clause-cache c =
@@ -94,4 +94,4 @@ returns-clause-cache c =
     let a = c.args.area.now in
     let last : c.loop-y.y ≡ c.bricks_at-first_y.result.1 = (let h = first_end g.ny a.low.y a.high.y _ _ (reach_y (goal.at.returns-clause-cache c).After-bricks_along-along_y) in omega arith) in
     c.loop-y.invariant.cache ∙ ap (λ l. without_bricks l c.args.cache.now)
-    (ap (rows_held g a c.args.z) last ∙ rows_done g a c.args.z c.requires.layer c.requires.reached _ _ (reach_y (goal.at.returns-clause-cache c).After-bricks_along-along_y))
+    (ap (rows_held g a c.args.z) last ∙ rows_done g a c.args.z c.requires.slice c.requires.reached _ _ (reach_y (goal.at.returns-clause-cache c).After-bricks_along-along_y))

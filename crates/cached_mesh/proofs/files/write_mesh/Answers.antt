@@ -1,8 +1,8 @@
 use Rattle.std.proofs.Common.{◌≡◌, ◌∙◌, ap, subst, sym, rules}
-use Rattle.edge_points.specs.Rows.{RowNumbers}
 use Rattle.mesh_cache.specs.Economy.{IsRight}
 use Rattle.span_tree.specs.Spans.{IsRightFor}
 use Rattle.cached_mesh.specs.declared.files.KeptVolume.{KeptVolume}
+use Rattle.cached_mesh.specs.declared.room.MeshRoom.{MeshRoom}
 use Rattle.cached_mesh.proofs.files.write_mesh.Goals as goal
 
 pub write_file-requires-clause-text : goal.write_file-requires-clause-text
@@ -11,7 +11,7 @@ write_file-requires-clause-text g c =
     record {
       tree = subst (λ (v : KeptVolume). IsRightFor v.tree.now v.store.now) (sym text.volume) c.requires.tree;
       items = subst (λ (v : KeptVolume). IsRight v.store.now.grid v.store.now.samples v.cache.now.items) (sym text.volume) c.requires.items;
-      ranks = ap (λ (r : RowNumbers). r.grid) text.ranks ∙ (c.requires.ranks ∙ ap (λ (v : KeptVolume). v.store.now.grid) (sym text.volume));
+      ranks = ap (λ (r : MeshRoom). r.rows.ranks.grid) text.room ∙ (c.requires.ranks ∙ ap (λ (v : KeptVolume). v.store.now.grid) (sym text.volume));
     }
 
 pub returns-clause-written : goal.returns-clause-written
@@ -20,9 +20,9 @@ returns-clause-written g c =
 
 pub returns-clause-ranks : goal.returns-clause-ranks
 returns-clause-ranks g c =
-    let kept : c.write_file.new.text.ranks.now.grid ≡ c.args.ranks.now.grid
-    = c.write_file.ensures.keeps.ranks ∙ ap (λ (r : RowNumbers). r.grid) c.new-text.ensures.ranks in
-    ap (λ (r : RowNumbers). r.grid) (c.ranks-1.given.1 (search (rules, c.write_file.ensures.keeps.same_ranks, c.new-text.ensures.same_ranks)))
+    let kept : c.write_file.new.text.room.now.rows.ranks.grid ≡ c.args.room.now.rows.ranks.grid
+    = c.write_file.ensures.keeps.ranks ∙ ap (λ (r : MeshRoom). r.rows.ranks.grid) c.new-text.ensures.room in
+    ap (λ (r : MeshRoom). r.rows.ranks.grid) (c.room-1.given.1 (search (rules, c.write_file.ensures.keeps.same_room, c.new-text.ensures.same_room)))
     ∙ kept
 
 pub returns-clause-most : goal.returns-clause-most

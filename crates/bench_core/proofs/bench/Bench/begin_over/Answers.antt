@@ -11,4 +11,4 @@ invariant_of-result c =
     let history : IsHistory c.args.store c.args.level c.in_ok-log.log = search rules in
     let kept : IsKept c.args.store c.in_ok-tree.tree c.in_ok-cache.cache
     = subst (λ (k : Cache). IsKept c.args.store c.in_ok-tree.tree k) (sym c.in_ok-cache.ensures) (kept_first c.args.store c.in_ok-tree.tree c.args.capacity c.in_ok-tree.ensures) in
-    (history, (kept, ap (λ (r : RowNumbers). r.grid) c.in_ok-ranks.ensures ∙ c.sizes.ensures.value))
+    (history, (kept, ap (λ (r : RowNumbers). r.grid) c.in_ok-room.ensures ∙ c.sizes.ensures.value))

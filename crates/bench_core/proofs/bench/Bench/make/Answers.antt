@@ -39,7 +39,7 @@ invariant_of-self c =
       (
         (followed b.store c.make.new.store c.make.new.level (after change (moment b.store b.level)) (area_of b.store.grid change) c.area-area.result b.tree c.follow.new.tree b.cache c.follow.new.cache
             (after_agrees change (moment b.store b.level) c.self.invariant.0.state.volume) c.self.invariant.1.0 c.make.ensures c.area-area.ensures c.follow.ensures.tree c.follow.ensures.cache).0,
-        grid_fits b.store c.make.new.store c.make.new.level (after change (moment b.store b.level)) (area_of b.store.grid change) b.ranks.grid
+        grid_fits b.store c.make.new.store c.make.new.level (after change (moment b.store b.level)) (area_of b.store.grid change) b.room.rows.ranks.grid
             (after_agrees change (moment b.store b.level) c.self.invariant.0.state.volume) c.self.invariant.1.1 c.make.ensures,
       ),
     )

@@ -48,7 +48,7 @@ invariant_of-self-2 c =
       (
         (followed b.store c.take_back.new.store c.take_back.new.level (before change (moment b.store b.level)) (area_of b.store.grid change) c.area-area.result b.tree c.follow.new.tree b.cache c.follow.new.cache
             (before_agrees change (moment b.store b.level) c.self.invariant.0.state.volume) c.self.invariant.1.0 c.take_back.ensures c.area-area.ensures c.follow.ensures.tree c.follow.ensures.cache).0,
-        grid_fits b.store c.take_back.new.store c.take_back.new.level (before change (moment b.store b.level)) (area_of b.store.grid change) b.ranks.grid
+        grid_fits b.store c.take_back.new.store c.take_back.new.level (before change (moment b.store b.level)) (area_of b.store.grid change) b.room.rows.ranks.grid
             (before_agrees change (moment b.store b.level) c.self.invariant.0.state.volume) c.self.invariant.1.1 c.take_back.ensures,
       ),
     )

@@ -7,4 +7,4 @@ pub invariant_of-result : goal.invariant_of-result
 invariant_of-result c =
     let v = c.args.store.now in
     let items = c.args.cache.now.items in
-    (c.requires, All-weaker AreNone (AreSlices v c.args.level items) (λ slices none. none_slices v c.args.level items slices none) _ c.no_slices.ensures)
+    (c.requires.items, All-weaker AreNone (AreSlices v c.args.level items) (λ slices none. none_slices v c.args.level items slices none) _ c.requires.none)

@@ -24,7 +24,7 @@ returns-then-hold-clause-cases g c =
     let row = subst (λ (k : Kept). IsCellRow k.volume.grid c.args.brick.0 c.args.y c.args.z) (sym c.self.view_is) c.requires in
     let k : Kept = record { volume = c.self.inside.store.now; level = c.self.inside.level; cache = c.self.inside.cache.now } in
     c.fill_row.ensures
-    ∙ (row_held r.store.now r.level r.cache.now.items c.args.brick.0 c.args.z _ (c.hold.ensures.held _ _ (omega arith)) (c.if-hold.ensures.here.here _) c.args.y row
+    ∙ (row_held r.store.now r.level r.cache.now.items c.args.brick.0 c.args.z _ (c.hold.ensures.held _ _ (omega (arith, c.hold.ensures.places))) (c.if-hold.ensures.here.here _) c.args.y row
     ∙ (named_here k true c.args.brick.0 c.args.y c.args.z (sym c.hold.ensures.kept ∙ c.if-hold.true)
     ∙ ap (λ (k : Kept). (named_by k).cases c.args.brick.0 c.args.y c.args.z) c.self.view_is))
 

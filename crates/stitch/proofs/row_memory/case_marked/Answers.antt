@@ -1,7 +1,7 @@
 use Rattle.std.proofs.Common.{◌≡◌, ◌∙◌, ap, arith}
 use Rattle.iso_defs.specs.Grid.{Grid}
 use Rattle.stitch.proofs.ListedRows.{front_cases}
-use Rattle.stitch.proofs.store.case_marked.Goals as goal
+use Rattle.stitch.proofs.row_memory.case_marked.Goals as goal
 
 pub returns-clause-cases : goal.returns-clause-cases
 returns-clause-cases g c =

@@ -1,10 +1,11 @@
-//! The ranks of rows that a bench has.
+//! The room for writes that a bench has.
 //!
 //! Why: DECISIONS.md, "Room for lists outlives a write".
 
 ghost use Rattle.std.specs.Prelude.{◌≡◌, IfOk};
 ghost use Rattle.edge_points.specs.Rows.{no_counts};
 
+use cached_mesh::MeshRoom;
 use edge_points::RowRanks;
 use iso_base::{Memory, Sizes};
 use std::alloc::Global;
@@ -13,11 +14,12 @@ use std::alloc::Global;
 /// it is noisy. A page of this memory is first touched when lists are put there.
 const LIST_NUMBERS: usize = 2_097_152;
 
-/// The ranks of the rows of a grid, with room for the lists of rows that a write keeps.
-pub fn ranks_of(alloc: Global, sizes: &Sizes) -> Result<RowRanks, Memory>
-    ensures { IfOk result (λ r. r ≡ no_counts sizes.now) }
+/// Room for writes of volumes of these sizes, with the lists of rows that a write keeps.
+pub fn room_of(alloc: Global, sizes: &Sizes) -> Result<MeshRoom, Memory>
+    ensures { IfOk result (λ r. r.rows.ranks ≡ no_counts sizes.now) }
 {
     let mut ranks = RowRanks::new(alloc, sizes)?;
     ranks.set_room(Some(Vec::with_capacity(alloc, LIST_NUMBERS)?));
-    Ok(ranks)
+    let room = MeshRoom::new(alloc, ranks)?;
+    Ok(room)
 }

@@ -1,0 +1,4 @@
+use Rattle.cached_mesh.proofs.slices.clear_slices.Goals as goal
+
+pub returns : goal.returns
+returns c = c.no_slices.ensures
