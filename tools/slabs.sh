@@ -8,7 +8,7 @@
 # slab would be larger than the program takes. The program is $ISOSLAB, or the isoslab of this checkout, or the one on the path.
 # While it runs, a folder beside MESH holds its parts. If a slab is refused or a file cannot be written, the program's message
 # stands on standard error, MESH is as before, and the exit status is 1; wrong arguments end it with 2.
-set -u
+set -uf
 
 usage() {
     sed -n '2,/^set/s/^# \{0,1\}//p' "$0" >&2
@@ -38,6 +38,7 @@ part() {
         printf 'slabs.sh: slab %s, slices %s to %s: %s failed\n' "$number" "$from" $((from + slices - 1)) "$command" >&2
         exit 1
     }
+    [ "$command" = count ] || : > "$number.written"
 }
 
 if [ "${1:-}" = --part ]; then
@@ -76,25 +77,35 @@ VOLUME=$(realpath -- "$VOLUME")
 # All that is made stands in one folder beside the mesh, which goes away however this ends.
 ROOM=$(mktemp -d "$mesh.slabs.XXXXXX") || exit 1
 ROOM=$(realpath -- "$ROOM")
-trap 'rm -rf "$ROOM"' EXIT
+joiner=''
+trap '[ -z "$joiner" ] || kill "$joiner" 2> /dev/null; rm -rf "$ROOM"' EXIT
 trap 'exit 1' HUP INT TERM
 
 # The header, with the empty line behind it, and what it says. All else in it the program reads, and refuses if need be.
 head -c 65537 "$VOLUME" | LC_ALL=C sed '/^\r\{0,1\}$/q' > "$ROOM/header"
 BEGIN=$(wc -c < "$ROOM/header")
-value() {
-    LC_ALL=C sed -n "s/^$1:[[:space:]]*//p" "$ROOM/header" | tr -d '\r' | sed -n 1p
-}
-[ "$(value encoding)" = raw ] || fail "$VOLUME: no header of raw samples"
-# shellcheck disable=SC2046
-set -- $(value sizes)
+# (of a field that stands twice the first is taken here: the program refuses it)
+encoding='' sizes='' type='' return=$(printf '\r')
+while IFS=: read -r name value; do
+    value=${value%"$return"}
+    case $name in
+        encoding) encoding=${encoding:-$value} ;;
+        sizes) sizes=${sizes:-$value} ;;
+        type) type=${type:-$value} ;;
+    esac
+done < "$ROOM/header"
+# shellcheck disable=SC2086
+set -- $encoding
+[ "$*" = raw ] || fail "$VOLUME: no header of raw samples"
+# shellcheck disable=SC2086
+set -- $sizes
 [ $# -eq 3 ] || fail "$VOLUME: not three sizes"
 for size in "$@"; do
     # (a shell takes digits behind a 0 as octal ones)
     case $size in *[!0-9]* | 0* | ???????????*) fail "$VOLUME: a size is $size" ;; esac
 done
 nx=$1 ny=$2 NZ=$3
-case $(value type) in
+case $type in
     *8* | *char*) bytes=1 ;;
     *16* | *short*) bytes=2 ;;
     *32* | *int*) bytes=4 ;;
@@ -145,20 +156,35 @@ while read -r number from slices; do
     printf '%s %s %s %s %s\n' "$number" "$from" "$slices" "$before" "$centre"
     before=$((before + edges)) centre=$((centre + centres))
 done < "$ROOM/plan" > "$ROOM/numbered"
-run write "$ROOM/numbered"
 
-# The mesh: a head, and all edges, all centres and all triangles, each slab's behind those of the one below. Each file is
-# removed when it is in the mesh.
-if [ "$FORMAT" = --format=ply ]; then
-    "$ISOSLAB" head $((all_edges + all_centres)) "$all_triangles" > "$ROOM/mesh" || exit 1
-else
-    : > "$ROOM/mesh"
-fi
-for lines in edges centres triangles; do
-    while read -r number _; do
-        cmp -s "$ROOM/$number.count" "$ROOM/$number.write" || fail "$VOLUME was changed while it was read"
-        cat "$ROOM/$number.$lines" >> "$ROOM/mesh" || exit 1
-        rm -f "$ROOM/$number.$lines"
-    done < "$ROOM/plan"
-done
+# The mesh: a head, and all edges, all centres and all triangles, each slab's behind those of the one below. To copy them takes about
+# as long as to write them, so it is done beside the writers. These make their files one behind the other, in this order, so that one
+# is whole when there is the next. Each is removed when it is in the mesh, while the next is copied.
+put_together() {
+    if [ "$FORMAT" = --format=ply ]; then
+        "$ISOSLAB" head $((all_edges + all_centres)) "$all_triangles" || exit 1
+    fi
+    for lines in edges:centres centres:triangles triangles:written; do
+        while read -r number _; do
+            until [ -e "$ROOM/$number.${lines#*:}" ]; do
+                # (this ends, too, where the script was killed)
+                kill -0 $$ 2> /dev/null || exit 1
+                sleep 0.01
+            done
+            cat "$ROOM/$number.${lines%:*}" || exit 1
+            rm -f "$ROOM/$number.${lines%:*}" &
+        done < "$ROOM/plan"
+    done
+    wait
+}
+put_together >> "$ROOM/mesh" &
+joiner=$!
+run write "$ROOM/numbered"
+wait "$joiner" || { joiner=''; exit 1; }
+joiner=''
+while read -r number _; do
+    read -r counted < "$ROOM/$number.count"
+    read -r written < "$ROOM/$number.write"
+    [ "$counted" = "$written" ] || fail "$VOLUME was changed while it was read"
+done < "$ROOM/plan"
 mv -T -- "$ROOM/mesh" "$mesh" || exit 1

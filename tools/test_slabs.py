@@ -5,9 +5,9 @@
 
 The programs are those of this checkout where they are left out. There are 500 volumes of six types and three encodings, most of them
 full of samples equal to the level, in two to five slabs, with padding and without, as PLY and as OBJ. Then come command lines and
-slabs that are refused, files that fail, and tools/slabs.sh. With --beside another program with the commands of isoslab is
-run on all slabs, and on as many that may be refused: status, output, message and files must be the same. Ends with 1 where a
-test fails, and says with which volume.
+slabs that are refused, files that fail, and tools/slabs.sh, also over writers that are slow or fail. With --beside another program
+with the commands of isoslab is run on all slabs, and on as many that may be refused: status, output, message and files must be the
+same. Ends with 1 where a test fails, and says with which volume.
 """
 import argparse
 import concurrent.futures
@@ -21,6 +21,7 @@ import struct
 import subprocess
 import sys
 import tempfile
+import time
 
 TOP = pathlib.Path(__file__).resolve().parent.parent
 KINDS = {"int8": "b", "uint8": "B", "int16": "h", "uint16": "H", "int32": "i", "uint32": "I"}
@@ -29,6 +30,8 @@ SCRIPT = TOP / "tools" / "slabs.sh"
 MOST = 2147483647
 # Seconds after which a program hangs; on a busy machine one that does not takes many, too.
 PATIENCE = 600
+# Blocks of 512 bytes: of the last of eleven slabs in `of_failing_writers` the triangles take more, and of the last of three the edges.
+LONGEST_BLOCKS = 240
 # Command lines that are refused, whatever the input, and the status and the message of each.
 BAD_WORDS = [
     "",
@@ -290,12 +293,49 @@ def of_the_script(programs):
     yield from scripted(programs.isoslab, ["--level=x"], volume, 1, "isoslab: bad words")
     yield from scripted(programs.isoslab, ["--jobs=0"], volume, 2, "tools/slabs.sh --level=V")
     yield from scripted("absent", [], volume, 1, "no program absent is found")
-    # A program that fails at one part of the third slab alone.
+    yield from of_failing_writers(programs.isoslab, volume)
+    yield from of_slow_writers(programs, volume)
+
+
+def of_failing_writers(isoslab, volume):
+    """What the script does in another way than it must where the last slab alone fails, while the files of the others go into the mesh."""
+    bodies = {
+        "exit 8": "before it has a file",
+        f"sleep 0.2; trap '' XFSZ; ulimit -f {LONGEST_BLOCKS}; exec {isoslab} \"$@\"": "in a file",
+        f"{isoslab} \"$@\"; sleep 0.2; exit 6": "with all its files",
+        "sleep 0.2; kill -9 $$": "killed",
+        "kill 0": "with all that the script started",
+    }
+    for body, when in bodies.items():
+        with tempfile.TemporaryDirectory() as folder:
+            failing = pathlib.Path(folder, "isoslab")
+            failing.write_text(f"#!/bin/sh\ncase \"$*\" in write*--last*) {body} ;; esac\nexec {isoslab} \"$@\"\n")
+            failing.chmod(0o755)
+            for words in (["--slabs=3"], ["--slabs=11", "--jobs=2"]):
+                message = "" if when.startswith("with all that") else "write failed"
+                for why in scripted(str(failing), words, volume, 1, message):
+                    yield f"a writer that fails {when}: {why}"
+
+
+def of_slow_writers(programs, volume):
+    """What the script does in another way than it must where each file of a slab is a part of it for some time."""
     with tempfile.TemporaryDirectory() as folder:
-        failing = pathlib.Path(folder, "isoslab")
-        failing.write_text(f"#!/bin/sh\ncase \"$*\" in write*--last*) exit 8 ;; esac\nexec {programs.isoslab} \"$@\"\n")
-        failing.chmod(0o755)
-        yield from scripted(str(failing), [], volume, 1, "write failed")
+        slow = pathlib.Path(folder, "isoslab")
+        slow.write_text(f"""#!/bin/sh
+[ "$1" = write ] || exec {programs.isoslab} "$@"
+name=${{*##* }}
+mkdir "$name.d" && cd "$name.d" && {programs.isoslab} "$@" > line && cd .. || exit 1
+for part in edges centres triangles; do
+    for piece in "head -c 1000" "tail -c +1001"; do
+        $piece "$name.d/$name.$part" >> "$name.$part"
+        sleep 0.2
+    done
+done
+cat "$name.d/line"
+""")
+        slow.chmod(0o755)
+        whole = output_of(programs.isobench, ["extract", "--level=0.5"], volume, None)
+        yield from scripted(str(slow), ["--slabs=3"], volume, 0, "", whole)
 
 
 def scripted(isoslab, words, volume, status, message, mesh=b"old"):
@@ -305,13 +345,35 @@ def scripted(isoslab, words, volume, status, message, mesh=b"old"):
         room.mkdir()
         room.joinpath("scan.nrrd").write_bytes(volume)
         room.joinpath("mesh").write_bytes(b"old")
-        done = subprocess.run(["sh", SCRIPT, "--level=0.5", *words, "scan.nrrd", "mesh"], cwd=room, stdout=subprocess.PIPE, stderr=subprocess.PIPE,
-                              env={**os.environ, "ISOSLAB": isoslab}, timeout=PATIENCE)
-        said = done.stderr.decode()
+        # (a process that is left keeps a file open, too, but nobody waits for the end of one)
+        with tempfile.TemporaryFile() as notes:
+            done = subprocess.run(["sh", SCRIPT, "--level=0.5", *words, "scan.nrrd", "mesh"], cwd=room, stdout=notes, stderr=notes,
+                                  env={**os.environ, "ISOSLAB": isoslab}, timeout=PATIENCE, start_new_session=True)
+            notes.seek(0)
+            said = notes.read().decode()
         if done.returncode != status or message not in said or not (said or status == 0):
             yield f"slabs.sh {' '.join(words)}: status {done.returncode} {said}, not {status} {message}"
         if sorted(os.listdir(room)) != ["mesh", "scan.nrrd"] or room.joinpath("mesh").read_bytes() != mesh:
             yield f"slabs.sh {' '.join(words)}: another mesh, or files are left"
+        if is_busy(room):
+            yield f"slabs.sh {' '.join(words)}: processes are left"
+
+
+def is_busy(folder):
+    """Whether processes still run in a folder, or in one that was in it, after some time in which they may end."""
+    for _ in range(50):
+        if not any(works_in(process, folder) for process in pathlib.Path("/proc").glob("[0-9]*")):
+            return False
+        time.sleep(0.1)
+    return True
+
+
+def works_in(process, folder):
+    try:
+        return os.readlink(process / "cwd").startswith(str(folder))
+    except OSError:
+        # (it has ended)
+        return False
 
 
 def arguments():

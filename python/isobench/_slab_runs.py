@@ -2,6 +2,7 @@
 from __future__ import annotations
 
 import contextlib
+import errno
 import fcntl
 import math
 import os
@@ -10,12 +11,13 @@ import secrets
 import subprocess
 from collections.abc import Iterable, Iterator, Sequence
 from dataclasses import dataclass
+from typing import Union
 
 import numpy as np
 
 from ._program import program, write_whole
 from ._samples import LONGEST_AXIS, MOST_SAMPLES, header_of
-from ._slab_sources import Source
+from ._slab_sources import FileStretch, MappedFile, Source
 from .errors import MeshTextError, ProgramFailed, VolumeRefused
 
 # The files of a slab, in the order of the mesh.
@@ -26,6 +28,10 @@ FEWEST_SLICES = 2
 SHARED_SLICES = 2
 BLOCK_BYTES = 1 << 24
 PIPE_BYTES = 1 << 20
+# Why `os.sendfile` fails where the system, or the file's, cannot send to a pipe.
+UNSUPPORTED = (errno.EINVAL, errno.ENOSYS, errno.ENOTSOCK, errno.EOPNOTSUPP)
+# What a volume file is made of.
+Piece = Union[bytes, np.ndarray, FileStretch]
 LINE = re.compile(rb"slab slices (\d+) edges (\d+) centres (\d+) triangles (\d+)\n")
 
 
@@ -135,10 +141,14 @@ def numbers_of(counts: Sequence[Counts]) -> list[Numbers]:
     return numbers
 
 
+def _stored_type(source: Source) -> np.dtype:
+    """The type that the header of a slab names: booleans are bytes of 0 and 1."""
+    return np.dtype(np.uint8) if source.dtype == bool else source.dtype
+
+
 def pieces_of(source: Source, slab: Slab) -> Iterator[bytes | np.ndarray]:
     """The volume file of a slab: its header, and its slices, some at a time."""
-    # Booleans are bytes of 0 and 1.
-    dtype = np.dtype(np.uint8) if source.dtype == bool else source.dtype
+    dtype = _stored_type(source)
     _, height, width = source.shape
     yield header_of(dtype, (slab.stop - slab.first, height, width))
     step = max(1, BLOCK_BYTES // (height * width * dtype.itemsize))
@@ -152,22 +162,32 @@ def pieces_of(source: Source, slab: Slab) -> Iterator[bytes | np.ndarray]:
         yield np.ascontiguousarray(found, source.dtype).view(dtype)
 
 
+def unread_pieces(source: Source, slab: Slab) -> Iterator[Piece]:
+    """As `pieces_of`, where only the program looks at the samples: those of a file are not read here."""
+    if not isinstance(source, MappedFile):
+        yield from pieces_of(source, slab)
+        return
+    _, height, width = source.shape
+    yield header_of(_stored_type(source), (slab.stop - slab.first, height, width))
+    yield source.stretch(slab.first, slab.stop)
+
+
 def count_slab(source: Source, slab: Slab, surface: Surface) -> Counts:
     """Count what a slab owns."""
-    return counts_by(slab, surface, pieces_of(source, slab))
+    return counts_by(slab, surface, unread_pieces(source, slab))
 
 
-def counts_by(slab: Slab, surface: Surface, pieces: Iterable[bytes | np.ndarray]) -> Counts:
+def counts_by(slab: Slab, surface: Surface, pieces: Iterable[Piece]) -> Counts:
     """Count what a slab owns, by the pieces of its volume file."""
     return _run(slab, ["count", *slab.words(surface)], pieces, None)
 
 
 def write_slab(source: Source, slab: Slab, surface: Surface, numbers: Numbers, folder: str) -> Counts:
     """Write the lines of what a slab owns into the files of a folder that `part_path` names."""
-    return written_by(slab, surface, numbers, pieces_of(source, slab), folder)
+    return written_by(slab, surface, numbers, unread_pieces(source, slab), folder)
 
 
-def written_by(slab: Slab, surface: Surface, numbers: Numbers, pieces: Iterable[bytes | np.ndarray], folder: str) -> Counts:
+def written_by(slab: Slab, surface: Surface, numbers: Numbers, pieces: Iterable[Piece], folder: str) -> Counts:
     """Write a slab, by the pieces of its volume file. The files have other names until all three are whole."""
     beside = f"{slab.number}.{secrets.token_hex(8)}"
     words = ["write", *slab.words(surface), f"--format={surface.format}", f"--edges={numbers.first_edge}",
@@ -206,17 +226,48 @@ def _widen(pipe: int) -> None:
         fcntl.fcntl(pipe, fcntl.F_SETPIPE_SZ, PIPE_BYTES)
 
 
-def _run(slab: Slab, words: list[str], pieces: Iterable[bytes | np.ndarray], folder: str | None) -> Counts:
+def _send(pipe: int, stretch: FileStretch) -> None:
+    """Send a stretch of a file into a pipe: its pages, without a copy, where the system does so.
+
+    Where the file has become shorter, the program says that it has too few samples.
+    """
+    at = stretch.first
+    with open(stretch.path, "rb", buffering=0) as file:
+        try:
+            while at < stretch.stop and (sent := os.sendfile(pipe, file.fileno(), at, stretch.stop - at)):
+                at += sent
+            return
+        except OSError as fault:
+            if fault.errno not in UNSUPPORTED:
+                raise
+        file.seek(at)
+        while at < stretch.stop and (block := file.read(min(PIPE_BYTES, stretch.stop - at))):
+            write_whole(pipe, [block])
+            at += len(block)
+
+
+def _feed(pipe: int, pieces: Iterable[Piece]) -> None:
+    """Write the pieces of a volume file into a pipe."""
+    for piece in pieces:
+        if isinstance(piece, FileStretch):
+            _send(pipe, piece)
+        else:
+            write_whole(pipe, [piece])
+
+
+def _run(slab: Slab, words: list[str], pieces: Iterable[Piece], folder: str | None) -> Counts:
     """Run `isoslab` over a volume file; the counts that it prints."""
     command = [program("isoslab"), *words]
-    with subprocess.Popen(command, stdin=subprocess.PIPE, stdout=subprocess.PIPE, stderr=subprocess.PIPE, cwd=folder) as process:
+    # The samples of a slab are one large block of memory, which glibc then asks for in large pages.
+    environment = {"GLIBC_TUNABLES": "glibc.malloc.hugetlb=1", **os.environ}
+    with subprocess.Popen(command, stdin=subprocess.PIPE, stdout=subprocess.PIPE, stderr=subprocess.PIPE, cwd=folder, env=environment) as process:
         given, output, messages = process.stdin, process.stdout, process.stderr
         assert given and output and messages
         try:
             # A program that ends before it has read all says why.
             with contextlib.suppress(BrokenPipeError):
                 _widen(given.fileno())
-                write_whole(given.fileno(), pieces)
+                _feed(given.fileno(), pieces)
             given.close()
             # Both are a line at most.
             said, message = output.read(), messages.read().decode("utf-8", "replace")

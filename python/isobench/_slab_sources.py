@@ -18,8 +18,17 @@ KNOWN = ".nrrd, .nhdr (raw) and .npy"
 
 
 @dataclass(frozen=True)
+class FileStretch:
+    """The bytes of a file from one to before another."""
+
+    path: str
+    first: int
+    stop: int
+
+
+@dataclass(frozen=True)
 class MappedFile:
-    """An array in a file. Each process maps it into memory by itself, so no samples go from one to the other."""
+    """An array in a file. Each process opens it by itself, so no samples go from one to the other."""
 
     path: str
     dtype: np.dtype
@@ -29,6 +38,11 @@ class MappedFile:
     def slices(self, first: int, stop: int) -> np.ndarray:
         """The slices from one to before another."""
         return np.memmap(self.path, self.dtype, "r", self.offset, self.shape)[first:stop]
+
+    def stretch(self, first: int, stop: int) -> FileStretch:
+        """Where the slices from one to before another lie."""
+        slice_bytes = self.shape[1] * self.shape[2] * self.dtype.itemsize
+        return FileStretch(self.path, self.offset + first * slice_bytes, self.offset + stop * slice_bytes)
 
     def for_slices(self, first: int, stop: int) -> MappedFile:
         """What a process gets that reads these slices alone."""

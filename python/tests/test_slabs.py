@@ -1,5 +1,6 @@
 """Slabs over the real programs: the bytes and the arrays of an extraction of the whole."""
 import concurrent.futures
+import errno
 import os
 import pathlib
 import subprocess
@@ -191,6 +192,41 @@ def test_volumes_of_files(tmp_path):
         assert isinstance(_slab_sources.source_of(tmp_path / name), _slab_sources.MappedFile) == (name != "turned.npy")
         isobench.write_slabs(tmp_path / name, tmp_path / "mesh.ply", 0.5, slabs=4)
         assert (tmp_path / "mesh.ply").read_bytes() == bytes_of(volume), name
+
+
+def sends_nothing(*_):
+    """`os.sendfile` where the system cannot send a file into a pipe."""
+    raise OSError(errno.EINVAL, os.strerror(errno.EINVAL))
+
+
+def test_a_system_that_sends_no_file_into_a_pipe(tmp_path, monkeypatch):
+    path = nrrd_at(tmp_path / "volume.nrrd", small(60))
+    turns = [sends_nothing, os.sendfile] * 6
+    for send in (sends_nothing, lambda pipe, file, first, count: turns.pop()(pipe, file, first, 1000)):
+        monkeypatch.setattr(os, "sendfile", send)
+        isobench.write_slabs(path, tmp_path / "mesh.ply", 0.5, slabs=3, processes=1)
+        assert (tmp_path / "mesh.ply").read_bytes() == bytes_of(small(60))
+    assert not turns
+
+
+@pytest.mark.parametrize("send", [os.sendfile, sends_nothing])
+def test_a_file_that_becomes_shorter(tmp_path, monkeypatch, send):
+    monkeypatch.setattr(os, "sendfile", send)
+    path = nrrd_at(tmp_path / "volume.nrrd", small(60))
+    source = _slab_sources.source_of(path)
+    slab, surface = _slab_runs.Slab(0, 0, 60, True), _slab_runs.Surface("0.500")
+    assert _slab_runs.count_slab(source, slab, surface).slices == 60
+    os.truncate(path, path.stat().st_size - 1)
+    with pytest.raises(isobench.VolumeRefused, match="short samples"):
+        _slab_runs.count_slab(source, slab, surface)
+
+
+def test_a_program_that_reads_nothing_of_a_file(tmp_path, monkeypatch):
+    (tmp_path / "isoslab").write_text("#!/bin/sh\nif [ $1 = --version ]; then echo isoslab 1.0; exit; fi\necho isoslab: memory >&2; exit 7\n")
+    (tmp_path / "isoslab").chmod(0o755)
+    monkeypatch.setenv("ISOSLAB", str(tmp_path / "isoslab"))
+    with pytest.raises(isobench.ProgramFailed, match="take more slabs"):
+        isobench.write_slabs(nrrd_at(tmp_path / "volume.nrrd", small(4000)), tmp_path / "mesh.ply", 0.5, slabs=2)
 
 
 def test_maps_of_files(tmp_path):
