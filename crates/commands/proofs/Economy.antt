@@ -1,6 +1,6 @@
 -- The bench that a session leaves, and what was written of its replies.
 use Rattle.std.proofs.Common.{◌≡◌, ℕ, List, [], ◌∷◌, ◌++◌, Some, None, MatchOption, refl, sym, ap, ◌∙◌, subst, inl, inr, append_assoc, ℤ}
-use Rattle.std.specs.Prelude.{Option}
+use Rattle.std.specs.Prelude.{IfSome, Option}
 use Rattle.std.proofs.lemmas.List.{append-nil}
 use Rattle.bench_core.specs.Keeping.{Workbench}
 use Rattle.session.specs.Kept.{Kept}
@@ -19,7 +19,7 @@ use Rattle.commands.specs.Outcome.{Call, Rejects}
 use Rattle.commands.specs.Serving.{Serves, asked_for}
 use Rattle.commands.specs.SessionMeshes.{WritesReplies}
 use Rattle.commands.specs.Sessions.{Asked, RunsSession, answer_of, session_between}
-use Rattle.commands.specs.Soaking.{HoldsSoakMeshes, SoakLeaves}
+use Rattle.commands.specs.Soaking.{SoakLeaves, SoakMeshes}
 use Rattle.commands.proofs.Reasons.{same_request}
 use Rattle.commands.proofs.Soaks.{holds_meshes, soak_leaves}
 
@@ -83,9 +83,9 @@ pub soak_economy : (o : Option Request) (call : Call) (status : Status) (a : Ans
 soak_economy None call status a seed h s asked = absurd cc
 soak_economy (Some r) call status a seed h s asked = soak_left r call status a seed s (same_request r (requests.Soak seed) asked) h
 
-soak_shown : (r : Request) (call : Call) (status : Status) (a : Answer) (seed : ℕ) → status ≡ status_of a → r ≡ requests.Soak seed → Serves r call a → HoldsSoakMeshes seed call status
+soak_shown : (r : Request) (call : Call) (status : Status) (a : Answer) (seed : ℕ) → status ≡ status_of a → r ≡ requests.Soak seed → Serves r call a → IfSome call.left (SoakMeshes seed call status)
 soak_shown r call status a seed s e h = holds_meshes seed call status a s (subst (λ (q : Request). Serves q call a) e h)
 
-pub soak_headline : (o : Option Request) (call : Call) (status : Status) (a : Answer) (seed : ℕ) → MatchOption o (Rejects call a) (λ r. Serves r call a) → status ≡ status_of a → o ≡ Some (requests.Soak seed) → HoldsSoakMeshes seed call status
+pub soak_headline : (o : Option Request) (call : Call) (status : Status) (a : Answer) (seed : ℕ) → MatchOption o (Rejects call a) (λ r. Serves r call a) → status ≡ status_of a → o ≡ Some (requests.Soak seed) → IfSome call.left (SoakMeshes seed call status)
 soak_headline None call status a seed h s asked = absurd cc
 soak_headline (Some r) call status a seed h s asked = soak_shown r call status a seed s (same_request r (requests.Soak seed) asked) h

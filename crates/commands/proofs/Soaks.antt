@@ -8,7 +8,7 @@ use Rattle.volume_gen.specs.Soak.{soak_lines}
 use Rattle.session.specs.Worlds.{World, world}
 use Rattle.commands.specs.Outcome.{Call}
 use Rattle.commands.specs.Sessions.{world_after}
-use Rattle.commands.specs.Soaking.{DoesSoak, HoldsSoakMeshes, RunsLines, SoakLeaves, SoakLedTo, SoakMeshes, soak_level, soak_limits, soak_volume, soak_world}
+use Rattle.commands.specs.Soaking.{DoesSoak, RunsLines, SoakLeaves, SoakLedTo, SoakMeshes, soak_level, soak_limits, soak_volume, soak_world}
 use Rattle.program.specs.Status.{status_of}
 use Rattle.program.specs.declared.answer.Answer.{Answer}
 use Rattle.program.specs.declared.answer.Answer.TheVariants as answers
@@ -109,7 +109,7 @@ soak_leaves seed call status a s (same, inr h) =
 meshes_of : (seed : ℕ) (call : Call) (status : Status) (last : Workbench) → IsState (first_bench (soak_volume seed) soak_level soak_limits).state → SoakLedTo seed call status last → SoakMeshes seed call status last
 meshes_of seed call status last sound led = record { led = led; meshes = mesh_turns (soak_world seed call) (world_after call last) led.lines led.replies sound led.ran.kept }
 
-pub holds_meshes : (seed : ℕ) (call : Call) (status : Status) (a : Answer) → status ≡ status_of a → DoesSoak seed call a → HoldsSoakMeshes seed call status
+pub holds_meshes : (seed : ℕ) (call : Call) (status : Status) (a : Answer) → status ≡ status_of a → DoesSoak seed call a → IfSome call.left (SoakMeshes seed call status)
 holds_meshes seed call status a s (same, inl h) = subst (λ (o : Option Workbench). IfSome o (SoakMeshes seed call status)) (sym h.shelf.none) tt
 holds_meshes seed call status a s (same, inr h) =
     subst (λ (o : Option Workbench). IfSome o (SoakMeshes seed call status)) (sym h.left_is) (meshes_of seed call status h.last h.sound (led_to seed call status h.last a s h.runs))

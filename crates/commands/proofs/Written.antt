@@ -5,8 +5,9 @@ use Rattle.std.specs.Io.KnownBytes.{Appends}
 use Rattle.iso_base.specs.Volume.{IsVolume, Volume, IsSample}
 use Rattle.byte_streams.specs.Seen.{Tape}
 use Rattle.mesh_text.specs.declared.format.TwoWayFormat.{TwoWayFormat}
+use Rattle.bench_core.specs.Surface.{IsWatertight}
 use Rattle.command_terms.specs.Volumes.{text_by, HoldsNone, IsNoVolume, volume_answer, volume_limit, volume_of, with_pad}
-use Rattle.commands.specs.Headline.{IsMeshWatertight, ShowsMesh, mesh_given, mesh_in, text_of_volume}
+use Rattle.commands.specs.Headline.{WritesWatertight, mesh_given, mesh_in, text_of_volume}
 use Rattle.commands.specs.Volumes.{IsNotTaken}
 use Rattle.commands.proofs.Taken.{given_of, taken_watertight}
 use Rattle.nrrd_read.specs.Files.{IsRead}
@@ -62,7 +63,8 @@ of_read level pad format bytes v old new a read h =
 
 -- and its mesh is watertight, where it was written
 pub done_watertight : (level : ℤ) (pad : Option ℤ) (format : TwoWayFormat) (bytes : List ℕ) (v : Volume) (old new : Tape) (a : Answer)
-    → IsRead bytes v → IsVolume v → v.pad ≡ None → IfSome pad IsSample → WritesGiven (mesh_in level pad format v) old new a → a ≡ answers.Done → IsMeshWatertight level pad bytes
+    → IsRead bytes v → IsVolume v → v.pad ≡ None → IfSome pad IsSample → WritesGiven (mesh_in level pad format v) old new a → a ≡ answers.Done
+    → (w : Volume) × (volume_of pad level bytes ≡ Ok w) × IsWatertight w level
 done_watertight level pad format bytes v old new a read is none range h done =
     let w = subst (WritesGiven (mesh_in level pad format v) old new) done h in
     let m = given_of (text_of_volume format level) (with_pad pad level v) w.0 w.1 in
@@ -103,7 +105,8 @@ same_text level pad format bytes text v holds given =
     one_text text (text_of_volume format level v) (mesh_given level pad format bytes) given (ap (text_by (text_of_volume format level)) holds)
 
 pub shows : (level : ℤ) (pad : Option ℤ) (format : TwoWayFormat) (call : Streams) (bytes : List ℕ) (a : Answer) → HasRead volume_limit call.input call.input_after bytes
-    → WritesGiven (mesh_given level pad format bytes) call.output call.output_after a → (a ≡ answers.Done → IsMeshWatertight level pad bytes) → ShowsMesh level pad format call a
+    → WritesGiven (mesh_given level pad format bytes) call.output call.output_after a → (a ≡ answers.Done → (v : Volume) × (volume_of pad level bytes ≡ Ok v) × IsWatertight v level)
+    → a ≡ answers.Done → WritesWatertight level pad format call
 shows level pad format call bytes a read h mesh done =
     let w = subst (WritesGiven (mesh_given level pad format bytes) call.output call.output_after) done h in
     let m = mesh done in

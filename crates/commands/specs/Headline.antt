@@ -12,8 +12,6 @@ use Rattle.mesh_text.specs.declared.format.TwoWayFormat.{TwoWayFormat}
 use Rattle.mesh_text.specs.declared.format.TwoWayFormat.TheVariants.{Ply, Obj}
 use Rattle.bench_core.specs.Surface.{IsWatertight, mesh_triangles}
 use Rattle.command_terms.specs.Outcome.{HasRead, Streams, Writes}
-use Rattle.program.specs.declared.answer.Answer.{Answer}
-use Rattle.program.specs.declared.answer.Answer.TheVariants as answers
 
 -- the text of the mesh of a volume at a level, from scratch
 abbrev pub text_of_volume : TwoWayFormat → ℤ → Volume → List ℕ
@@ -34,12 +32,6 @@ mesh_in level pad format v = text_by (text_of_volume format level) (with_pad pad
 abbrev pub style_of : TwoWayFormat → Bool → Style
 style_of format padded = record { format = mesh_format format; origin = origin_of padded }
 
--- The mesh of the volume in the bytes of a file is watertight: an oriented surface in which each crossing lattice edge carries
--- exactly one vertex, each edge off the border lies in two triangles that run it in opposite directions, each border edge in
--- one, and the triangles round each vertex form one fan; with a pad it has no border.
-abbrev pub IsMeshWatertight : ℤ → Option ℤ → List ℕ → Type 0
-IsMeshWatertight level pad bytes = (v : Volume) × (volume_of pad level bytes ≡ Ok v) × IsWatertight v level
-
 -- The text of the mesh of the volume in the input was written, and that mesh is watertight. Where the input does not tell its
 -- bytes, the volume is that of some bytes.
 pub record WritesWatertight (level : ℤ) (pad : Option ℤ) (format : TwoWayFormat) (call : Streams) : Type 0 where
@@ -49,7 +41,3 @@ pub record WritesWatertight (level : ℤ) (pad : Option ℤ) (format : TwoWayFor
   pub holds : volume_of pad level bytes ≡ Ok volume
   pub writes : Writes call (text_of_volume format level volume)
   pub watertight : IsWatertight volume level
-
--- so where the command is done
-abbrev pub ShowsMesh : ℤ → Option ℤ → TwoWayFormat → Streams → Answer → Type 0
-ShowsMesh level pad format call answer = answer ≡ answers.Done → WritesWatertight level pad format call

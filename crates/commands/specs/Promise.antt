@@ -1,5 +1,5 @@
 -- What `run` promises.
-use Rattle.std.specs.Prelude.{◌≡◌, ◌↔◌, ℕ, List, ◌∷◌, codes, None, Option, Some, ℤ}
+use Rattle.std.specs.Prelude.{◌≡◌, ◌↔◌, ℕ, List, ◌∷◌, codes, IfSome, None, Option, Some, ℤ}
 use Rattle.byte_streams.specs.Causes.{Rose}
 use Rattle.byte_streams.specs.Seen.{Tape}
 use Rattle.arguments.specs.Words.{extract_of, request_of, session_of}
@@ -18,8 +18,8 @@ use Rattle.commands.specs.Headline.{WritesWatertight}
 use Rattle.commands.specs.Outcome.{Call}
 use Rattle.commands.specs.Reading.{ReadsInput}
 use Rattle.commands.specs.Serving.{CanServe, Ends, IsCarriedOut, asked_for}
-use Rattle.commands.specs.SessionMeshes.{HoldsWatertightMeshes}
-use Rattle.commands.specs.Soaking.{HoldsSoakMeshes, SoakLeaves}
+use Rattle.commands.specs.SessionMeshes.{SessionMeshes}
+use Rattle.commands.specs.Soaking.{SoakLeaves, SoakMeshes}
 
 -- A call on these words ends by this status; the last two are its notes before it and after it.
 pub record RunsAs (words : List (List ℕ)) (call : Call) (status : Status) (before after : Tape) : Type 0 where
@@ -45,14 +45,15 @@ pub record RunsAs (words : List (List ℕ)) (call : Call) (status : Status) (bef
       → extract_of options ≡ Some (Extract level pad format)
       → status ≡ statuses.Done
       → WritesWatertight level pad format call.streams
-  -- The headline, in a session, however it ended: each line `ply` or `obj` that was run wrote the mesh of the state that
-  -- the lines before it led to, and that mesh is watertight; or it was answered that the shelf failed.
+  -- The headline, in a session that was opened, which is one that leaves a bench, however it ended: each line `ply` or
+  -- `obj` that was run wrote the mesh of the state that the lines before it led to, and that mesh is watertight; or it was
+  -- answered that the shelf failed.
   pub session_headline : (options : List (List ℕ)) (level : ℤ) (pad : Option ℤ) (name : List ℕ) (bricks pages : ℕ)
       → words ≡ codes "session" ∷ options
       → session_of options ≡ Some (Session level pad name bricks pages)
-      → HoldsWatertightMeshes (asked_for level pad name bricks pages) call status
+      → IfSome call.left (SessionMeshes (asked_for level pad name bricks pages) call status)
   -- So it is in a soak, at the lines that were run, whose replies to its lines `ply` were written.
-  pub soak_headline : (seed : ℕ) → request_of words ≡ Some (Soak seed) → HoldsSoakMeshes seed call status
+  pub soak_headline : (seed : ℕ) → request_of words ≡ Some (Soak seed) → IfSome call.left (SoakMeshes seed call status)
   -- A bench that a session leaves is the one to which the lines run led with their replies, with what they keep of the
   -- mesh, and the counter rose by no more than they allow; where none is left, no cell was classified.
   pub economy : (level : ℤ) (pad : Option ℤ) (name : List ℕ) (bricks pages : ℕ)

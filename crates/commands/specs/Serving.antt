@@ -8,7 +8,7 @@ use Rattle.std.specs.FinMap.{get}
 use Rattle.session.specs.Sessions.{script_limit}
 use Rattle.commands.specs.Checks.{Checks, mesh_in, mesh_limit}
 use Rattle.commands.specs.Generating.{Generates}
-use Rattle.commands.specs.Headline.{ShowsMesh, mesh_given}
+use Rattle.commands.specs.Headline.{WritesWatertight, mesh_given}
 use Rattle.point_command.specs.Meaning.{points_given}
 use Rattle.command_terms.specs.Outcome.{Converts, Tells}
 use Rattle.commands.specs.Outcome.{Call, LeavesShelf, Rejects}
@@ -21,6 +21,7 @@ use Rattle.arguments.specs.Words.{request_of}
 use Rattle.arguments.specs.declared.request.Request.{Request}
 use Rattle.arguments.specs.declared.request.Request.TheVariants as requests
 use Rattle.program.specs.declared.answer.Answer.{Answer}
+use Rattle.program.specs.declared.answer.Answer.TheVariants as answers
 use Rattle.program.specs.declared.answer.Status.{Status}
 use Rattle.program.specs.declared.answer.Status.TheVariants as statuses
 
@@ -38,7 +39,7 @@ abbrev pub Serves : Request → Call → Answer → Type 0
 Serves (requests.Points level) call answer = Converts (points_given level) call.streams answer × LeavesShelf call
 Serves (requests.Extract level pad format) call answer =
     Converts (mesh_given level pad format) call.streams answer × LeavesShelf call
-    × ShowsMesh level pad format call.streams answer
+    × (answer ≡ answers.Done → WritesWatertight level pad format call.streams)
 Serves (requests.Session level pad name bricks pages) call answer = RunsSession
     (asked_for level pad name bricks pages) call answer
 Serves (requests.Check format) call answer = Checks format call.streams answer × LeavesShelf call

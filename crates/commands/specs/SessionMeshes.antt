@@ -150,7 +150,7 @@ WereRun status input after lines = ⊥
 
 -- A session was run on the volume of the file: which lines, their replies, of which no more say that the shelf failed than its
 -- count rose by, and the meshes that they wrote.
-pub record HoldsMeshes (asked : Asked) (call : Call) (status : Status) (last : Workbench) : Type 0 where
+pub record SessionMeshes (asked : Asked) (call : Call) (status : Status) (last : Workbench) : Type 0 where
   pub volume : Volume
   pub holds : HoldsFile asked call volume
   pub lines : List (List ℕ)
@@ -159,7 +159,3 @@ pub record HoldsMeshes (asked : Asked) (call : Call) (status : Status) (last : W
   pub written : WritesReplies status call.streams.output call.streams.output_after replies
   pub counted : CountsBy call.store.faults call.store_after.faults replies
   pub meshes : MeshTurns (opened volume asked.level) last.state call.store_after.files lines replies
-
--- so it is in each session that was opened, which is one that leaves a bench
-abbrev pub HoldsWatertightMeshes : Asked → Call → Status → Type 0
-HoldsWatertightMeshes asked call status = IfSome call.left (HoldsMeshes asked call status)

@@ -1,5 +1,5 @@
 -- What `soak` does: the soak script of a seed, run on the volume that it generates.
-use Rattle.std.specs.Prelude.{◌≡◌, ◌⊎◌, ℕ, ◌≤◌, Bool, true, false, if◌then◌else◌, List, [], ◌∷◌, ◌++◌, Some, None, Ok, IfSome, MatchOption, ℤ, pos}
+use Rattle.std.specs.Prelude.{◌≡◌, ◌⊎◌, ℕ, ◌≤◌, Bool, true, false, if◌then◌else◌, List, [], ◌∷◌, ◌++◌, Some, None, Ok, MatchOption, ℤ, pos}
 use Rattle.std.specs.Io.KnownBytes.{Appends}
 use Rattle.iso_defs.specs.Grid.{Grid}
 use Rattle.iso_base.specs.Volume.{Volume, unpadded}
@@ -180,7 +180,3 @@ SoakLeaves seed call status = MatchOption call.left (call.steps_after ≡ call.s
 pub record SoakMeshes (seed : ℕ) (call : Call) (status : Status) (last : Workbench) : Type 0 where
   pub led : SoakLedTo seed call status last
   pub meshes : MeshTurns (opened (soak_volume seed) soak_level) last.state call.store_after.files led.lines led.replies
-
--- in each soak that was begun
-abbrev pub HoldsSoakMeshes : ℕ → Call → Status → Type 0
-HoldsSoakMeshes seed call status = IfSome call.left (SoakMeshes seed call status)

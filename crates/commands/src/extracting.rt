@@ -4,10 +4,11 @@ ghost use Rattle.std.specs.Prelude.{◌≡◌, ℤ, is_some, length, Ok, All, If
 ghost use Rattle.iso_defs.specs.Grid.{point_count};
 ghost use Rattle.iso_base.specs.Volume.{IsVoxels, Volume, unpadded, IsSample};
 ghost use Rattle.byte_streams.specs.Seen.{Puts, ReadsWithin};
-ghost use Rattle.commands.specs.Headline.{mesh_given, mesh_in, style_of, text_of_volume, IsMeshWatertight, ShowsMesh};
+ghost use Rattle.bench_core.specs.Surface.{IsWatertight};
+ghost use Rattle.commands.specs.Headline.{mesh_given, mesh_in, style_of, text_of_volume, WritesWatertight};
 ghost use Rattle.program.specs.declared.answer.Answer.TheVariants as answers;
 ghost use Rattle.command_terms.specs.Outcome.{Converts, WritesGiven, streams_between};
-ghost use Rattle.command_terms.specs.Volumes.{volume_limit};
+ghost use Rattle.command_terms.specs.Volumes.{volume_limit, volume_of};
 
 use crate::volumes::in_pad;
 use command_terms::{NoVolume, bytes_of_input};
@@ -164,7 +165,8 @@ fn extract_bytes<K: Sink>(
     requires { IfSome asked.pad IsSample }
     ensures text { WritesGiven (mesh_given asked.level asked.pad asked.format bytes.items) (K.seen output.old)
         (K.seen output.new) result }
-    ensures surface { result ≡ answers.Done → IsMeshWatertight asked.level asked.pad bytes.items }
+    ensures surface { result ≡ answers.Done
+        → (v : Volume) × (volume_of asked.pad asked.level bytes.items ≡ Ok v) × IsWatertight v asked.level }
 {
     let read = match read_file_volume(alloc, &bytes) {
         Ok((FileVolume::Raw(raw), _)) => return extract_raw(alloc, asked, &raw, output),
@@ -189,8 +191,8 @@ pub fn extract<S: Source, K: Sink>(
     requires { IfSome pad IsSample }
     ensures converts { Converts (mesh_given level pad format)
         (streams_between S.seen K.seen input.old input.new output.old output.new) result }
-    ensures shows { ShowsMesh level pad format
-        (streams_between S.seen K.seen input.old input.new output.old output.new) result }
+    ensures shows { result ≡ answers.Done → WritesWatertight level pad format
+        (streams_between S.seen K.seen input.old input.new output.old output.new) }
     ensures reading { ReadsWithin volume_limit (S.seen input.old) (S.seen input.new) }
 {
     match bytes_of_input(alloc, input) {
