@@ -1,0 +1,2 @@
+pub mod HeadlineBefore
+pub mod PartsBefore
