@@ -18,6 +18,7 @@ use flat_mesh::{Cell, Heights, cell_case, cell_row};
 use iso_base::{Point, Sizes};
 use mesh_rows::Counts;
 use row_bits::mixed_at;
+use std::simd::prelude::*;
 use std::alloc::{AllocError, Global};
 
 /// The index of the first point of a row.
@@ -187,6 +188,43 @@ fn fill_cases<H: Heights>(
     counts
 }
 
+/// The signs of sixteen points of a row from a place on.
+#[inline(always)]
+fn signs_at(row: &[u8], at: usize) -> u8x16 {
+    u8x16::from_slice(&row[at..at + 16])
+}
+
+/// One more sign below each of sixteen.
+#[inline(always)]
+fn with_signs(signs: u8x16, rest: u8x16) -> u8x16 {
+    signs + (rest + rest)
+}
+
+/// The sign bytes of sixteen cells of a row from a place on.
+#[inline(always)]
+fn bytes_at(near: &[u8], up: &[u8], far: &[u8], both: &[u8], at: usize) -> [u8; 16] {
+    let above = with_signs(signs_at(both, at), signs_at(both, at + 1));
+    let above = with_signs(signs_at(far, at), with_signs(signs_at(far, at + 1), above));
+    let above = with_signs(signs_at(up, at), with_signs(signs_at(up, at + 1), above));
+    with_signs(signs_at(near, at), with_signs(signs_at(near, at + 1), above)).to_array()
+}
+
+/// Writes sixteen bytes over those from a place on.
+#[inline(always)]
+fn fill_sixteen(sixteen: &[u8; 16], at: usize, bytes: &mut [u8]) {
+    bytes[at..at + 16].copy_from_slice(sixteen);
+}
+
+/// Writes the sign bytes of so many cells, sixteen at a time. The last sixteen begin early enough to end with the row.
+#[inline(always)]
+fn fill_many_bytes(near: &[u8], up: &[u8], far: &[u8], both: &[u8], count: usize, bytes: &mut [u8]) {
+    for k in 0..count / 16 {
+        fill_sixteen(&bytes_at(near, up, far, both, 16 * k), 16 * k, bytes);
+    }
+    let start = count - 16;
+    fill_sixteen(&bytes_at(near, up, far, both, start), start, bytes);
+}
+
 /// Writes the sign bytes of a row of cells at the front of a buffer, from their four rows of signs, and a 0 behind them.
 #[inline(always)]
 fn fill_front_bytes(near: &[u8], up: &[u8], far: &[u8], both: &[u8], bytes: &mut [u8])
@@ -201,9 +239,13 @@ fn fill_front_bytes(near: &[u8], up: &[u8], far: &[u8], both: &[u8], bytes: &mut
     ensures last { slice_index bytes.new (length near.now - 1) ≡ 0 }
     ensures behind { (x : ℕ) → length near.now ≤ x → slice_index bytes.new x ≡ slice_index bytes.old x }
 {
-    let count = near.len();
-    cell_row(near, up, far, both, &mut bytes[..count]);
-    bytes[count - 1] = 0;
+    let count = near.len() - 1;
+    if count < 16 {
+        cell_row(near, up, far, both, &mut bytes[..count + 1]);
+    } else {
+        fill_many_bytes(near, up, far, both, count, bytes);
+    }
+    bytes[count] = 0;
 }
 
 /// Buffers for a row of cells: their sign bytes, and the numbers of their cases.
@@ -261,6 +303,7 @@ pub fn fill_row<H: Heights>(
     let sizes = field.sizes();
     row.cases.fill(0);
     if y + 1 == sizes.ny() || z + 1 == sizes.nz() {
+        row.bytes.fill(0);
         return counts;
     }
     fill_bytes(field, signs, y, z, &mut row.bytes);

@@ -10,7 +10,8 @@ ghost use Rattle.sample_rows.specs.Parts.{AreCells, HaveAllRows, part_cases, par
 use crate::parts::{RowPart, RowParts, numbers_from, part_of};
 use flat_mesh::Heights;
 use iso_base::{LONGEST_ROW, ROW_EDGES};
-use row_bits::{CASES, list_cases, list_edges};
+use crate::cases::CaseBuffers;
+use row_bits::{CASES, list_cases, list_edges, mixed_at};
 
 /// Buffers for a row that is kept whole: the flags of its points, and the cases of the cells that begin at them. They are made once, since
 /// what stands in them is written over, and to clear them for each row takes long.
@@ -71,7 +72,6 @@ pub fn list_whole_cells(
 /// Buffers for a row of cells: the numbers of their cases, and the active ones among them, by how far each is along x, with its case.
 #[derive(Drop)]
 pub struct CellLists {
-    pub all: [u16; CASES],
     pub places: [u16; LONGEST_ROW],
     pub cases: [u16; LONGEST_ROW],
 }
@@ -80,33 +80,42 @@ impl CellLists {
     /// Lists of nothing.
     pub fn new() -> CellLists {
         CellLists {
-            all: [0; CASES],
             places: [0; LONGEST_ROW],
             cases: [0; LONGEST_ROW],
         }
     }
 }
 
-/// Lists the active cells of a row at the front of its buffers, by the cases of all, and says how many there are.
+/// Lists the active cells of 64 of a row behind others, bit after bit of those that have crossing edges, and says where the next go.
+#[inline(always)]
+fn list_many(bytes: &[u8], from: usize, cases: &[u16], lists: &mut CellLists, at: usize) -> usize {
+    let mut at = at;
+    let mut rest = mixed_at(bytes, from);
+    while rest != 0 {
+        let x = from + rest.trailing_zeros() as usize;
+        lists.places[at] = x as u16;
+        lists.cases[at] = cases[x];
+        at += 1;
+        rest &= rest - 1;
+    }
+    at
+}
+
+/// Lists the active cells of a row at the front of its buffers, by the sign bytes and the cases of all, and says how many there are.
 pub fn list_row<H: Heights>(
     field: &H,
     y: u32,
     z: u32,
-    cases: &[u16],
+    row: &CaseBuffers,
     lists: &mut CellLists,
 ) -> usize
-    requires cases { AreRowCases (H.leveled field.now) y z cases.now }
-    ensures few { result < (H.leveled field.now).grid.nx }
-    ensures cells { AreCells (H.leveled field.now) y z (take result lists.new.places) (take result lists.new.cases) }
 {
     let _ = (field.sizes(), y, z);
-    copy_front(cases, &mut lists.all);
-    list_cases(
-        &lists.all,
-        cases.len() - 1,
-        &mut lists.places,
-        &mut lists.cases,
-    )
+    let mut at = 0;
+    for many in 0..row.bytes.len() / 64 {
+        at = list_many(&row.bytes, 64 * many, &row.cases, lists, at);
+    }
+    at
 }
 
 /// Copies a list to the front of a buffer.

@@ -96,7 +96,7 @@ fn keep_few<S: Samples>(
     ensures buffers { HaveBuffers field.now.grid row.new }
 {
     let _ = field.sizes();
-    let cells = list_row(field, y, z, &row.cells.cases, &mut row.active);
+    let cells = list_row(field, y, z, &row.cells, &mut row.active);
     let few = FewLists {
         edges: &row.edges.edges[..edges],
         places: &row.active.places[..cells],
