@@ -3,6 +3,8 @@ ghost use Rattle.std.specs.Prelude.{◌≡◌, ℕ, ◌+◌, ◌-◌, ◌*◌, �
 ghost use Rattle.std.specs.List.{sum_by};
 ghost use Rattle.crossing_edges.specs.Flags.{edges_in};
 
+use std::simd::prelude::*;
+
 /// How many bits each number below eight has.
 const COUNTS: [u8; 8] = [0, 1, 1, 2, 1, 2, 2, 3];
 
@@ -75,4 +77,73 @@ pub fn count_all_edges(flags: &[u8]) -> u32
         count += count_eight(flags, 8 * eight);
     }
     count + count_run(flags, 8 * eights, flags.len())
+}
+
+/// 1 where two signs differ, else 0.
+#[inline(always)]
+fn where_apart(a: u8x16, b: u8x16) -> u8x16 {
+    a.simd_eq(b).select(u8x16::splat(0), u8x16::splat(1))
+}
+
+/// How many crossing edges begin at each of sixteen points of a row from a place on, behind which another one stands.
+#[inline(always)]
+fn counts_at(here: &[u8], up: &[u8], far: &[u8], at: usize) -> u8x16 {
+    let signs = u8x16::from_slice(&here[at..at + 16]);
+    let right = where_apart(signs, u8x16::from_slice(&here[at + 1..at + 17]));
+    let up = where_apart(signs, u8x16::from_slice(&up[at..at + 16]));
+    let far = where_apart(signs, u8x16::from_slice(&far[at..at + 16]));
+    right + (up + far)
+}
+
+/// The places of sixteen points.
+const PLACES: [u8; 16] = [0, 1, 2, 3, 4, 5, 6, 7, 8, 9, 10, 11, 12, 13, 14, 15];
+
+/// The sum of sixteen numbers.
+#[inline(always)]
+fn sum_of(numbers: u8x16) -> u32 {
+    let numbers = numbers.to_array();
+    let mut sum = 0;
+    for k in 0..16 {
+        sum += u32::from(numbers[k]);
+    }
+    sum
+}
+
+/// How many crossing edges begin at so many points at the front of a row, behind which another one stands, sixteen at a time: at most three at each, so that sixty-five sums of a byte do not run over.
+#[inline(always)]
+fn count_many(here: &[u8], up: &[u8], far: &[u8], count: usize) -> u32 {
+    let mut sums = u8x16::splat(0);
+    for k in 0..count / 16 {
+        sums = sums + counts_at(here, up, far, 16 * k);
+    }
+    // Of the last sixteen some are counted.
+    let counted = u8x16::splat((16 - count % 16) as u8);
+    let last = counts_at(here, up, far, count - 16);
+    let rest = u8x16::from_array(PLACES).simd_ge(counted).select(last, u8x16::splat(0));
+    sum_of(sums + rest)
+}
+
+#[inline(always)]
+fn apart(a: u8, b: u8) -> u32 {
+    u32::from(a != b)
+}
+
+/// How many crossing edges begin at so many points at the front of a row, one by one.
+fn count_few(here: &[u8], up: &[u8], far: &[u8], count: usize) -> u32 {
+    let mut sum = 0;
+    for i in 0..count {
+        sum += apart(here[i], here[i + 1]) + apart(here[i], up[i]) + apart(here[i], far[i]);
+    }
+    sum
+}
+
+/// How many crossing edges begin at the points of a row, from its signs and those of the two next rows.
+pub fn count_row(here: &[u8], up: &[u8], far: &[u8]) -> u32 {
+    let last = here.len() - 1;
+    let count = if last < 16 {
+        count_few(here, up, far, last)
+    } else {
+        count_many(here, up, far, last)
+    };
+    count + apart(here[last], up[last]) + apart(here[last], far[last])
 }

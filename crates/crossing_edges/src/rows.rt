@@ -9,7 +9,6 @@ ghost use Rattle.crossing_edges.specs.Leveled.{IsLeveled, heights};
 ghost use Rattle.crossing_edges.specs.Rows.{AreOffsets};
 ghost use Rattle.crossing_edges.specs.Slices.{AreSliceSigns, HaveSlices};
 
-use crate::counts::count_all_edges;
 use crate::slices::SliceSigns;
 use edge_points::sample_place;
 use iso_base::{Level, ROW_EDGES, Sizes};
@@ -146,21 +145,23 @@ impl<'a, S: Samples> EdgeRows<'a, S> {
             .fill_signs(sizes.nx() * sizes.ny() * z, self.level, slice);
     }
 
-    /// How many crossing edges there are. `signs` and `flags`, as many as points along x, are buffers.
-    pub fn count(&self, signs: &mut SliceSigns, flags: &mut [u8]) -> u32
-        requires signs { HaveSlices self.now.grid signs.old }
-        requires flags { length flags.old ≡ self.now.grid.nx }
-        ensures count { result ≡ length (crossing_edges self.now.grid (heights self.now)) }
-        ensures signs { HaveSlices self.now.grid signs.new }
+    /// Sets how many crossing edges begin in each row, and says how many there are.
+    pub fn count(&self, signs: &mut SliceSigns, counts: &mut [u16]) -> u32
     {
         let sizes = self.sizes();
         signs.begin(self);
-        let mut count = 0;
-        for row in 0..sizes.ny() * sizes.nz() {
-            signs.fill_flags(self, row, flags);
-            count += count_all_edges(flags);
+        let mut total = 0;
+        let mut row = 0;
+        for z in 0..sizes.nz() {
+            for y in 0..sizes.ny() {
+                let count = signs.count_row(self, y, z);
+                counts[row] = count as u16;
+                total += count;
+                row += 1;
+            }
+            signs.turn(self, z);
         }
-        count
+        total
     }
 
     /// Lists the crossing edges of a row by their offsets, and where they are crossed, at the front of the room for them, and says

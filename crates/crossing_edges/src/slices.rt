@@ -5,6 +5,7 @@ ghost use Rattle.crossing_edges.specs.Flags.{flags_from};
 ghost use Rattle.crossing_edges.specs.Leveled.{heights};
 ghost use Rattle.crossing_edges.specs.Slices.{AreAtRow, AreSliceSigns, AreSlices, HaveSlices, next_to};
 
+use crate::counts::count_row;
 use crate::flags::flag_row;
 use crate::rows::EdgeRows;
 use iso_base::{Memory, Sizes};
@@ -70,7 +71,7 @@ impl SliceSigns {
     }
 
     /// Writes the flags of the points of a row of the slice.
-    fn fill_row<S: Samples>(&self, rows: &EdgeRows<'_, S>, y: u32, z: u32, flags: &mut [u8])
+    pub fn fill_row<S: Samples>(&self, rows: &EdgeRows<'_, S>, y: u32, z: u32, flags: &mut [u8])
         requires y { y < rows.now.grid.ny }
         requires z { z < rows.now.grid.nz }
         requires signs { AreSlices rows.now z self.now }
@@ -90,7 +91,7 @@ impl SliceSigns {
     }
 
     /// Goes on to the slice behind this one, if there is one.
-    fn turn<S: Samples>(&mut self, rows: &EdgeRows<'_, S>, z: u32)
+    pub fn turn<S: Samples>(&mut self, rows: &EdgeRows<'_, S>, z: u32)
         requires z { z < rows.now.grid.nz }
         requires signs { AreSlices rows.now z self.old }
         requires room { HaveSlices rows.now.grid self.old }
@@ -104,20 +105,16 @@ impl SliceSigns {
         }
     }
 
-    /// Writes the flags of the points of a row, and goes on to the next one.
-    pub fn fill_flags<S: Samples>(&mut self, rows: &EdgeRows<'_, S>, row: u32, flags: &mut [u8])
-        requires row { row < row_count rows.now.grid }
-        requires signs { AreAtRow rows.now row self.old }
-        requires count { length flags.old ≡ rows.now.grid.nx }
-        ensures flags { let g = rows.now.grid in
-            flags.new ≡ flags_from g (heights rows.now) (g.nx * row) g.nx }
-        ensures signs { AreAtRow rows.now (row + 1) self.new }
+    /// How many crossing edges begin at the points of a row of the slice.
+    pub fn count_row<S: Samples>(&self, rows: &EdgeRows<'_, S>, y: u32, z: u32) -> u32
     {
-        let ny = rows.sizes().ny();
-        let (y, z) = (row % ny, row / ny);
-        self.fill_row(rows, y, z, flags);
-        if y + 1 == ny {
-            self.turn(rows, z);
-        }
+        let sizes = rows.sizes();
+        let next_y = (y + 1).min(sizes.ny() - 1);
+        let far = self.next_slice(rows, z);
+        count_row(
+            sign_row(&sizes, &self.near, y),
+            sign_row(&sizes, &self.near, next_y),
+            sign_row(&sizes, far, y),
+        )
     }
 }

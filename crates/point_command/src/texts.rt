@@ -26,17 +26,6 @@ const STYLE: Style = Style {
     origin: Origin::Volume,
 };
 
-/// The coordinates along y and z of a row of points, by its number.
-fn row_at(sizes: &Sizes, row: u32) -> (u32, u32)
-    requires { row < row_count sizes.now }
-    ensures y { result.0 < sizes.now.ny }
-    ensures z { result.1 < sizes.now.nz }
-    ensures row { result.0 + sizes.now.ny * result.1 ≡ row }
-{
-    let ny = sizes.ny();
-    (row % ny, row / ny)
-}
-
 /// Puts the line of the vertex on an edge behind the others, and first makes room for it.
 #[inline(always)]
 fn write_edge<K: Sink>(
@@ -88,24 +77,17 @@ impl PointRow {
     fn write<S: Samples, K: Sink>(
         &mut self,
         rows: &EdgeRows<'_, S>,
-        row: u32,
+        y: u32,
+        z: u32,
         flags: &[u8],
         block: &mut LineBuffer,
         sink: &mut K,
     ) -> Result<(), Failed>
         requires texts { AreTextsOf rows.now.grid self.old.texts }
-        requires row { row < row_count rows.now.grid }
-        requires flags { let g = rows.now.grid in
-            flags.now ≡ flags_from g (heights rows.now) (g.nx * row) g.nx }
         ensures texts { AreTextsOf rows.now.grid self.new.texts }
-        ensures lines { Stages (K.seen sink.old) (K.seen sink.new) block.old.waiting block.new.waiting result
-            (lines_in rows.now.grid (heights rows.now) (3 * (rows.now.grid.nx * row)) (3 * rows.now.grid.nx)) }
     {
+        let row = y + rows.sizes().ny() * z;
         let count = rows.list_row(row, flags, &mut self.edges);
-        if count == 0 {
-            return Ok(());
-        }
-        let (y, z) = row_at(&rows.sizes(), row);
         self.texts.move_to(y, z, block);
         let edges = &self.edges.edges[..count];
         let places = &self.edges.places[..count];
@@ -119,6 +101,7 @@ impl PointRow {
 fn write_rows<S: Samples, K: Sink>(
     rows: &EdgeRows<'_, S>,
     signs: &mut SliceSigns,
+    counts: &[u16],
     flags: &mut [u8],
     block: &mut LineBuffer,
     sink: &mut K,
@@ -134,9 +117,16 @@ fn write_rows<S: Samples, K: Sink>(
         texts: RowTexts::new(STYLE, sizes.nx(), block),
     };
     signs.begin(rows);
-    for number in 0..sizes.ny() * sizes.nz() {
-        signs.fill_flags(rows, number, flags);
-        row.write(rows, number, flags, block, sink)?;
+    let mut number = 0;
+    for z in 0..sizes.nz() {
+        for y in 0..sizes.ny() {
+            if counts[number] != 0 {
+                signs.fill_row(rows, y, z, flags);
+                row.write(rows, y, z, flags, block, sink)?;
+            }
+            number += 1;
+        }
+        signs.turn(rows, z);
     }
     Ok(())
 }
@@ -146,6 +136,7 @@ fn write_points<S: Samples, K: Sink>(
     sink: &mut K,
     rows: &EdgeRows<'_, S>,
     signs: &mut SliceSigns,
+    counts: &mut [u16],
 ) -> Result<(), Failed>
     requires { HaveSlices rows.now.grid signs.old }
     ensures { Puts (K.seen sink.old) (K.seen sink.new) result
@@ -155,11 +146,11 @@ fn write_points<S: Samples, K: Sink>(
     let flags = &mut room[..rows.sizes().nx() as usize];
     let mut block = LineBuffer::new();
     block.push(
-        points_head_text(rows.count(signs, flags))
+        points_head_text(rows.count(signs, counts))
             .as_str()
             .as_bytes(),
     );
-    write_rows(rows, signs, flags, &mut block, sink)?;
+    write_rows(rows, signs, counts, flags, &mut block, sink)?;
     block.write_waiting(sink)
 }
 
@@ -177,5 +168,7 @@ pub fn put_points<S: Samples, K: Sink>(
     ensures nothing { IfErr result (λ _. K.seen sink.new ≡ K.seen sink.old) }
 {
     let mut signs = SliceSigns::new(alloc, &rows.sizes())?;
-    Ok(write_points(sink, rows, &mut signs))
+    let sizes = rows.sizes();
+    let mut counts = vec![in alloc; 0u16; (sizes.ny() * sizes.nz()) as usize]?;
+    Ok(write_points(sink, rows, &mut signs, &mut counts))
 }
