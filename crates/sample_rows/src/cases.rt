@@ -12,12 +12,14 @@ ghost use Rattle.sample_rows.specs.Cases.{AreBytes, AreCasesBut, AreMixed, ArePu
 ghost use Rattle.sample_rows.specs.Signs.{AreRowSigns};
 
 use crate::counts::count_cell;
+use crate::field::ListField;
 use crate::signs::RowSigns;
 use case_table::{ambiguous_set, row_of};
-use flat_mesh::{Cell, Heights, cell_case, cell_row};
+use flat_mesh::{Cell, Heights, cell_row};
 use iso_base::{Point, Sizes};
 use mesh_rows::Counts;
 use row_bits::mixed_at;
+use samples::Samples;
 use std::simd::prelude::*;
 use std::alloc::{AllocError, Global};
 
@@ -77,26 +79,181 @@ fn fill_clear<H: Heights>(field: &H, low: Point, bytes: &[u8], mixed: u64, cases
     unclear
 }
 
-/// Writes the cases of the cells of these bits, whose faces have to be asked.
+/// The corners of each face of a cell in cycle order: how far along x, y and z.
+static CYCLES: [[[u32; 3]; 4]; 6] = [
+    [[0, 0, 0], [0, 0, 1], [0, 1, 1], [0, 1, 0]],
+    [[1, 0, 0], [1, 1, 0], [1, 1, 1], [1, 0, 1]],
+    [[0, 0, 0], [1, 0, 0], [1, 0, 1], [0, 0, 1]],
+    [[0, 1, 0], [0, 1, 1], [1, 1, 1], [1, 1, 0]],
+    [[0, 0, 0], [0, 1, 0], [1, 1, 0], [1, 0, 0]],
+    [[0, 0, 1], [1, 0, 1], [1, 1, 1], [0, 1, 1]],
+];
+
+/// The faces of each set of faces, at the front of eight numbers.
+static FACES: [[u16; 8]; 64] = [
+    [0, 0, 0, 0, 0, 0, 0, 0],
+    [0, 0, 0, 0, 0, 0, 0, 0],
+    [1, 0, 0, 0, 0, 0, 0, 0],
+    [0, 1, 0, 0, 0, 0, 0, 0],
+    [2, 0, 0, 0, 0, 0, 0, 0],
+    [0, 2, 0, 0, 0, 0, 0, 0],
+    [1, 2, 0, 0, 0, 0, 0, 0],
+    [0, 1, 2, 0, 0, 0, 0, 0],
+    [3, 0, 0, 0, 0, 0, 0, 0],
+    [0, 3, 0, 0, 0, 0, 0, 0],
+    [1, 3, 0, 0, 0, 0, 0, 0],
+    [0, 1, 3, 0, 0, 0, 0, 0],
+    [2, 3, 0, 0, 0, 0, 0, 0],
+    [0, 2, 3, 0, 0, 0, 0, 0],
+    [1, 2, 3, 0, 0, 0, 0, 0],
+    [0, 1, 2, 3, 0, 0, 0, 0],
+    [4, 0, 0, 0, 0, 0, 0, 0],
+    [0, 4, 0, 0, 0, 0, 0, 0],
+    [1, 4, 0, 0, 0, 0, 0, 0],
+    [0, 1, 4, 0, 0, 0, 0, 0],
+    [2, 4, 0, 0, 0, 0, 0, 0],
+    [0, 2, 4, 0, 0, 0, 0, 0],
+    [1, 2, 4, 0, 0, 0, 0, 0],
+    [0, 1, 2, 4, 0, 0, 0, 0],
+    [3, 4, 0, 0, 0, 0, 0, 0],
+    [0, 3, 4, 0, 0, 0, 0, 0],
+    [1, 3, 4, 0, 0, 0, 0, 0],
+    [0, 1, 3, 4, 0, 0, 0, 0],
+    [2, 3, 4, 0, 0, 0, 0, 0],
+    [0, 2, 3, 4, 0, 0, 0, 0],
+    [1, 2, 3, 4, 0, 0, 0, 0],
+    [0, 1, 2, 3, 4, 0, 0, 0],
+    [5, 0, 0, 0, 0, 0, 0, 0],
+    [0, 5, 0, 0, 0, 0, 0, 0],
+    [1, 5, 0, 0, 0, 0, 0, 0],
+    [0, 1, 5, 0, 0, 0, 0, 0],
+    [2, 5, 0, 0, 0, 0, 0, 0],
+    [0, 2, 5, 0, 0, 0, 0, 0],
+    [1, 2, 5, 0, 0, 0, 0, 0],
+    [0, 1, 2, 5, 0, 0, 0, 0],
+    [3, 5, 0, 0, 0, 0, 0, 0],
+    [0, 3, 5, 0, 0, 0, 0, 0],
+    [1, 3, 5, 0, 0, 0, 0, 0],
+    [0, 1, 3, 5, 0, 0, 0, 0],
+    [2, 3, 5, 0, 0, 0, 0, 0],
+    [0, 2, 3, 5, 0, 0, 0, 0],
+    [1, 2, 3, 5, 0, 0, 0, 0],
+    [0, 1, 2, 3, 5, 0, 0, 0],
+    [4, 5, 0, 0, 0, 0, 0, 0],
+    [0, 4, 5, 0, 0, 0, 0, 0],
+    [1, 4, 5, 0, 0, 0, 0, 0],
+    [0, 1, 4, 5, 0, 0, 0, 0],
+    [2, 4, 5, 0, 0, 0, 0, 0],
+    [0, 2, 4, 5, 0, 0, 0, 0],
+    [1, 2, 4, 5, 0, 0, 0, 0],
+    [0, 1, 2, 4, 5, 0, 0, 0],
+    [3, 4, 5, 0, 0, 0, 0, 0],
+    [0, 3, 4, 5, 0, 0, 0, 0],
+    [1, 3, 4, 5, 0, 0, 0, 0],
+    [0, 1, 3, 4, 5, 0, 0, 0],
+    [2, 3, 4, 5, 0, 0, 0, 0],
+    [0, 2, 3, 4, 5, 0, 0, 0],
+    [1, 2, 3, 4, 5, 0, 0, 0],
+    [0, 1, 2, 3, 4, 5, 0, 0],
+];
+
+/// How many faces each set has.
+const FACE_COUNTS: [u8; 64] = [0, 1, 1, 2, 1, 2, 2, 3, 1, 2, 2, 3, 2, 3, 3, 4, 1, 2, 2, 3, 2, 3, 3, 4, 2, 3, 3, 4, 3, 4, 4, 5, 1, 2, 2, 3, 2, 3, 3, 4, 2, 3, 3, 4, 3, 4, 4, 5, 2, 3, 3, 4, 3, 4, 4, 5, 3, 4, 4, 5, 4, 5, 5, 6];
+
+/// Room for the ambiguous faces of 64 cells, and for what is written behind them.
+const FACE_ROOM: usize = 392;
+
+/// Lists the ambiguous faces of the cells of these bits: eight times the cell's place, and the face.
 #[inline(always)]
-fn fill_unclear<H: Heights>(field: &H, low: Point, bytes: &[u8], unclear: u64, cases: &mut [u16])
-    requires y { low.y + 1 < (H.leveled field.now).grid.ny }
-    requires z { low.z + 1 < (H.leveled field.now).grid.nz }
-    requires x { low.x < (H.leveled field.now).grid.nx }
-    requires many { low.x + 64 ≤ length bytes.now }
-    requires bytes { AreBytes (H.leveled field.now) low.y low.z bytes.now }
-    requires count { length cases.old ≡ (H.leveled field.now).grid.nx }
-    requires before { AreCasesBut (H.leveled field.now) low.y low.z low.x unclear cases.old }
-    ensures { AreCasesBut (H.leveled field.now) low.y low.z low.x 0 cases.new }
-{
-    let start = row_index(field, low.y, low.z);
+fn list_faces(bytes: &[u8], first: usize, unclear: u64, faces: &mut [u16; FACE_ROOM]) -> usize {
+    let mut at = 0;
     let mut rest = unclear;
     while rest != 0 {
         let place = rest.trailing_zeros();
-        let cell = cell_behind(field, start, low, place);
+        let set = usize::from(ambiguous_set(bytes[first + place as usize]));
+        let eight = u16x8::from_array(FACES[set]) + u16x8::splat(8 * place as u16);
+        eight.copy_to_slice(&mut faces[at..at + 8]);
+        at += usize::from(FACE_COUNTS[set]);
+        rest &= rest - 1;
+    }
+    at
+}
+
+/// Sets the joined faces of cells, by the list of those that are to be asked.
+#[inline(always)]
+fn set_joined<S: Samples>(
+    field: &ListField<S>,
+    low: Point,
+    faces: &[u16],
+    joined: &mut [u8; 64],
+) {
+    for k in 0..faces.len() {
+        let face = faces[k];
+        let place = face / 8;
+        let cell = Point { x: low.x + u32::from(place), ..low };
+        let is_joined = field.is_joined(cell, &CYCLES[usize::from(face % 8)]);
+        joined[usize::from(place)] |= u8::from(is_joined) << (face % 8);
+    }
+}
+
+/// Where the samples at the corners of a face stand among those of the four rows around a row of cells.
+#[inline(always)]
+fn cycle_places(cycle: &[[u32; 3]; 4], nx: u32) -> [usize; 4] {
+    let place = |c: [u32; 3]| (c[0] + nx * (c[1] + 2 * c[2])) as usize;
+    [place(cycle[0]), place(cycle[1]), place(cycle[2]), place(cycle[3])]
+}
+
+/// Sets them likewise, by the samples of the four rows around the row of cells.
+#[inline(always)]
+fn set_joined_around<S: Samples>(
+    field: &ListField<S>,
+    low: Point,
+    around: &[i64],
+    faces: &[u16],
+    joined: &mut [u8; 64],
+) {
+    let nx = field.sizes().nx();
+    let mut places = [[0; 4]; 6];
+    for f in 0..6 {
+        places[f] = cycle_places(&CYCLES[f], nx);
+    }
+    for k in 0..faces.len() {
+        let face = faces[k];
+        let place = face / 8;
+        let from = &around[low.x as usize + usize::from(place)..];
+        let is_joined = field.is_joined_among(from, &places[usize::from(face % 8)]);
+        joined[usize::from(place)] |= u8::from(is_joined) << (face % 8);
+    }
+}
+
+/// Writes the cases of the cells of these bits, whose faces have to be asked.
+#[inline(always)]
+fn fill_unclear<S: Samples>(field: &ListField<S>, low: Point, bytes: &[u8], around: Option<&[i64]>, unclear: u64, cases: &mut [u16])
+    requires y { low.y + 1 < field.now.grid.ny }
+    requires z { low.z + 1 < field.now.grid.nz }
+    requires x { low.x < field.now.grid.nx }
+    requires many { low.x + 64 ≤ length bytes.now }
+    requires bytes { AreBytes field.now low.y low.z bytes.now }
+    requires count { length cases.old ≡ field.now.grid.nx }
+    requires before { AreCasesBut field.now low.y low.z low.x unclear cases.old }
+    ensures { AreCasesBut field.now low.y low.z low.x 0 cases.new }
+{
+    if unclear == 0 {
+        return;
+    }
+    let mut faces = [0; FACE_ROOM];
+    let count = list_faces(bytes, low.x as usize, unclear, &mut faces);
+    let mut joined = [0; 64];
+    match around {
+        Some(around) => set_joined_around(field, low, around, &faces[..count], &mut joined),
+        None => set_joined(field, low, &faces[..count], &mut joined),
+    }
+    let mut rest = unclear;
+    while rest != 0 {
+        let place = rest.trailing_zeros();
         let x = (low.x + place) as usize;
-        cases[x] = cell_case(field, cell, bytes[x]).number();
-        rest ^= 1 << place;
+        cases[x] = row_of(bytes[x], joined[place as usize]).number();
+        rest &= rest - 1;
     }
 }
 
@@ -136,54 +293,56 @@ fn count_many<H: Heights>(
 /// Writes and counts the cases of 64 cells of a row from one on. Those that have to ask for their faces come after the others, so that
 /// each loop does the same for all of its cells.
 #[inline(always)]
-fn fill_many<H: Heights>(
-    field: &H,
+fn fill_many<S: Samples>(
+    field: &ListField<S>,
     low: Point,
     bytes: &[u8],
+    around: Option<&[i64]>,
     cases: &mut [u16],
     counts: Counts,
 ) -> Counts
-    requires y { low.y + 1 < (H.leveled field.now).grid.ny }
-    requires z { low.z + 1 < (H.leveled field.now).grid.nz }
-    requires x { low.x < (H.leveled field.now).grid.nx }
+    requires y { low.y + 1 < field.now.grid.ny }
+    requires z { low.z + 1 < field.now.grid.nz }
+    requires x { low.x < field.now.grid.nx }
     requires many { low.x + 64 ≤ length bytes.now }
-    requires room { HaveRoom (H.leveled field.now).grid bytes.now }
-    requires bytes { AreBytes (H.leveled field.now) low.y low.z bytes.now }
-    requires count { length cases.old ≡ (H.leveled field.now).grid.nx }
-    requires before { ArePut (H.leveled field.now) low.y low.z low.x cases.old counts }
-    ensures { ArePut (H.leveled field.now) low.y low.z (low.x + 64) cases.new result }
+    requires room { HaveRoom field.now.grid bytes.now }
+    requires bytes { AreBytes field.now low.y low.z bytes.now }
+    requires count { length cases.old ≡ field.now.grid.nx }
+    requires before { ArePut field.now low.y low.z low.x cases.old counts }
+    ensures { ArePut field.now low.y low.z (low.x + 64) cases.new result }
 {
     let mixed = mixed_at(bytes, low.x as usize);
     let unclear = fill_clear(field, low, bytes, mixed, cases);
-    fill_unclear(field, low, bytes, unclear, cases);
+    fill_unclear(field, low, bytes, around, unclear, cases);
     count_many(field, low, mixed, cases, counts)
 }
 
 /// Writes and counts the cases of the cells of a row over zeros, from their sign bytes.
-fn fill_cases<H: Heights>(
-    field: &H,
+fn fill_cases<S: Samples>(
+    field: &ListField<S>,
     y: u32,
     z: u32,
     bytes: &[u8],
+    around: Option<&[i64]>,
     cases: &mut [u16],
     counts: Counts,
 ) -> Counts
-    requires y { y + 1 < (H.leveled field.now).grid.ny }
-    requires z { z + 1 < (H.leveled field.now).grid.nz }
-    requires room { HaveRoom (H.leveled field.now).grid bytes.now }
-    requires bytes { AreBytes (H.leveled field.now) y z bytes.now }
-    requires count { length cases.old ≡ (H.leveled field.now).grid.nx }
-    requires zeros { ArePut (H.leveled field.now) y z 0 cases.old counts }
-    ensures cases { AreCases (H.leveled field.now) y z cases.new }
-    ensures last { slice_index cases.new ((H.leveled field.now).grid.nx - 1) ≡ 0 }
-    ensures counts { let g = (H.leveled field.now).grid in
-        AreCounts (H.leveled field.now) (row_start g (y + 1) z) result }
+    requires y { y + 1 < field.now.grid.ny }
+    requires z { z + 1 < field.now.grid.nz }
+    requires room { HaveRoom field.now.grid bytes.now }
+    requires bytes { AreBytes field.now y z bytes.now }
+    requires count { length cases.old ≡ field.now.grid.nx }
+    requires zeros { ArePut field.now y z 0 cases.old counts }
+    ensures cases { AreCases field.now y z cases.new }
+    ensures last { slice_index cases.new (field.now.grid.nx - 1) ≡ 0 }
+    ensures counts { let g = field.now.grid in
+        AreCounts field.now (row_start g (y + 1) z) result }
 {
     let nx = field.sizes().nx();
     let mut counts = counts;
     for many in 0..(nx + 63) / 64 {
         let low = Point { x: 64 * many, y, z };
-        counts = fill_many(field, low, bytes, cases, counts);
+        counts = fill_many(field, low, bytes, around, cases, counts);
     }
     counts
 }
@@ -281,24 +440,25 @@ fn fill_bytes<H: Heights>(field: &H, signs: RowSigns, y: u32, z: u32, bytes: &mu
 }
 
 /// Writes and counts the cases of the cells that begin in a row of points, and zeros where none begins.
-pub fn fill_row<H: Heights>(
-    field: &H,
+pub fn fill_row<S: Samples>(
+    field: &ListField<S>,
     signs: RowSigns,
     y: u32,
     z: u32,
     row: &mut CaseBuffers,
+    around: Option<&[i64]>,
     counts: Counts,
 ) -> Counts
-    requires y { y < (H.leveled field.now).grid.ny }
-    requires z { z < (H.leveled field.now).grid.nz }
-    requires signs { AreRowSigns (H.leveled field.now) y z signs }
-    requires room { HaveRoom (H.leveled field.now).grid row.old.bytes.items }
-    requires count { length row.old.cases.items ≡ (H.leveled field.now).grid.nx }
-    requires counts { AreCounts (H.leveled field.now) (row_start (H.leveled field.now).grid y z) counts }
-    ensures cases { AreRowCases (H.leveled field.now) y z row.new.cases.items }
-    ensures counts { let g = (H.leveled field.now).grid in
-        AreCounts (H.leveled field.now) (row_start g (y + 1) z) result }
-    ensures room { HaveRoom (H.leveled field.now).grid row.new.bytes.items }
+    requires y { y < field.now.grid.ny }
+    requires z { z < field.now.grid.nz }
+    requires signs { AreRowSigns field.now y z signs }
+    requires room { HaveRoom field.now.grid row.old.bytes.items }
+    requires count { length row.old.cases.items ≡ field.now.grid.nx }
+    requires counts { AreCounts field.now (row_start field.now.grid y z) counts }
+    ensures cases { AreRowCases field.now y z row.new.cases.items }
+    ensures counts { let g = field.now.grid in
+        AreCounts field.now (row_start g (y + 1) z) result }
+    ensures room { HaveRoom field.now.grid row.new.bytes.items }
 {
     let sizes = field.sizes();
     row.cases.fill(0);
@@ -307,5 +467,5 @@ pub fn fill_row<H: Heights>(
         return counts;
     }
     fill_bytes(field, signs, y, z, &mut row.bytes);
-    fill_cases(field, y, z, &row.bytes, &mut row.cases, counts)
+    fill_cases(field, y, z, &row.bytes, around, &mut row.cases, counts)
 }

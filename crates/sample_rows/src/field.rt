@@ -12,6 +12,7 @@ ghost use Rattle.sample_rows.specs.Ends.{HaveEnds};
 ghost use Rattle.sample_rows.specs.Signs.{AreSliceSigns};
 
 use edge_points::sample_place;
+use face_decider::face_joined;
 use flat_mesh::{Cell, Heights};
 use iso_base::{Level, Point, Sizes};
 use samples::{Samples, each_corner};
@@ -112,6 +113,39 @@ impl<'a, S: Samples> ListField<'a, S> {
         }
     }
 
+    /// The shifted value at a corner of a cell.
+    #[inline(always)]
+    fn height_at(&self, low: Point, corner: &[u32; 3]) -> i64 {
+        let point = Point {
+            x: low.x + corner[0],
+            y: low.y + corner[1],
+            z: low.z + corner[2],
+        };
+        self.level.shifted(self.samples.at_point(&self.sizes, point))
+    }
+
+    /// Whether an ambiguous face of a cell is joined, by its corners in cycle order.
+    #[inline(always)]
+    pub fn is_joined(&self, low: Point, cycle: &[[u32; 3]; 4]) -> bool {
+        face_joined([
+            self.height_at(low, &cycle[0]),
+            self.height_at(low, &cycle[1]),
+            self.height_at(low, &cycle[2]),
+            self.height_at(low, &cycle[3]),
+        ])
+    }
+
+    /// The same, from the samples of the four rows around a row of cells, from its own on.
+    #[inline(always)]
+    pub fn is_joined_among(&self, around: &[i64], places: &[usize; 4]) -> bool {
+        face_joined([
+            self.level.shifted(around[places[0]]),
+            self.level.shifted(around[places[1]]),
+            self.level.shifted(around[places[2]]),
+            self.level.shifted(around[places[3]]),
+        ])
+    }
+
     /// Copies the samples of a row of points over a part of a list.
     #[inline(always)]
     fn copy_over(&self, y: u32, z: u32, from: usize, into: &mut [i64])
@@ -143,6 +177,9 @@ impl<'a, S: Samples> ListField<'a, S> {
         }
         if z + 1 < sizes.nz() {
             self.copy_over(y, z + 1, 2 * nx, ends);
+            if y + 1 < sizes.ny() {
+                self.copy_over(y + 1, z + 1, 3 * nx, ends);
+            }
         }
     }
 
@@ -207,6 +244,12 @@ impl<'a, S: Samples> ListField<'a, S> {
         }
     }
 
+    /// Whether so many crossing edges of a row are few: no row of samples is copied for them.
+    #[inline(always)]
+    pub fn are_few(&self, edges: usize) -> bool {
+        edges < self.sizes.nx() as usize / FEW
+    }
+
     /// Fills in where the crossing edges of a row of points are crossed. `ends` is a buffer.
     pub fn fill_crossings(
         &self,
@@ -223,7 +266,7 @@ impl<'a, S: Samples> ListField<'a, S> {
         requires count { length places.old ≡ length edges.now }
         ensures { places.new ≡ row_places self.now y z }
     {
-        if edges.len() < self.sizes.nx() as usize / FEW {
+        if self.are_few(edges.len()) {
             self.fill_few(y, z, edges, places);
             return;
         }

@@ -32,7 +32,7 @@ pub fn place_buffers(alloc: Global, sizes: &Sizes) -> Result<PlaceBuffers, Alloc
     ensures { IfOk result (λ b. length b.ends.items ≡ 3 * sizes.now.nx) }
 {
     Ok(PlaceBuffers {
-        ends: vec![in alloc; 0i64; 3 * sizes.nx() as usize]?,
+        ends: vec![in alloc; 0i64; 4 * sizes.nx() as usize]?,
         edges: [0; ROW_EDGES],
         places: [0; ROW_EDGES],
     })

@@ -145,7 +145,12 @@ fn add_mixed<S: Samples>(
     let _ = field.sizes();
     fill_flags(field, signs, y, z, &mut row.flags);
     let edges = add_row(field, &row.flags, y, z, &mut row.edges, &mut kept.places)?;
-    kept.counts = fill_row(field, signs, y, z, &mut row.cells, kept.counts);
+    let around = if field.are_few(edges) {
+        None
+    } else {
+        Some(row.edges.ends.as_slice())
+    };
+    kept.counts = fill_row(field, signs, y, z, &mut row.cells, around, kept.counts);
     // Lists take less room than a number for each point where few of these have crossing edges, and are sooner copied.
     if 2 * edges > row.flags.len() {
         keep_whole(field, y, z, row, &mut kept.rows)
