@@ -11,6 +11,7 @@ mod slices;
 
 pub use counts::{begin_none, count_all_edges, count_edges};
 pub use edges::{EdgeVertices, edge_vertices, position_on};
+pub use counts::count_row;
 pub use flags::{PointBits, fill_flags, flag_row, point_bits};
 pub use rows::{EdgeBuffers, EdgeRows};
 pub use slices::SliceSigns;

@@ -6,6 +6,7 @@
 #![tactic(auto)]
 
 mod cases;
+mod count_slices;
 mod counts;
 mod field;
 mod lists;
@@ -15,4 +16,5 @@ mod row_storage;
 mod rows;
 mod signs;
 
+pub use count_slices::{SliceCounts, count_slices};
 pub use rows::ListRows;

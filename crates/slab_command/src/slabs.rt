@@ -19,6 +19,8 @@ use command_terms::{NoVolume, bytes_of_input};
 use iso_base::Sizes;
 use iso_io::{Failed, Shelf, Sink, Source, write_all_of};
 use list_mesh::ListPart;
+use mesh_walk::PartCounts;
+use sample_rows::count_slices;
 use nrrd_read::{FileVolume, RawVolume, read_file_volume};
 use padded_samples::{Ends, PaddedSlab};
 use program::{Answer, VolumeFault};
@@ -115,6 +117,39 @@ fn make_files<S: Samples, H: Shelf>(
     }
 }
 
+/// What a slab owns of the mesh, counted alone.
+fn counted<S: Samples>(
+    alloc: Global,
+    slab: Slab,
+    sizes: Sizes,
+    samples: &S,
+) -> Result<(u32, PartCounts), SlabAnswer> {
+    let slices = owned_slices(slab, sizes.nz())?;
+    let counts = count_slices(alloc, sizes, samples, slab.level, slices)?;
+    Ok((
+        slices,
+        PartCounts {
+            edges: counts.edges,
+            centres: counts.cells.centres,
+            faces: counts.cells.faces,
+        },
+    ))
+}
+
+/// Counts a slab, and writes the line alone.
+fn count_stored<S: Samples, K: Sink>(
+    alloc: Global,
+    slab: Slab,
+    sizes: Sizes,
+    samples: &S,
+    output: &mut K,
+) -> SlabAnswer {
+    match counted(alloc, slab, sizes, samples) {
+        Ok((slices, counts)) => put_line(counts_line(slices, counts).as_str(), output),
+        Err(answer) => answer,
+    }
+}
+
 /// Counts a slab, and writes it where there are to be files, from its samples in its padding. Never inlined: what stands on the
 /// stack while a mesh is written would stand there twice, in a caller that does so without padding too.
 #[inline(never)]
@@ -133,6 +168,9 @@ fn serve_stored<S: Samples, K: Sink, H: Shelf>(
         → GivesOutput (output_by job.now (owned_part job.now.slab v))
         (H.seen shelf.old) (H.seen shelf.new) (K.seen output.old) (K.seen output.new) result }
 {
+    if let None = &job.files {
+        return count_stored(alloc, job.slab, sizes, samples, output);
+    }
     let mut part = match part_of(alloc, job.slab, sizes, samples) {
         Ok(part) => part,
         Err(answer) => return answer,
