@@ -147,6 +147,10 @@ impl<'a, S: Samples> EdgeRows<'a, S> {
 
     /// Sets how many crossing edges begin in each row, and says how many there are.
     pub fn count(&self, signs: &mut SliceSigns, counts: &mut [u16]) -> u32
+        requires signs { HaveSlices self.now.grid signs.old }
+        requires counts { length counts.old ≡ row_count self.now.grid }
+        ensures count { result ≡ length (crossing_edges self.now.grid (heights self.now)) }
+        ensures signs { HaveSlices self.now.grid signs.new }
     {
         let sizes = self.sizes();
         signs.begin(self);

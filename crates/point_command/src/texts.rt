@@ -84,7 +84,14 @@ impl PointRow {
         sink: &mut K,
     ) -> Result<(), Failed>
         requires texts { AreTextsOf rows.now.grid self.old.texts }
+        requires y { y < rows.now.grid.ny }
+        requires z { z < rows.now.grid.nz }
+        requires flags { let g = rows.now.grid in
+            flags.now ≡ flags_from g (heights rows.now) (g.nx * (y + g.ny * z)) g.nx }
         ensures texts { AreTextsOf rows.now.grid self.new.texts }
+        ensures lines { Stages (K.seen sink.old) (K.seen sink.new) block.old.waiting block.new.waiting result
+            (lines_in rows.now.grid (heights rows.now) (3 * (rows.now.grid.nx * (y + rows.now.grid.ny * z)))
+            (3 * rows.now.grid.nx)) }
     {
         let row = y + rows.sizes().ny() * z;
         let count = rows.list_row(row, flags, &mut self.edges);

@@ -109,6 +109,9 @@ pub fn list_row<H: Heights>(
     row: &CaseBuffers,
     lists: &mut CellLists,
 ) -> usize
+    requires cases { AreRowCases (H.leveled field.now) y z row.now.cases.items }
+    ensures few { result < (H.leveled field.now).grid.nx }
+    ensures cells { AreCells (H.leveled field.now) y z (take result lists.new.places) (take result lists.new.cases) }
 {
     let _ = (field.sizes(), y, z);
     let mut at = 0;
