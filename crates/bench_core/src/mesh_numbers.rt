@@ -11,7 +11,7 @@ ghost use Rattle.mesh_report.specs.Report.{summary_of};
 ghost use Rattle.span_tree.specs.Spans.{IsRightFor};
 
 use brick_store::BrickStore;
-use cached_mesh::{CachedRows, no_slices};
+use cached_mesh::{CachedRows, no_signs, no_slices};
 use component_walk::{part_measures, part_numbers};
 use iso_base::{Level, Memory, Steps};
 use measure::Measures;
@@ -42,7 +42,8 @@ fn counted_numbers<L: Ledger>(
 {
     let (book, share) = blank.open::<L>();
     let mut held = no_slices();
-    let mut rows = CachedRows::new(store, cache, level, &mut held);
+    let mut signed = no_signs();
+    let mut rows = CachedRows::new(store, cache, level, &mut held, &mut signed);
     let mut steps = Steps::new(book, share);
     part_numbers(alloc, store, tree, level, &mut rows, &mut steps)
 }
@@ -81,7 +82,8 @@ fn counted_measures<L: Ledger>(
 {
     let (book, share) = blank.open::<L>();
     let mut held = no_slices();
-    let mut rows = CachedRows::new(store, cache, level, &mut held);
+    let mut signed = no_signs();
+    let mut rows = CachedRows::new(store, cache, level, &mut held, &mut signed);
     let mut steps = Steps::new(book, share);
     part_measures(alloc, store, tree, level, &mut rows, &mut steps)
 }

@@ -12,6 +12,7 @@ ghost use Rattle.cached_mesh.specs.Texts.{scratch_text};
 
 use crate::room::MeshRoom;
 use crate::rows::CachedRows;
+use crate::signed::clear_signs;
 use crate::slices::clear_slices;
 use brick_store::BrickStore;
 use iso_base::{Level, Steps, Written};
@@ -60,7 +61,9 @@ fn put_mesh<K: Sink, L: Ledger>(
     let level = volume.level;
     let held = room.held.as_mut();
     clear_slices(held);
-    let mut rows = CachedRows::new(store, cache, level, held);
+    let signed = room.signed.as_mut();
+    clear_signs(signed);
+    let mut rows = CachedRows::new(store, cache, level, held, signed);
     match format {
         TwoWayFormat::Ply => write_ply(store, tree, level, &mut rows, &mut room.rows, sink, steps),
         TwoWayFormat::Obj => write_obj(store, tree, level, &mut rows, &mut room.rows, sink, steps),

@@ -7,6 +7,7 @@ mod files;
 mod refresh;
 mod room;
 mod rows;
+mod signed;
 mod slices;
 
 pub use counts::count_entries;
@@ -14,4 +15,5 @@ pub use files::{KeptVolume, write_mesh};
 pub use refresh::refresh_bricks;
 pub use room::MeshRoom;
 pub use rows::CachedRows;
+pub use signed::no_signs;
 pub use slices::no_slices;

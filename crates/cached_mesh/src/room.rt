@@ -3,6 +3,7 @@
 //! Why: DECISIONS.md, "Room for lists outlives a write".
 ghost use Rattle.std.specs.Prelude.{◌≡◌, IfOk};
 
+use crate::signed::{SignSlices, no_signs};
 use crate::slices::{SLICE_BRICKS, Slices, no_slices};
 use edge_points::RowRanks;
 use iso_base::Memory;
@@ -14,12 +15,19 @@ use stitch::RowRoom;
 pub struct MeshRoom {
     pub rows: RowRoom,
     pub held: Box<[Slices; SLICE_BRICKS as usize]>,
+    pub signed: Box<SignSlices>,
 }
 
 /// A buffer with no slices. Apart, so that what is moved is gone from the stack then.
 #[inline(never)]
 fn new_held(alloc: Global) -> Result<Box<[Slices; SLICE_BRICKS as usize]>, Memory> {
     Ok(Box::new(alloc, no_slices())?)
+}
+
+/// A buffer with no sign bytes. Apart for the same reason.
+#[inline(never)]
+fn new_signed(alloc: Global) -> Result<Box<SignSlices>, Memory> {
+    Ok(Box::new(alloc, no_signs())?)
 }
 
 impl MeshRoom {
@@ -31,6 +39,7 @@ impl MeshRoom {
         Ok(MeshRoom {
             rows,
             held: new_held(alloc)?,
+            signed: new_signed(alloc)?,
         })
     }
 }

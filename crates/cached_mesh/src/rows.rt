@@ -10,9 +10,9 @@ ghost use Rattle.cached_mesh.specs.Kept.{named_by};
 ghost use Rattle.cached_mesh.specs.Slices.{AreNone, AreSlices, HaveSlice, IsHeld};
 
 use crate::counts::{count_anew, count_pages};
+use crate::signed::SignSlices;
 use crate::slices::{SLICE_BRICKS, Slices, across_of, has_few_bricks};
 use arrayvec::ArrayVec;
-use brick_mesh::extract_row;
 use brick_rows::{CellRows, Counts};
 use brick_store::{BrickId, BrickStore};
 use iso_base::{Level, Steps};
@@ -61,32 +61,6 @@ fn hold_anew(
     }
 }
 
-/// Puts slices of a brick, this one among them, in the brick's place, unless it is there already; says whether it is there then.
-#[inline(always)]
-fn hold(
-    store: &BrickStore,
-    cache: &MeshCache,
-    level: Level,
-    brick: BrickId,
-    z: u8,
-    held: &mut [Slices; SLICE_BRICKS as usize],
-) -> bool
-    requires items { IsRight store.now.grid store.now.samples cache.now.items }
-    requires brick { brick.0 < brick_count store.now.grid }
-    requires z { z < 8 }
-    requires there { in_brick store.now.grid brick.0 1 1 (z + 1) ≡ true }
-    requires held { All (AreSlices store.now level cache.now.items) held.old }
-    ensures held { All (AreSlices store.now level cache.now.items) held.new }
-    ensures places { length held.new ≡ 256 }
-    ensures here { OnTrue result (IsHeld brick.0 z held.new) }
-    ensures kept { result ≡ is_fresh brick.0 level cache.now.items }
-{
-    if has_slice(&held[(brick.0 % SLICE_BRICKS) as usize], brick, z) {
-        return true;
-    }
-    hold_anew(store, cache, level, brick, z, held)
-}
-
 /// Replaces the rows by the first cases of a row.
 #[inline(always)]
 fn fill_cases(row: &[u16], width: u8, rows: &mut ArrayVec<u16, 8>)
@@ -122,6 +96,7 @@ pub struct CachedRows<'a> {
     cache: &'a MeshCache,
     level: Level,
     held: &'a mut [Slices; SLICE_BRICKS as usize],
+    signed: &'a mut SignSlices,
 }
 
 impl<'a> Model for CachedRows<'a> {
@@ -145,6 +120,7 @@ impl<'a> CachedRows<'a> {
         cache: &'a MeshCache,
         level: Level,
         held: &'a mut [Slices; SLICE_BRICKS as usize],
+        signed: &'a mut SignSlices,
     ) -> CachedRows<'a>
         requires items { IsRight store.now.grid store.now.samples cache.now.items }
         requires none { All AreNone held.old }
@@ -155,6 +131,7 @@ impl<'a> CachedRows<'a> {
             cache,
             level,
             held,
+            signed,
         }
     }
 }
@@ -172,11 +149,19 @@ impl<'a> CellRows for CachedRows<'a> {
         steps: &mut Steps<L>,
     ) {
         let (store, cache, level) = (self.store, self.cache, self.level);
-        if hold(store, cache, level, brick, z, self.held) {
-            fill_row(&self.held[(brick.0 % SLICE_BRICKS) as usize], y, z, rows);
+        let place = (brick.0 % SLICE_BRICKS) as usize;
+        if has_slice(&self.held[place], brick, z) {
+            fill_row(&self.held[place], y, z, rows);
             return;
         }
-        extract_row(store, brick, y, z, level, rows, steps);
+        if !self.signed[place].has(brick, z) {
+            if hold_anew(store, cache, level, brick, z, self.held) {
+                fill_row(&self.held[place], y, z, rows);
+                return;
+            }
+            self.signed[place].move_to(store, brick, z, level);
+        }
+        self.signed[place].extract_row(store, y, level, rows, steps);
     }
 
     fn count<L: Ledger>(&mut self, brick: BrickId, steps: &mut Steps<L>) -> Counts {
