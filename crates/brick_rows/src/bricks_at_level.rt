@@ -1,5 +1,5 @@
 //! A volume in bricks at a level: its shifted values, and its active bricks.
-ghost use Rattle.std.specs.Prelude.{◌≡◌, ◌+◌, ◌*◌, ◌<◌, ◌≤◌, ◌^◌, All, ℤ, int_le, length, map, unsigned_abs};
+ghost use Rattle.std.specs.Prelude.{◌≡◌, ℕ, ◌+◌, ◌*◌, ◌/◌, ◌%◌, slice_index, ◌<◌, ◌≤◌, ◌^◌, All, ℤ, int_le, length, map, unsigned_abs};
 ghost use Rattle.iso_defs.specs.Bricks.{brick_count};
 ghost use Rattle.iso_defs.specs.Grid.{index};
 ghost use Rattle.iso_base.specs.Volume.{IsSample, is_above_level, shifted, IsVolume, sample};
@@ -31,6 +31,25 @@ fn copied_height(level: Level, copies: &PackedRun<'_>, place: usize) -> i64
     ensures bound { unsigned_abs result < 2 ^ 44 }
 {
     level.shifted(copies.at(place))
+}
+
+/// The samples at the corners of a cell whose lowest copy is at this place.
+#[inline(always)]
+fn corners_among<T: Packed>(copies: &[T], low: usize) -> [i64; 8]
+    requires { low + 91 < length copies.now }
+    ensures { (c : ℕ) → c < 8 → slice_index result c
+        ≡ sample (map T.value copies.now) (low + (c % 2 + 9 * (c / 2 % 2 + 9 * (c / 4)))) }
+{
+    [
+        copies[low].sample(),
+        copies[low + 1].sample(),
+        copies[low + 9].sample(),
+        copies[low + 10].sample(),
+        copies[low + 81].sample(),
+        copies[low + 82].sample(),
+        copies[low + 90].sample(),
+        copies[low + 91].sample(),
+    ]
 }
 
 /// How many rows further along y and z: none or one.
@@ -90,7 +109,7 @@ impl<'a> BricksAtLevel<'a> {
 
     /// The level.
     #[inline(always)]
-    pub(crate) fn level(&self) -> Level
+    pub fn level(&self) -> Level
         ensures { result ≡ self.now.level }
     {
         self.level
@@ -160,6 +179,26 @@ impl<'a> BricksAtLevel<'a> {
         // Reading the sizes brings in what is true of every volume.
         let _ = self.store.sizes();
         &copies[start..start + 9]
+    }
+
+    /// The samples at the corners of a cell, in whichever width they are packed.
+    #[inline(always)]
+    pub fn corner_samples(&self, cell: Cell) -> [i64; 8]
+        requires { IsCellAt self.now.grid cell }
+        ensures samples { All IsSample result }
+        ensures heights { map (λ s. shifted s self.now.level) result ≡ values_at self.now cell.index }
+    {
+        let sizes = self.store.sizes();
+        let cell_low = cell.low;
+        let row = BrickRow::of_cells(&sizes, cell_low.y, cell_low.z);
+        let low = (cell_low.x % 8) as usize + 9 * (row.y as usize + 9 * row.z as usize);
+        match self.store.brick(BrickId(row.first + cell_low.x / 8)) {
+            PackedRun::U8(copies) => corners_among(copies, low),
+            PackedRun::I16(copies) => corners_among(copies, low),
+            PackedRun::U16(copies) => corners_among(copies, low),
+            PackedRun::I32(copies) => corners_among(copies, low),
+            PackedRun::I64(copies) => corners_among(copies, low),
+        }
     }
 
     /// The number of bricks.

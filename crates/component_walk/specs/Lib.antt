@@ -7,5 +7,6 @@ pub mod Rows
 pub mod Begun
 pub mod Components
 pub mod Shares
+pub mod Here
 pub mod Local
 pub mod Asked

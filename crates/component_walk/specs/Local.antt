@@ -3,6 +3,7 @@ use Rattle.std.specs.Prelude.{ℕ, ◌≤◌, ◌+◌, ◌*◌, ◌/◌, ℤ, po
 use Rattle.std.specs.List.{sum_by}
 use Rattle.iso_defs.specs.Cell.{edge_corner}
 use Rattle.iso_defs.specs.Place.{Position, mean, place}
+use Rattle.iso_base.specs.Volume.{shifted}
 use Rattle.edge_points.specs.Points.{local_coordinate}
 
 -- the three numbers of a position
@@ -16,6 +17,10 @@ position_of xs = (slice_index xs 0, slice_index xs 1, slice_index xs 2)
 -- the sum of two positions
 abbrev pub moved : Position → Position → Position
 moved p q = (p.0 + q.0, p.1 + q.1, p.2 + q.2)
+
+-- the shifted values of samples
+abbrev pub heights_of : ℤ → List ℤ → List ℤ
+heights_of level samples = map (λ s. shifted s level) samples
 
 -- the corner of a cell at the upper end of an edge
 abbrev pub upper_corner : ℕ → ℕ

@@ -9,8 +9,11 @@ ghost use Rattle.iso_defs.specs.Lists.{around};
 ghost use Rattle.iso_defs.specs.Manifold.{share_outer_plane};
 ghost use Rattle.cell_loops.specs.Loops.{IsLoop};
 ghost use Rattle.flat_mesh.specs.Centres.{IsCellAt};
+ghost use Rattle.flat_mesh.specs.Lattice.{Leveled};
+ghost use Rattle.component_walk.specs.Here.{IsHere};
 ghost use Rattle.component_walk.specs.Sums.{lies_at, share_side, steps_on};
 
+use crate::corners::CellHere;
 use crate::positions::lower_corner;
 use flat_mesh::Cell;
 use iso_base::Sizes;
@@ -89,23 +92,6 @@ fn outer_step(sizes: &Sizes, cell: Cell, a: u8, b: u8) -> u32
     0
 }
 
-/// Whether a cell does not touch the border.
-#[inline(always)]
-fn is_inside(sizes: &Sizes, cell: Cell) -> bool
-    requires cell { IsCellAt sizes.now cell }
-    ensures { IsTrue result → (a b : ℕ) → a < 12 → b < 12 →
-        share_outer_plane sizes.now (cell_edge sizes.now cell.index a) (cell_edge sizes.now cell.index b) ≡ false }
-{
-    let low = cell.low;
-    if low.x == 0 || low.y == 0 || low.z == 0 {
-        return false;
-    }
-    if low.x + 2 == sizes.nx() || low.y + 2 == sizes.ny() || low.z + 2 == sizes.nz() {
-        return false;
-    }
-    true
-}
-
 /// How many steps around a loop of a cell lie in the border.
 fn outer_steps(sizes: &Sizes, cell: Cell, edges: &[u8]) -> u32
     requires cell { IsCellAt sizes.now cell }
@@ -121,16 +107,16 @@ fn outer_steps(sizes: &Sizes, cell: Cell, edges: &[u8]) -> u32
     outer + outer_step(sizes, cell, edges[count - 1], edges[0])
 }
 
-/// How many steps around a loop of a cell lie in the border, found sooner where the cell does not touch it.
+/// How many steps around a loop of a cell lie in the border, found sooner where the cell is known not to touch it.
 #[inline(always)]
-pub fn border_steps(sizes: &Sizes, cell: Cell, edges: &[u8]) -> u32
-    requires cell { IsCellAt sizes.now cell }
+pub fn border_steps(sizes: &Sizes, here: &CellHere, edges: &[u8]) -> u32
+    requires here { (v : Leveled) × (v.grid ≡ sizes.now) × IsHere v here.now }
     requires edges { IsLoop edges.now }
-    ensures value { result ≡ steps_on sizes.now cell.index edges.now }
+    ensures value { result ≡ steps_on sizes.now here.now.cell.index edges.now }
     ensures bound { result ≤ length edges.now }
 {
-    if is_inside(sizes, cell) {
+    if here.inside {
         return 0;
     }
-    outer_steps(sizes, cell, edges)
+    outer_steps(sizes, here.cell, edges)
 }

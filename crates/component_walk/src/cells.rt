@@ -1,47 +1,49 @@
 //! The loops of the cells of a row.
 
-ghost use Rattle.std.specs.Prelude.{◌≡◌, ℕ, ◌+◌, ◌*◌, ◌<◌, ◌≤◌, [], OnOk, length, slice_index};
+ghost use Rattle.std.specs.Prelude.{◌≡◌, IsTrue, ℕ, ◌+◌, ◌*◌, ◌<◌, ◌≤◌, [], OnOk, length, slice_index};
 ghost use Rattle.std.specs.Int.{bit_at};
 ghost use Rattle.iso_defs.specs.Grid.{index};
 ghost use Rattle.cell_loops.specs.Loops.{row_loops};
 ghost use Rattle.flat_mesh.specs.Centres.{IsCellAt};
 ghost use Rattle.flat_mesh.specs.Rows.{row_start};
 ghost use Rattle.mesh_rows.specs.Rows.{AreCases, IsCaseOf};
+ghost use Rattle.component_walk.specs.Here.{IsHere, IsRowInside};
 ghost use Rattle.component_walk.specs.Walks.{ArePlaces, IsWalked, loops_before};
 
+use crate::corners::{CellHere, Corners};
 use crate::loops::Walked;
 use crate::tally::Tally;
 use case_table::CaseRow;
 use cell_loops::{loop_count, loop_edges};
-use flat_mesh::{Cell, Heights};
+use flat_mesh::Cell;
 use iso_base::{Memory, Point, Sizes};
 use std::simd::prelude::*;
 
 /// Labels the loops of a cell and adds them up.
 #[inline(always)]
-fn add_cell<T: Tally, H: Heights>(
+fn add_cell<T: Tally, H: Corners>(
     field: &H,
     walked: &mut Walked<T>,
     places: &[u32; 12],
-    cell: Cell,
+    here: &CellHere,
     case: u16,
 ) -> Result<(), Memory>
-    requires cell { IsCellAt (H.leveled field.now).grid cell }
-    requires case { IsCaseOf (H.leveled field.now) cell.index case }
-    requires places { ArePlaces (H.leveled field.now).grid (cell.low.y + (H.leveled field.now).grid.ny * cell.low.z)
+    requires here { IsHere (H.leveled field.now) here.now }
+    requires case { IsCaseOf (H.leveled field.now) here.now.cell.index case }
+    requires places { ArePlaces (H.leveled field.now).grid (here.now.cell.low.y + (H.leveled field.now).grid.ny * here.now.cell.low.z)
         places.now }
     requires state { IsWalked T.value T.fits T.of_loop (H.leveled field.now)
-        (cell.low.y + (H.leveled field.now).grid.ny * cell.low.z) (loops_before (H.leveled field.now) cell.index)
+        (here.now.cell.low.y + (H.leveled field.now).grid.ny * here.now.cell.low.z) (loops_before (H.leveled field.now) here.now.cell.index)
         walked.old.labels walked.old.tallies.items walked.old.edges }
     ensures { OnOk result (IsWalked T.value T.fits T.of_loop (H.leveled field.now)
-        (cell.low.y + (H.leveled field.now).grid.ny * cell.low.z) (loops_before (H.leveled field.now) (cell.index + 1))
+        (here.now.cell.low.y + (H.leveled field.now).grid.ny * here.now.cell.low.z) (loops_before (H.leveled field.now) (here.now.cell.index + 1))
         walked.new.labels walked.new.tallies.items walked.new.edges) }
 {
     // Reading the sizes brings in what is true of every volume at a level.
     let _ = field.sizes();
     let case = CaseRow::of(case);
     for turn in 0..loop_count(case) {
-        walked.add_loop(field, places, cell, loop_edges(case, turn))?;
+        walked.add_loop(field, places, here, loop_edges(case, turn))?;
     }
     Ok(())
 }
@@ -79,11 +81,12 @@ fn looped_among(cases: &[u16], from: usize, end: usize) -> u64
     looped_of(&eight, 0)
 }
 
-/// The cells of a row: where it lies, where the labels of the edges of its first cell stand, and the cells' cases.
+/// The cells of a row: where it lies, whether it touches the border with its first and its last cell alone, where the labels of the edges of its first cell stand, and the cells' cases.
 #[derive(Drop)]
 pub struct RowCells<'a> {
     pub y: u32,
     pub z: u32,
+    pub inside: bool,
     pub places: [u32; 12],
     pub cases: &'a [u16],
 }
@@ -107,7 +110,7 @@ fn cell_at(sizes: &Sizes, x: u32, y: u32, z: u32) -> Cell
 
 /// Labels the loops of the cells of a row from a place to before an end, eight at most: of those that have loops, one by one. So there is one branch
 /// whose way a processor would have to guess for all of them.
-pub fn add_cells<T: Tally, H: Heights>(
+pub fn add_cells<T: Tally, H: Corners>(
     field: &H,
     walked: &mut Walked<T>,
     row: &RowCells<'_>,
@@ -121,6 +124,7 @@ pub fn add_cells<T: Tally, H: Heights>(
     requires end { end < (H.leveled field.now).grid.nx }
     requires count { length row.now.cases.now ≡ (H.leveled field.now).grid.nx }
     requires cases { AreCases (H.leveled field.now) row.now.y row.now.z row.now.cases.now }
+    requires inside { IsTrue row.now.inside → IsRowInside (H.leveled field.now).grid row.now.y row.now.z }
     requires places { ArePlaces (H.leveled field.now).grid (row.now.y + (H.leveled field.now).grid.ny * row.now.z)
         row.now.places }
     requires state { IsWalked T.value T.fits T.of_loop (H.leveled field.now)
@@ -139,7 +143,8 @@ pub fn add_cells<T: Tally, H: Heights>(
         let skipped = bits.trailing_zeros();
         let x = from + (next + skipped);
         let cell = cell_at(&sizes, x, row.y, row.z);
-        add_cell(field, walked, &row.places, cell, row.cases[x as usize])?;
+        let here = CellHere::of(field, cell, row.inside);
+        add_cell(field, walked, &row.places, &here, row.cases[x as usize])?;
         next += skipped + 1;
         bits = (bits >> skipped) / 2;
     }

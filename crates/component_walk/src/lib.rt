@@ -5,6 +5,7 @@
 mod borders;
 mod cells;
 mod components;
+mod corners;
 mod edges_behind;
 mod leaving;
 mod loops;

@@ -5,16 +5,16 @@
 
 ghost use Rattle.std.specs.Prelude.{◌≡◌, ℕ, ◌+◌, ◌*◌, ◌<◌, ◌≤◌, ◌++◌, ◌∷◌, [], List, IfOk, OnOk, length};
 ghost use Rattle.cell_loops.specs.Loops.{IsLoop};
-ghost use Rattle.flat_mesh.specs.Centres.{IsCellAt};
 ghost use Rattle.flat_mesh.specs.Lattice.{Leveled};
 ghost use Rattle.part_laws.specs.Loops.{Loop};
+ghost use Rattle.component_walk.specs.Here.{IsHere};
 ghost use Rattle.component_walk.specs.Sums.{IsLoopIn, IsOneLoop};
 ghost use Rattle.component_walk.specs.Walks.{ArePlaces, CanAdd, IsLonger, IsWalked, loops_before};
 
+use crate::corners::{CellHere, Corners};
 use crate::edges_behind::Passed;
 use crate::tally::Tally;
 use component_labels::Labels;
-use flat_mesh::{Cell, Heights};
 use iso_base::{Memory, Sizes};
 use std::alloc::Global;
 
@@ -63,38 +63,38 @@ impl<T: Tally> Walked<T> {
 
     /// Gives a loop of a cell a label whose edges have their labels at some places, and adds it up with the others of the label.
     #[inline(always)]
-    pub fn add_loop<H: Heights>(
+    pub fn add_loop<H: Corners>(
         &mut self,
         field: &H,
         places: &[u32; 12],
-        cell: Cell,
+        here: &CellHere,
         edges: &[u8],
     ) -> Result<(), Memory>
-        requires cell { IsCellAt (H.leveled field.now).grid cell }
+        requires here { IsHere (H.leveled field.now) here.now }
         requires edges { IsLoop edges.now }
-        requires there { IsOneLoop (H.leveled field.now) cell.index edges.now }
+        requires there { IsOneLoop (H.leveled field.now) here.now.cell.index edges.now }
         requires places { ArePlaces (H.leveled field.now).grid
-            (cell.low.y + (H.leveled field.now).grid.ny * cell.low.z) places.now }
+            (here.now.cell.low.y + (H.leveled field.now).grid.ny * here.now.cell.low.z) places.now }
         requires state { CanAdd T.value T.fits T.of_loop (H.leveled field.now)
-            (cell.low.y + (H.leveled field.now).grid.ny * cell.low.z) self.old.labels self.old.tallies.items
+            (here.now.cell.low.y + (H.leveled field.now).grid.ny * here.now.cell.low.z) self.old.labels self.old.tallies.items
             self.old.edges }
-        ensures { OnOk result ((loops : List Loop) (l : Loop) → IsLoopIn (H.leveled field.now) cell.index edges.now l
+        ensures { OnOk result ((loops : List Loop) (l : Loop) → IsLoopIn (H.leveled field.now) here.now.cell.index edges.now l
             → IsWalked T.value T.fits T.of_loop (H.leveled field.now)
-            (cell.low.y + (H.leveled field.now).grid.ny * cell.low.z) loops self.old.labels
+            (here.now.cell.low.y + (H.leveled field.now).grid.ny * here.now.cell.low.z) loops self.old.labels
             self.old.tallies.items self.old.edges
             → IsWalked T.value T.fits T.of_loop (H.leveled field.now)
-            (cell.low.y + (H.leveled field.now).grid.ny * cell.low.z) (loops ++ l ∷ []) self.new.labels
+            (here.now.cell.low.y + (H.leveled field.now).grid.ny * here.now.cell.low.z) (loops ++ l ∷ []) self.new.labels
             self.new.tallies.items self.new.edges) }
     {
         // Reading the sizes brings in what is true of every volume at a level.
         let _ = field.sizes();
-        let label = self.labels.add_loop(places, 3 * cell.low.x, edges)?;
+        let label = self.labels.add_loop(places, 3 * here.cell.low.x, edges)?;
         self.know()?;
         // Reading the number brings in that there are fewer labels than the number that stands for none.
         let _ = self.labels.count();
         // Reading the pairs brings in that they are pairs of labels.
         let _ = self.labels.pairs();
-        self.tallies[label as usize].add_loop(field, cell, edges);
+        self.tallies[label as usize].add_loop(field, here, edges);
         Ok(())
     }
 }

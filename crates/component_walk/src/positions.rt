@@ -5,10 +5,12 @@
 ghost use Rattle.std.specs.Prelude.{◌≡◌, ℕ, ◌+◌, ◌*◌, ◌<◌, ◌≤◌, ◌^◌, All, IsTrue, length, nat_lt, slice_index, unsigned_abs, ◌∷◌, [], if◌then◌else◌};
 ghost use Rattle.iso_defs.specs.Cell.{crosses, edge_corner, signs_of};
 ghost use Rattle.iso_defs.specs.Place.{Position};
-ghost use Rattle.component_walk.specs.Local.{IsNear, lanes_of, listed, local_vertex, moved, position_of, rounded, upper_corner as corner_above, vertex_at};
+ghost use Rattle.iso_base.specs.Volume.{IsSample};
+ghost use Rattle.component_walk.specs.Local.{IsNear, heights_of, lanes_of, listed, local_vertex, moved, position_of, rounded, upper_corner as corner_above, vertex_at};
 
-use edge_points::{place, rounded_mean};
+use edge_points::{rounded_mean, sample_place};
 use flat_mesh::Cell;
+use iso_base::Level;
 
 /// The corner of a cell at the lower end of each of its edges.
 const LOWER: [u8; 12] = [0, 2, 4, 6, 0, 1, 4, 5, 0, 1, 2, 3];
@@ -80,19 +82,19 @@ fn lanes(edge: u8, at: u16) -> u64
     BEGIN[edge as usize] + UNITS[edge as usize] * u64::from(at)
 }
 
-/// The position of the vertex on a crossing edge of a cell from the cell's lowest point, by the shifted values at the corners.
+/// The position of the vertex on a crossing edge of a cell from the cell's lowest point, by the samples at the corners.
 #[inline(always)]
-pub fn local_lanes(heights: &[i64; 8], edge: u8) -> u64
+pub fn local_lanes(level: Level, samples: &[i64; 8], edge: u8) -> u64
     requires edge { edge < 12 }
-    requires bound { All (λ h. unsigned_abs h < 2 ^ 44) heights.now }
-    requires crossing { IsTrue (crosses (signs_of heights.now) edge) }
-    ensures value { result ≡ lanes_of (local_vertex heights.now edge) }
-    ensures near { IsNear 1000 (local_vertex heights.now edge) }
+    requires samples { All IsSample samples.now }
+    requires crossing { IsTrue (crosses (signs_of (heights_of level samples.now)) edge) }
+    ensures value { result ≡ lanes_of (local_vertex (heights_of level samples.now) edge) }
+    ensures near { IsNear 1000 (local_vertex (heights_of level samples.now) edge) }
     ensures bound { result < 2 ^ 42 }
 {
-    let lower = heights[lower_corner(edge) as usize];
-    let upper = heights[upper_corner(edge) as usize];
-    lanes(edge, place(lower, upper))
+    let lower = samples[lower_corner(edge) as usize];
+    let upper = samples[upper_corner(edge) as usize];
+    lanes(edge, sample_place(level, lower, upper))
 }
 
 /// The three coordinates of a position.

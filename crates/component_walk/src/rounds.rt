@@ -2,14 +2,16 @@
 
 ghost use Rattle.std.specs.Prelude.{◌≡◌, ℕ, ◌+◌, ◌*◌, ◌<◌, ◌≤◌, ◌^◌, All, IsTrue, pos, ◌*ℤ◌, unsigned_abs};
 ghost use Rattle.cell_loops.specs.Loops.{IsLoop};
+ghost use Rattle.iso_base.specs.Volume.{IsSample};
 ghost use Rattle.iso_defs.specs.Cell.{crosses, signs_of};
-ghost use Rattle.measure_laws.specs.Vectors.{cross, dot, minor as minor_of, plus};
+ghost use Rattle.measure_laws.specs.Vectors.{cross, dot, minor as minor_of, minus, plus};
 ghost use Rattle.measure.specs.Measures.{IsWithin, coordinates, vector_of};
 ghost use Rattle.part_laws.specs.Swept.{swept as swept_by};
-ghost use Rattle.component_walk.specs.Local.{listed, local_tip, local_vertex, position_of};
+ghost use Rattle.component_walk.specs.Local.{heights_of, listed, local_tip, local_vertex, position_of};
 ghost use Rattle.component_walk.specs.Sweep.{vector_at};
 
 use crate::positions::{local_lanes, parts, tip_of};
+use iso_base::Level;
 
 /// What a loop of a cell spans.
 #[derive(Clone, Copy)]
@@ -22,26 +24,25 @@ pub struct Round {
 
 /// The determinant of two vectors of two coordinates.
 #[inline(always)]
-fn minor(a: u32, b: u32, c: u32, d: u32) -> i64
-    requires a { a ≤ 1000 }
-    requires b { b ≤ 1000 }
-    requires c { c ≤ 1000 }
-    requires d { d ≤ 1000 }
-    ensures value { result ≡ minor_of (pos a) (pos b) (pos c) (pos d) }
-    ensures within { unsigned_abs result ≤ 1000000 }
+fn minor(a: i32, b: i32, c: i32, d: i32) -> i32
+    requires a { unsigned_abs a ≤ 1000 }
+    requires b { unsigned_abs b ≤ 1000 }
+    requires c { unsigned_abs c ≤ 1000 }
+    requires d { unsigned_abs d ≤ 1000 }
+    ensures value { result ≡ minor_of a b c d }
+    ensures within { unsigned_abs result ≤ 2000000 }
 {
-    i64::from(a * d) - i64::from(b * c)
+    a * d - b * c
 }
 
-/// A vector and the vector product of two positions.
+/// A vector and the vector product of two others.
 #[inline(always)]
-fn with_cross(swept: &[i64; 3], a: &[u32; 3], b: &[u32; 3]) -> [i64; 3]
-    requires room { IsWithin (2 ^ 40) (vector_of swept.now) }
-    requires a { All (λ c. c ≤ 1000) a.now }
-    requires b { All (λ c. c ≤ 1000) b.now }
-    ensures value { result ≡ coordinates (plus (vector_of swept.now)
-        (cross (vector_at (position_of a.now)) (vector_at (position_of b.now)))) }
-    ensures within { (m : ℕ) → IsWithin m (vector_of swept.now) → IsWithin (m + 1000000) (vector_of result) }
+fn with_cross(swept: &[i32; 3], a: &[i32; 3], b: &[i32; 3]) -> [i32; 3]
+    requires room { IsWithin (2 ^ 30) (vector_of swept.now) }
+    requires a { IsWithin 1000 (vector_of a.now) }
+    requires b { IsWithin 1000 (vector_of b.now) }
+    ensures value { result ≡ coordinates (plus (vector_of swept.now) (cross (vector_of a.now) (vector_of b.now))) }
+    ensures within { (m : ℕ) → IsWithin m (vector_of swept.now) → IsWithin (m + 2000000) (vector_of result) }
 {
     [
         swept[0] + minor(a[1], a[2], b[1], b[2]),
@@ -50,31 +51,54 @@ fn with_cross(swept: &[i64; 3], a: &[u32; 3], b: &[u32; 3]) -> [i64; 3]
     ]
 }
 
-/// What the loop of these edges of a cell spans, by the shifted values at the cell's corners.
+/// From one position to another.
 #[inline(always)]
-pub fn round_of(heights: &[i64; 8], edges: &[u8]) -> Round
-    requires bound { All (λ h. unsigned_abs h < 2 ^ 44) heights.now }
+fn between(from: &[u32; 3], to: &[u32; 3]) -> [i32; 3]
+    requires from { All (λ c. c ≤ 1000) from.now }
+    requires to { All (λ c. c ≤ 1000) to.now }
+    ensures value { result ≡ coordinates (minus (vector_at (position_of to.now)) (vector_at (position_of from.now))) }
+    ensures within { IsWithin 1000 (vector_of result) }
+{
+    [
+        to[0] as i32 - from[0] as i32,
+        to[1] as i32 - from[1] as i32,
+        to[2] as i32 - from[2] as i32,
+    ]
+}
+
+/// What the loop of these edges of a cell spans, by the samples at the cell's corners. Vectors are taken from the first vertex: what is spanned
+/// stays the same, and two of the products are zero.
+#[inline(always)]
+pub fn round_of(level: Level, samples: &[i64; 8], edges: &[u8]) -> Round
+    requires samples { All IsSample samples.now }
     requires edges { IsLoop edges.now }
-    requires crossing { All (λ e. IsTrue (crosses (signs_of heights.now) e)) edges.now }
-    ensures swept { result.swept ≡ coordinates (swept_by (λ e. vector_at (local_vertex heights.now e)) edges.now) }
-    ensures within { IsWithin 12000000 (vector_of result.swept) }
-    ensures tip { result.tip ≡ listed (local_tip (local_vertex heights.now) edges.now) }
+    requires crossing { All (λ e. IsTrue (crosses (signs_of (heights_of level samples.now)) e)) edges.now }
+    ensures swept { result.swept
+        ≡ coordinates (swept_by (λ e. vector_at (local_vertex (heights_of level samples.now) e)) edges.now) }
+    ensures within { IsWithin 20000000 (vector_of result.swept) }
+    ensures tip { result.tip ≡ listed (local_tip (local_vertex (heights_of level samples.now)) edges.now) }
     ensures bound { All (λ c. c ≤ 1000) result.tip }
 {
     let count = edges.len();
-    let mut sum = local_lanes(heights, edges[0]);
-    let first = parts(sum);
+    let start = local_lanes(level, samples, edges[0]);
+    let first = parts(start);
+    let second = local_lanes(level, samples, edges[1]);
+    let mut sum = start + second;
     let mut swept = [0; 3];
-    let mut last = first;
-    for at in 1..count {
-        let lanes = local_lanes(heights, edges[at]);
-        let next = parts(lanes);
+    let mut last = between(&first, &parts(second));
+    for at in 2..count {
+        let lanes = local_lanes(level, samples, edges[at]);
+        let next = between(&first, &parts(lanes));
         swept = with_cross(&swept, &last, &next);
         sum += lanes;
         last = next;
     }
     Round {
-        swept: with_cross(&swept, &last, &first),
+        swept: [
+            i64::from(swept[0]),
+            i64::from(swept[1]),
+            i64::from(swept[2]),
+        ],
         tip: tip_of(&parts(sum), &first, count as u32),
     }
 }

@@ -16,6 +16,7 @@ ghost use Rattle.component_walk.specs.Rows.{IsAt, first_point};
 ghost use Rattle.component_walk.specs.Walks.{IsWalked, loops_before};
 
 use crate::cells::{RowCells, add_cells};
+use crate::corners::is_row_inside;
 use crate::leaving::leave_edges;
 use crate::loops::Walked;
 use crate::tally::Tally;
@@ -53,6 +54,7 @@ fn add_row<T: Tally>(
     let row = RowCells {
         y,
         z,
+        inside: is_row_inside(&sizes, y, z),
         places,
         cases,
     };

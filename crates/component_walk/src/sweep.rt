@@ -5,7 +5,7 @@
 ghost use Rattle.std.specs.Prelude.{◌≡◌, ℕ, ◌+◌, ◌*◌, ◌<◌, ◌≤◌, ◌^◌, ◌+ℤ◌, IfOk, length};
 ghost use Rattle.iso_defs.specs.Bricks.{brick_count};
 ghost use Rattle.cell_loops.specs.Loops.{IsLoop};
-ghost use Rattle.flat_mesh.specs.Centres.{IsCellAt};
+ghost use Rattle.component_walk.specs.Here.{IsHere};
 ghost use Rattle.part_laws.specs.Loops.{Loop};
 ghost use Rattle.component_walk.specs.Sums.{IsLoopIn, IsOneLoop};
 ghost use Rattle.part_laws.specs.Printed.{measures_at};
@@ -16,6 +16,7 @@ ghost use Rattle.brick_rows.specs.Named.{NamesCases, asked_among};
 
 use crate::borders::border_steps;
 use crate::components::components;
+use crate::corners::{CellHere, Corners};
 use crate::positions::{cell_position, moved_by};
 use crate::rounds::{Round, round_of, six_over};
 use crate::rows::walk;
@@ -23,7 +24,6 @@ use crate::shares::shares_of;
 use crate::tally::Tally;
 use brick_rows::CellRows;
 use brick_store::BrickStore;
-use flat_mesh::{Cell, Heights};
 use iso_base::{Level, Memory, Steps};
 use measure::Measures;
 use span_tree::SpanTree;
@@ -58,21 +58,21 @@ fn together(a: &Swept, b: &Swept) -> Swept
 
 /// What is measured of one loop of a cell.
 #[inline(always)]
-fn of_one<H: Heights>(field: &H, cell: Cell, edges: &[u8]) -> Swept
-    requires cell { IsCellAt (H.leveled field.now).grid cell }
+fn of_one<H: Corners>(field: &H, here: &CellHere, edges: &[u8]) -> Swept
+    requires here { IsHere (H.leveled field.now) here.now }
     requires edges { IsLoop edges.now }
-    requires there { IsOneLoop (H.leveled field.now) cell.index edges.now }
-    ensures values { (l : Loop) → IsLoopIn (H.leveled field.now) cell.index edges.now l → (i : ℕ) →
+    requires there { IsOneLoop (H.leveled field.now) here.now.cell.index edges.now }
+    ensures values { (l : Loop) → IsLoopIn (H.leveled field.now) here.now.cell.index edges.now l → (i : ℕ) →
         measure_at result i ≡ measured_of (H.leveled field.now) i l }
     ensures fits { AreSmall (length edges.now) result }
 {
     let sizes = field.sizes();
-    let Round { swept, tip } = round_of(&field.corner_heights(cell), edges);
-    let six = six_over(&moved_by(&cell_position(cell), &tip), &swept);
+    let Round { swept, tip } = round_of(field.level(), &here.samples, edges);
+    let six = six_over(&moved_by(&cell_position(here.cell), &tip), &swept);
     Swept {
         six: i128::from(six),
         area: swept,
-        border: u64::from(border_steps(&sizes, cell, edges)),
+        border: u64::from(border_steps(&sizes, here, edges)),
     }
 }
 
@@ -92,8 +92,8 @@ impl Tally for Swept {
     }
 
     #[inline(always)]
-    fn add_loop<H: Heights>(&mut self, field: &H, cell: Cell, edges: &[u8]) {
-        *self = together(self, &of_one(field, cell, edges));
+    fn add_loop<H: Corners>(&mut self, field: &H, here: &CellHere, edges: &[u8]) {
+        *self = together(self, &of_one(field, here, edges));
     }
 
     fn add(&mut self, other: &Swept) {

@@ -4,15 +4,15 @@ ghost use Rattle.std.specs.Prelude.{◌≡◌, ℕ, ◌+◌, ◌*◌, ◌<◌, �
 ghost use Rattle.std.specs.List.{sum_by};
 ghost use Rattle.iso_defs.specs.Lists.{below};
 ghost use Rattle.cell_loops.specs.Loops.{IsLoop};
-ghost use Rattle.flat_mesh.specs.Centres.{IsCellAt};
 ghost use Rattle.flat_mesh.specs.Lattice.{Leveled};
 ghost use Rattle.measure_laws.specs.Vectors.{total};
 ghost use Rattle.part_laws.specs.Loops.{Loop};
 ghost use Rattle.component_walk.specs.Counts.{counted, fit, number};
+ghost use Rattle.component_walk.specs.Here.{IsHere};
 ghost use Rattle.component_walk.specs.Sums.{FitEach, IsLoopIn, IsOneLoop};
 
 use crate::borders::border_steps;
-use flat_mesh::{Cell, Heights};
+use crate::corners::{CellHere, Corners};
 
 /// What is added up of loops: some whole numbers, each the sum of what is said of each loop.
 pub trait Tally: Copy + Drop {
@@ -31,12 +31,12 @@ pub trait Tally: Copy + Drop {
         ensures fits { fits 0 result };
 
     /// With a loop of a cell more.
-    fn add_loop<H: Heights>(&mut self, field: &H, cell: Cell, edges: &[u8])
-        requires cell { IsCellAt (H.leveled field.now).grid cell }
+    fn add_loop<H: Corners>(&mut self, field: &H, here: &CellHere, edges: &[u8])
+        requires here { IsHere (H.leveled field.now) here.now }
         requires edges { IsLoop edges.now }
-        requires there { IsOneLoop (H.leveled field.now) cell.index edges.now }
+        requires there { IsOneLoop (H.leveled field.now) here.now.cell.index edges.now }
         requires room { (n : ℕ) × (n + length edges.now < 2 ^ 31) × fits n self.old }
-        ensures values { (l : Loop) → IsLoopIn (H.leveled field.now) cell.index edges.now l → (i : ℕ) →
+        ensures values { (l : Loop) → IsLoopIn (H.leveled field.now) here.now.cell.index edges.now l → (i : ℕ) →
             value self.new i ≡ value self.old i +ℤ of_loop (H.leveled field.now) i l }
         ensures fits { (n : ℕ) → fits n self.old → fits (n + length edges.now) self.new };
 
@@ -89,14 +89,14 @@ impl Tally for LoopCounts {
     }
 
     #[inline(always)]
-    fn add_loop<H: Heights>(&mut self, field: &H, cell: Cell, edges: &[u8]) {
+    fn add_loop<H: Corners>(&mut self, field: &H, here: &CellHere, edges: &[u8]) {
         if edges.len() > 3 {
             self.centres += 1;
             self.spokes += edges.len() as u32;
         } else {
             self.threes += 1;
         }
-        self.border += border_steps(&field.sizes(), cell, edges);
+        self.border += border_steps(&field.sizes(), here, edges);
     }
 
     fn add(&mut self, other: &LoopCounts) {
