@@ -21,7 +21,7 @@ use crate::edits::{area_change, is_in_range, one_change};
 use crate::fault::BeginFault;
 use crate::follow::follow;
 use crate::mesh_numbers::{walked_measures, walked_numbers};
-use crate::room::room_of;
+use crate::room::{forget_rows, room_of};
 use crate::windows::{Window, write_window};
 use brick_store::BrickStore;
 use cached_mesh::{KeptVolume, MeshRoom, refresh_bricks, write_mesh};
@@ -243,6 +243,7 @@ impl Bench {
         // Reading the sizes brings in what is true of every volume.
         let _ = self.store.sizes();
         follow(&mut self.tree, &mut self.cache, &self.store, area, value);
+        forget_rows(&mut self.room, area);
         self.log.push(change);
     }
 
@@ -261,6 +262,7 @@ impl Bench {
         let _ = self.store.sizes();
         change.take_back(&mut self.store, &mut self.level);
         follow(&mut self.tree, &mut self.cache, &self.store, area, None);
+        forget_rows(&mut self.room, area);
         Ok(())
     }
 
@@ -280,6 +282,7 @@ impl Bench {
         let _ = self.store.sizes();
         change.make(&mut self.store, &mut self.level);
         follow(&mut self.tree, &mut self.cache, &self.store, area, filled);
+        forget_rows(&mut self.room, area);
         Ok(())
     }
 

@@ -9,6 +9,7 @@ use cached_mesh::MeshRoom;
 use edge_points::RowRanks;
 use iso_base::{Memory, Sizes};
 use std::alloc::Global;
+use voxel_list::FillBox;
 
 /// The numbers that the lists of rows which a write keeps have room for: all those of a volume of 128 points along each axis, unless
 /// it is noisy. A page of this memory is first touched when lists are put there.
@@ -22,4 +23,12 @@ pub fn room_of(alloc: Global, sizes: &Sizes) -> Result<MeshRoom, Memory>
     ranks.set_room(Some(Vec::with_capacity(alloc, LIST_NUMBERS)?));
     let room = MeshRoom::new(alloc, ranks)?;
     Ok(room)
+}
+
+/// Lets what is kept of rows go that rests on the samples of a box, or all of it where there is no box: the level changed then.
+pub fn forget_rows(room: &mut MeshRoom, area: Option<FillBox>) {
+    match area {
+        Some(area) => room.rows.forget_box(area.low(), area.high()),
+        None => room.rows.forget(),
+    }
 }

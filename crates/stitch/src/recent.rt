@@ -12,9 +12,9 @@ pub const LIST_PLACES: usize = 49_152;
 const MOST_NUMBERS: usize = (1 << 31) - 1;
 
 /// Stands in place of where a list begins where none is noted.
-const NO_LIST: u32 = u32::MAX;
+pub(crate) const NO_LIST: u32 = u32::MAX;
 
-/// Room for lists, of which nothing is known: buffers of whoever asks for them. The more numbers there is room for, the more lists are
+/// Room for lists, with those that are noted there: buffers of whoever asks for them. The more numbers there is room for, the more lists are
 /// kept, and none where there is none.
 #[derive(Drop)]
 pub struct ListRoom<'a> {
@@ -39,7 +39,7 @@ pub struct RecentLists<'a> {
 
 /// Where the list of a key is noted.
 #[inline(always)]
-fn place_of(key: u32) -> usize
+pub(crate) fn place_of(key: u32) -> usize
     ensures value { result ≡ key % 49152 }
     ensures bound { result < 49152 }
 {
@@ -77,7 +77,7 @@ fn most_in(room: &Option<Vec<u16>>) -> usize
 }
 
 /// Lets the numbers of a room go.
-fn clear(room: &mut Option<Vec<u16>>)
+pub(crate) fn clear(room: &mut Option<Vec<u16>>)
     ensures { numbers_in room.new ≡ [] }
 {
     if let Some(numbers) = room {
@@ -134,21 +134,20 @@ fn part_of<'n>(
 }
 
 impl<'a> RecentLists<'a> {
-    /// No lists.
+    /// The lists that are noted in a room.
     pub fn new(room: ListRoom<'a>) -> RecentLists<'a>
+        requires within { AreInRoom room.tags.now room.starts.now room.counts.now (numbers_in room.numbers.now) }
         ensures within { AreWithin result }
-        ensures none { (key : ℕ) → (list : List ℕ) → IsKept result key list → ⊥ }
+        ensures same { AreIn room.tags.now room.starts.now room.counts.now (numbers_in room.numbers.now) result }
     {
         let most = most_in(room.numbers);
-        let mut lists = RecentLists {
+        RecentLists {
             tags: room.tags,
             starts: room.starts,
             counts: room.counts,
             numbers: room.numbers,
             most,
-        };
-        lists.forget();
-        lists
+        }
     }
 
     /// Lets all lists go.

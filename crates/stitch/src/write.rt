@@ -59,12 +59,11 @@ fn write_in<R: CellRows, K: Sink, L: Ledger>(
 {
     // Reading the sizes brings in what is true of every volume at a level.
     let _ = field.sizes();
-    let mut numbers = room.ranks.take_room();
     let lists = ListRoom {
         tags: room.tags.as_mut(),
         starts: room.starts.as_mut(),
         counts: room.counts.as_mut(),
-        numbers: &mut numbers,
+        numbers: &mut room.numbers,
     };
     let known = KnownRoom {
         lists,
@@ -72,9 +71,7 @@ fn write_in<R: CellRows, K: Sink, L: Ledger>(
         odd: room.odd.as_mut(),
     };
     let mut store = StoreRows::new(field, rows, known, steps);
-    let written = write_mesh(&mut store, style, &mut room.ranks, sink);
-    room.ranks.set_room(numbers);
-    written
+    write_mesh(&mut store, style, &mut room.ranks, sink)
 }
 
 /// Appends the text of the mesh of a volume in bricks at a level, as PLY, and says how many vertices, faces and bytes were
