@@ -41,6 +41,8 @@ impl<T: Tally> Walked<T> {
     }
 
     /// Nothing is known of new labels.
+    // Apart, as few loops make one.
+    #[inline(never)]
     fn know(&mut self) -> Result<(), Memory>
         requires tallies { length self.old.tallies.items ≤ self.old.labels.count }
         requires edges { length self.old.edges.crossings.items ≡ length self.old.tallies.items }
@@ -89,7 +91,9 @@ impl<T: Tally> Walked<T> {
         // Reading the sizes brings in what is true of every volume at a level.
         let _ = field.sizes();
         let label = self.labels.add_loop(places, 3 * here.cell.low.x, edges)?;
-        self.know()?;
+        if self.tallies.len() < self.labels.count() as usize {
+            self.know()?;
+        }
         // Reading the number brings in that there are fewer labels than the number that stands for none.
         let _ = self.labels.count();
         // Reading the pairs brings in that they are pairs of labels.
