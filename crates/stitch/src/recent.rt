@@ -26,7 +26,7 @@ pub struct ListRoom<'a> {
 
 /// Lists of numbers, each under a key. A key has a place, by its remainder, where it is noted how often the number of places goes into
 /// the key whose list was put there last, where among the numbers that list begins, and how long it is. Each list is put behind the one
-/// before, and where there is no more room, all are let go: none that is noted is ever written over. `most` is how many numbers there
+/// before, and where there is no more room, those in the last quarter of the numbers are let go: none that is noted is ever written over. `most` is how many numbers there
 /// may be.
 #[derive(Drop)]
 pub struct RecentLists<'a> {
@@ -82,6 +82,31 @@ pub(crate) fn clear(room: &mut Option<Vec<u16>>)
 {
     if let Some(numbers) = room {
         numbers.clear();
+    }
+}
+
+/// Lets the lists go that end behind a number.
+fn drop_behind(starts: &mut [u32; LIST_PLACES], counts: &[u16; LIST_PLACES], most_kept: u32)
+    ensures { (k : ℕ) → k < 49152 → (slice_index starts.new k ≡ 4294967295)
+        ⊎ ((slice_index starts.new k ≡ slice_index starts.old k)
+        × (slice_index starts.old k + slice_index counts.now k ≤ most_kept)) }
+{
+    for place in 0..LIST_PLACES {
+        let end = starts[place].saturating_add(u32::from(counts[place]));
+        starts[place] = if end > most_kept {
+            NO_LIST
+        } else {
+            starts[place]
+        };
+    }
+}
+
+/// Lets the numbers of a room go from one on.
+fn truncate(room: &mut Option<Vec<u16>>, count: usize)
+    ensures { numbers_in room.new ≡ take count (numbers_in room.old) }
+{
+    if let Some(numbers) = room {
+        numbers.truncate(count);
     }
 }
 
@@ -150,17 +175,19 @@ impl<'a> RecentLists<'a> {
         }
     }
 
-    /// Lets all lists go.
+    /// Lets those lists go that stand in the last quarter of the numbers. A traversal comes back to all rows in order: if all lists were let
+    /// go, none would be there when it comes back.
     fn forget(&mut self)
-        requires { self.old.most < 2 ^ 31 }
+        requires { AreWithin self.old }
         ensures within { AreWithin self.new }
-        ensures none { (key : ℕ) → (list : List ℕ) → IsKept self.new key list → ⊥ }
+        ensures kept { (k : ℕ) → (l : List ℕ) → IsKept self.new k l → IsKept self.old k l }
         ensures most { self.new.most ≡ self.old.most }
-        ensures numbers { numbers_of self.new ≡ [] }
+        ensures room { length (numbers_of self.new) + self.new.most / 4 ≤ self.new.most }
     {
         tell_places(self.tags, self.starts, self.counts);
-        self.starts.fill(NO_LIST);
-        clear(self.numbers);
+        let most_kept = self.most / 4 * 3;
+        drop_behind(self.starts, self.counts, most_kept as u32);
+        truncate(self.numbers, most_kept);
     }
 
     /// Whether the list of a key is kept.
@@ -183,11 +210,11 @@ impl<'a> RecentLists<'a> {
         part_of(self.starts, self.counts, self.numbers, place_of(key))
     }
 
-    /// Lets all lists go if so many numbers more do not fit behind them.
+    /// Lets lists go if so many numbers more do not fit behind them.
     #[inline(always)]
     fn make_room(&mut self, count: usize)
         requires within { AreWithin self.old }
-        requires few { count ≤ self.old.most }
+        requires few { count ≤ self.old.most / 4 }
         ensures within { AreWithin self.new }
         ensures kept { (k : ℕ) → (l : List ℕ) → IsKept self.new k l → IsKept self.old k l }
         ensures room { length (numbers_of self.new) + count ≤ self.new.most }
@@ -223,7 +250,7 @@ impl<'a> RecentLists<'a> {
         ensures within { AreWithin self.new }
         ensures each { (k : ℕ) → (l : List ℕ) → IsKept self.new k l → IsPut key list.now k l ⊎ IsKept self.old k l }
     {
-        if self.most < list.len() {
+        if self.most / 4 < list.len() {
             return;
         }
         self.make_room(list.len());
