@@ -5,7 +5,7 @@ use Rattle.iso_defs.specs.Bytes.{minus}
 use Rattle.arguments.specs.declared.options.Found.{Found}
 use Rattle.arguments.specs.declared.options.Found.TheVariants.{Nothing, Once, Again}
 use Rattle.std.specs.Option.{option_map, option_and_then}
-use Rattle.text_lines.specs.Numbers.{number_of, whole_of, level_number_of}
+use Rattle.text_lines.specs.Numbers.{integer_of, whole_of, level_number_of}
 use Rattle.text_lines.specs.Parts.{◌>>=◌}
 use Rattle.script.specs.Names.{count_of, is_name}
 use Rattle.iso_defs.specs.Grid.{Grid}
@@ -62,7 +62,7 @@ abbrev pub as_pad : ℤ → Option ℤ
 as_pad z = if int_le (negsuc 2147483647) z && int_le z (pos 4294967295) then Some z else None
 
 abbrev pub pad_value : List ℕ → Option ℤ
-pad_value text = option_and_then as_pad (number_of text)
+pad_value text = option_and_then as_pad (integer_of text)
 
 -- `ply` or `obj`
 abbrev pub format_value : List ℕ → Option TwoWayFormat

@@ -25,7 +25,7 @@ use Rattle.script.specs.declared.command.Command.TheVariants.{Contour, Fill, Lev
 use Rattle.session.specs.Following.{Followed, LineTurn}
 use Rattle.session.specs.Kept.{Kept}
 use Rattle.session.specs.Worlds.{World, is_shelf_error, scene_of}
-use Rattle.session.specs.Lines.{Saying}
+use Rattle.session.specs.Lines.{LineMeaning}
 use Rattle.session.specs.Table.{TakesStep, Turn, after_writing, says_of, step_of, writes_of}
 use Rattle.iso_base.specs.declared.fault.BenchFault.{BenchFault}
 use Rattle.iso_base.specs.declared.fault.BenchFault.TheVariants as faults
@@ -133,7 +133,7 @@ turn_leads s s' f f' Undo reply (inr (inr h)) = absurd (no_file (h.name, h.text)
 turn_leads s s' f f' Redo reply (inr (inr h)) = absurd (no_file (h.name, h.text) h.writes)
 turn_leads s s' f f' c reply (inr (inr h)) = inl h.same_state
 
-line_leads : (s s' : State) (f f' : Option Files) (says : Saying) (replies : List (List ℕ)) → LineTurn s f says replies s' f' → LineLeads s says replies s'
+line_leads : (s s' : State) (f f' : Option Files) (says : LineMeaning) (replies : List (List ℕ)) → LineTurn s f says replies s' f' → LineLeads s says replies s'
 line_leads s s' f f' (Ok None) replies h = (h.0, h.1)
 line_leads s s' f f' (Ok (Some c)) replies h = (h.0, h.1, turn_leads s s' f f' c h.0 h.2)
 line_leads s s' f f' (Err fault) replies h = (line (line_fault_text fault), h.0, inl h.1)
@@ -190,7 +190,7 @@ turn_beside name text s s' f f' c reply differ h (inr (inl t)) = subst (HoldsTex
 turn_beside name text s s' f f' c reply differ h (inr (inr t)) =
     cut_beside name text t.name t.text f f' (λ e. differ (sym (written_name s c) ∙ ap name_in t.writes ∙ ap Some e)) h t.cut
 
-line_beside : (name text : List ℕ) (s s' : State) (f f' : Option Files) (says : Saying) (replies : List (List ℕ)) → (file_of says ≡ Some name → ⊥) → HoldsText name text f → LineTurn s f says replies s' f' → HoldsText name text f'
+line_beside : (name text : List ℕ) (s s' : State) (f f' : Option Files) (says : LineMeaning) (replies : List (List ℕ)) → (file_of says ≡ Some name → ⊥) → HoldsText name text f → LineTurn s f says replies s' f' → HoldsText name text f'
 line_beside name text s s' f f' (Ok None) replies differ h t = subst (HoldsText name text) (sym t.2) h
 line_beside name text s s' f f' (Ok (Some c)) replies differ h t = turn_beside name text s s' f f' c t.0 differ h t.2
 line_beside name text s s' f f' (Err fault) replies differ h t = subst (HoldsText name text) (sym t.2) h
@@ -244,7 +244,7 @@ wrote s s' after f' format name reply later rest mesh leads (inr e) = inr e
 one_mesh : (s s' : State) (f f' : Option Files) (before : List (List ℕ)) (asked : List ℕ) (later replies : List (List ℕ)) (format : TwoWayFormat) (name : List ℕ)
     → IsState s → read_of asked ≡ Ok (Some (writes_mesh format name)) → Between s s' f f' before asked later replies → MeshTurn s s' f' before later replies format name
 one_mesh s s' f f' before asked later replies format name sound e b =
-    let t = subst (λ (says : Saying). LineTurn b.state b.files says b.answered b.next b.after) e b.turn in
+    let t = subst (λ (says : LineMeaning). LineTurn b.state b.files says b.answered b.next b.after) e b.turn in
     let mesh = followed_mesh before b.told s b.state f b.files sound b.led in
     let m = mesh_turn b.state b.next b.files b.after format name t.0 t.2 in
     let leads = subst (λ (x : State). Followed x b.after later b.rest s' f') m.0 b.leads in

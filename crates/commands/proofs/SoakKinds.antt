@@ -8,19 +8,19 @@ use Rattle.script.specs.Commands.{command_of, corners_on, count_on, ended, fill_
 use Rattle.script.specs.declared.command.Command.{Command}
 use Rattle.script.specs.declared.command.Command.TheVariants.{Fill, Contour, Report, Measure, Window}
 use Rattle.script.specs.declared.command.LineFault.TheVariants.{LineTooLong}
-use Rattle.session.specs.Lines.{Saying}
+use Rattle.session.specs.Lines.{LineMeaning}
 use Rattle.commands.specs.SoakLoop.{may_want}
 use Rattle.commands.specs.SessionMeshes.{is_fill}
 
 -- a line for which memory is not wanting, or a fill
-abbrev is_tame : Saying → Bool
+abbrev is_tame : LineMeaning → Bool
 is_tame (Ok (Some (Contour k))) = false
 is_tame (Ok (Some Report)) = false
 is_tame (Ok (Some Measure)) = false
 is_tame (Ok (Some (Window corners format name))) = false
 is_tame says = true
 
-tame_fill : (says : Saying) → is_tame says ≡ true → may_want says ≡ true → is_fill says ≡ true
+tame_fill : (says : LineMeaning) → is_tame says ≡ true → may_want says ≡ true → is_fill says ≡ true
 tame_fill (Ok (Some (Fill corners value))) t w = refl
 tame_fill (Ok (Some command)) t w = absurd cc
 tame_fill (Ok None) t w = absurd cc

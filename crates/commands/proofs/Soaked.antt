@@ -12,7 +12,7 @@ use Rattle.script.specs.Replies.{line_fault_text}
 use Rattle.script.specs.declared.command.Command.{Command}
 use Rattle.session.specs.Following.{LineTurn}
 use Rattle.session.specs.Kept.{Kept, KeptLine, Scene}
-use Rattle.session.specs.Lines.{Saying}
+use Rattle.session.specs.Lines.{LineMeaning}
 use Rattle.session.specs.Worlds.{CountsBy, TakesTurn, World, replies_text, scene_of, shelf_errors}
 use Rattle.session.proofs.Running.{replies_text-append, kept_both, line_no_error}
 use Rattle.commands.specs.SoakLoop.{Shows, SoaksLine, may_want}
@@ -39,7 +39,7 @@ counts_both a b c xs ys p l q = λ lt.
     omega (arith, errors_both xs ys)
 
 -- the replies to one line, and then those to others
-shown_first : (s s' : State) (f f' : Option Files) (says : Saying) (first more behind : List (List ℕ)) (k k' : List (List ℕ) → List (List ℕ)) (rest : List (List ℕ))
+shown_first : (s s' : State) (f f' : Option Files) (says : LineMeaning) (first more behind : List (List ℕ)) (k k' : List (List ℕ) → List (List ℕ)) (rest : List (List ℕ))
     → LineTurn s f says first s' f' → k' (more ++ behind) ≡ k more ++ rest → shown_by says ((first ++ more) ++ behind) k' ≡ shown_by says (first ++ more) k ++ rest
 shown_first s s' f f' (Ok None) first more behind k k' rest t e =
     ap (λ (r : List (List ℕ)). k' ((r ++ more) ++ behind)) t.0 ∙ e ∙ ap (λ (r : List (List ℕ)). k (r ++ more) ++ rest) (sym t.0)
@@ -120,23 +120,23 @@ soak_breaks w v x ls ls' a b = record {
 
 -- ---- one line
 
-of_line : (w v : Scene) (line : List ℕ) (replies : List (List ℕ)) (says : Saying) → says ≡ read_of line → KeptLine w says replies v → KeptLine w (read_of line) replies v
-of_line w v line replies says e t = subst (λ (m : Saying). KeptLine w m replies v) e t
+of_line : (w v : Scene) (line : List ℕ) (replies : List (List ℕ)) (says : LineMeaning) → says ≡ read_of line → KeptLine w says replies v → KeptLine w (read_of line) replies v
+of_line w v line replies says e t = subst (λ (m : LineMeaning). KeptLine w m replies v) e t
 
-one_kept : (w v : Scene) (line : List ℕ) (replies : List (List ℕ)) (says : Saying) → says ≡ read_of line → KeptLine w says replies v → Kept w (line ∷ []) replies v
+one_kept : (w v : Scene) (line : List ℕ) (replies : List (List ℕ)) (says : LineMeaning) → says ≡ read_of line → KeptLine w says replies v → Kept w (line ∷ []) replies v
 one_kept w v line replies says e t = (replies, [], v, sym (append-nil replies), of_line w v line replies says e t, (refl, refl))
 
 -- a line that asks for nothing that is shown, and leaves everything as it was
-pub quiet_line : (w : World) (line : List ℕ) (says : Saying) (replies : List (List ℕ)) → says ≡ read_of line → KeptLine (scene_of w) says replies (scene_of w) → HasNoWant replies
+pub quiet_line : (w : World) (line : List ℕ) (says : LineMeaning) (replies : List (List ℕ)) → says ≡ read_of line → KeptLine (scene_of w) says replies (scene_of w) → HasNoWant replies
     → shelf_errors replies ≡ 0 → shown_by says replies (λ _. []) ≡ [] → Soaks w w (line ∷ [])
 quiet_line w line says replies e kept want errors none = record {
   replies = replies;
   ran = record { kept = one_kept (scene_of w) (scene_of w) line replies says e kept; no_want = want; beside = refl; shelf_later = omega arith; counted = λ _. omega (arith, errors) };
-  written = rw (ap (λ (m : Saying). shown_by m replies (λ _. [])) (sym e) ∙ none) (Appends-nil w.tape.taken);
+  written = rw (ap (λ (m : LineMeaning). shown_by m replies (λ _. [])) (sym e) ∙ none) (Appends-nil w.tape.taken);
   later = omega arith;
 }
 
-pub no_command : (w : World) (text : List ℕ) (says : Saying) → says ≡ read_of text → ((c : Command) → says ≡ Ok (Some c) → ⊥) → Soaks w w (text ∷ [])
+pub no_command : (w : World) (text : List ℕ) (says : LineMeaning) → says ≡ read_of text → ((c : Command) → says ≡ Ok (Some c) → ⊥) → Soaks w w (text ∷ [])
 no_command w text (Ok None) e ne = quiet_line w text (Ok None) [] e (record { turn = (refl, refl, refl); keeps = (refl, refl) }) tt refl refl
 no_command w text (Ok (Some c)) e ne = absurd (ne c refl)
 no_command w text (Err fault) e ne =
@@ -150,7 +150,7 @@ shown_text false text = refl
 
 shown_one : (c : Command) (line text : List ℕ) (b : Bool) → Ok (Some c) ≡ read_of line → b ≡ is_ply (Ok (Some c)) → replies_text (shown (line ∷ []) (text ∷ [])) ≡ (if b then text else [])
 shown_one c line text b e d =
-    ap (λ (says : Saying). replies_text (shown_by says (text ∷ []) (shown []))) (sym e) ∙ ap (λ (p : Bool). replies_text (if p then text ∷ [] else [])) (sym d) ∙ shown_text b text
+    ap (λ (says : LineMeaning). replies_text (shown_by says (text ∷ []) (shown []))) (sym e) ∙ ap (λ (p : Bool). replies_text (if p then text ∷ [] else [])) (sym d) ∙ shown_text b text
 
 ran_one : (w v : World) (c : Command) (line text : List ℕ) → Ok (Some c) ≡ read_of line → TakesTurn w.bench w.steps w.store c text v.bench v.steps v.store → is_want text ≡ false → v.tape.beside ≡ w.tape.beside
     → RanQuietly w v (line ∷ []) (text ∷ [])

@@ -11,7 +11,7 @@ use Rattle.byte_streams.specs.Seen.{Files}
 use Rattle.mesh_cache.specs.Cache.{Cache}
 use Rattle.voxel_list.specs.Areas.{Area}
 use Rattle.bench_core.specs.Keeping.{without_points}
-use Rattle.bench_core.specs.Machine.{Entry, State, checked_level, level_by, pad_fault, redo_by, set_at, undo_by, unless_fault, value_fault}
+use Rattle.bench_core.specs.Machine.{Entry, State, checked_level, level_by, pad_fault, redo_by, set_at, undo_by, level_unless, value_fault}
 use Rattle.bench_core.specs.Texts.{contour_of}
 use Rattle.unpadded_volume.specs.Unpadded.{place_of}
 use Rattle.script.specs.declared.command.Command.{Command}
@@ -82,14 +82,14 @@ clean_set s v None = refl
 clean_set s v (Some p) = clean_if _ _ (value_fault s) refl
 
 clean_checked : (s : State) (v : ℤ) (fault : Option BenchFault) → Type 0
-clean_checked s v fault = is_clean (level_by s (unless_fault fault v)) ≡ true
+clean_checked s v fault = is_clean (level_by s (level_unless fault v)) ≡ true
 
 clean_pad : (s : State) (v : ℤ) (pad : Option ℤ) → clean_checked s v (pad_fault pad v)
 unfolding is_clean is_memory clean_checked
 clean_pad s v None = refl
 clean_pad s v (Some p) = go _
   where
-    go : (b : Bool) → is_clean (level_by s (unless_fault (if b then None else Some (faults.LevelNotAbovePad v p)) v)) ≡ true
+    go : (b : Bool) → is_clean (level_by s (level_unless (if b then None else Some (faults.LevelNotAbovePad v p)) v)) ≡ true
     go true = refl
     go false = refl
 
@@ -97,7 +97,7 @@ clean_level : (s : State) (v : ℤ) → is_clean (level_by s (checked_level s.vo
 unfolding is_clean is_memory clean_checked
 clean_level s v = go _
   where
-    go : (b : Bool) → is_clean (level_by s (if b then unless_fault (pad_fault s.volume.pad v) v else Err faults.LevelOutside)) ≡ true
+    go : (b : Bool) → is_clean (level_by s (if b then level_unless (pad_fault s.volume.pad v) v else Err faults.LevelOutside)) ≡ true
     go true = clean_pad s v s.volume.pad
     go false = refl
 

@@ -18,7 +18,7 @@ use Rattle.script.specs.Commands.{read_of}
 use Rattle.script.specs.Replies.{written_text}
 use Rattle.script.specs.declared.command.Command.{Command}
 use Rattle.script.specs.declared.command.Command.TheVariants.{Fill, Level, Obj, Ply, Redo, Save, SaveHex, SaveText, Set, Undo, Window}
-use Rattle.session.specs.Lines.{Saying, has_no_quit}
+use Rattle.session.specs.Lines.{LineMeaning, has_no_quit}
 use Rattle.session.specs.Worlds.{CountsBy, is_shelf_error, replies_text}
 use Rattle.session.specs.Sessions.{IsBroken, IsCutOff, IsDone, IsTooLong}
 use Rattle.commands.specs.Headline.{text_of_volume}
@@ -39,7 +39,7 @@ unless_refused s (Ok next) = next
 unless_refused s (Err fault) = s
 
 -- the state after a line
-abbrev pub state_after : State → Saying → State
+abbrev pub state_after : State → LineMeaning → State
 state_after s (Ok (Some (Set at value))) = unless_refused s (set_step s (three_from at 0) value)
 state_after s (Ok (Some (Fill corners value))) = unless_refused s
     (fill_step s (three_from corners 0) (three_from corners 3) value)
@@ -49,7 +49,7 @@ state_after s (Ok (Some Redo)) = unless_refused s (redo_step s)
 state_after s says = s
 
 -- whether a line fills a box
-abbrev pub is_fill : Saying → Bool
+abbrev pub is_fill : LineMeaning → Bool
 is_fill (Ok (Some (Fill corners value))) = true
 is_fill says = false
 
@@ -58,7 +58,7 @@ abbrev pub is_want : List ℕ → Bool
 is_want reply = bytes_eq reply (codes "error 1 memory\n")
 
 -- A line has one reply, a blank line and a comment none. A `fill` changes nothing where memory was wanting for it.
-abbrev pub LineLeads : State → Saying → List (List ℕ) → State → Type 0
+abbrev pub LineLeads : State → LineMeaning → List (List ℕ) → State → Type 0
 LineLeads s (Ok None) replies next = (replies ≡ []) × (next ≡ s)
 LineLeads s says replies next = (reply : List ℕ) × (replies ≡ reply ∷ [])
     × ((next ≡ state_after s says) ⊎ ((is_fill says ≡ true) × (is_want reply ≡ true) × (next ≡ s)))
@@ -78,7 +78,7 @@ writes_mesh formats.Ply name = Ply name
 writes_mesh formats.Obj name = Obj name
 
 -- the file that a line writes
-abbrev pub file_of : Saying → Option (List ℕ)
+abbrev pub file_of : LineMeaning → Option (List ℕ)
 file_of (Ok (Some (Ply name))) = Some name
 file_of (Ok (Some (Obj name))) = Some name
 file_of (Ok (Some (Save name))) = Some name

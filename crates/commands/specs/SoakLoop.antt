@@ -6,7 +6,7 @@ use Rattle.byte_streams.specs.Seen.{PutAll, Tape}
 use Rattle.iso_base.specs.declared.fault.BenchFault.TheVariants.{Memory}
 use Rattle.script.specs.Commands.{read_of}
 use Rattle.script.specs.declared.reply.Reply.TheVariants.{Refused}
-use Rattle.session.specs.Lines.{Saying}
+use Rattle.session.specs.Lines.{LineMeaning}
 use Rattle.session.specs.Table.{may_want_memory}
 use Rattle.session.specs.Worlds.{World}
 use Rattle.session.specs.declared.response.Response.{Response}
@@ -21,7 +21,7 @@ is_want_response (Line (Refused Memory)) = true
 is_want_response response = false
 
 -- whether memory may be wanting for a line
-abbrev pub may_want : Saying → Bool
+abbrev pub may_want : LineMeaning → Bool
 may_want (Ok (Some command)) = may_want_memory command
 may_want says = false
 

@@ -13,7 +13,7 @@ use Rattle.volume_gen.specs.Soak.{soak_lines}
 use Rattle.script.specs.Commands.{read_of}
 use Rattle.script.specs.declared.command.Command.TheVariants.{Ply}
 use Rattle.session.specs.Kept.{Kept}
-use Rattle.session.specs.Lines.{Saying}
+use Rattle.session.specs.Lines.{LineMeaning}
 use Rattle.session.specs.Worlds.{CountsBy, World, replies_text, scene_of, world}
 use Rattle.command_terms.specs.Outcome.{NothingWritten}
 use Rattle.commands.specs.Outcome.{Call, LeavesShelf}
@@ -50,12 +50,12 @@ soak_world seed call = world (first_bench (soak_volume seed) soak_level soak_lim
 -- ---- lines and their replies
 
 -- whether a line asks for the mesh as PLY
-abbrev pub is_ply : Saying → Bool
+abbrev pub is_ply : LineMeaning → Bool
 is_ply (Ok (Some (Ply name))) = true
 is_ply says = false
 
 -- the replies that are shown, those to the lines that ask for the mesh as PLY; a blank line and a comment have no reply
-abbrev pub shown_by : Saying → List (List ℕ) → (List (List ℕ) → List (List ℕ)) → List (List ℕ)
+abbrev pub shown_by : LineMeaning → List (List ℕ) → (List (List ℕ) → List (List ℕ)) → List (List ℕ)
 shown_by (Ok None) replies later = later replies
 shown_by says [] later = []
 shown_by says (reply ∷ replies) later = if is_ply says then reply ∷ later replies else later replies

@@ -7,7 +7,7 @@ use Rattle.refusals.specs.declared.mesh.MeshFault.{MeshFault}
 use Rattle.refusals.specs.declared.mesh.MeshFault.TheVariants.{BadNumber, NotTriangle, IndexOutside}
 use Rattle.text_lines.specs.Lines.{texts_of}
 use Rattle.text_lines.specs.Words.{words_of, three_in}
-use Rattle.text_lines.specs.Numbers.{number_of}
+use Rattle.text_lines.specs.Numbers.{integer_of}
 use Rattle.mesh_read.specs.Answers.{◌>>=◌, all_or_first}
 
 -- a line is a vertex, or a face with its references, or is not read
@@ -37,7 +37,7 @@ vertices says = length (filter is_vertex says)
 
 -- the number in front of the first slash
 abbrev pub reference_number : List ℕ → Option ℤ
-reference_number word = number_of (before_first (λ b. b == slash) word)
+reference_number word = integer_of (before_first (λ b. b == slash) word)
 
 -- the vertex that a number names behind n vertices
 abbrev pub vertex_named : ℕ → ℤ → Option ℕ

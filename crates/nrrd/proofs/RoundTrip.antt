@@ -19,7 +19,7 @@ use Rattle.text_lines.specs.Lines.{lines_of}
 use Rattle.text_lines.specs.Words.{skip_blanks, three_in, trim_end, trimmed, words_of, is_word}
 use Rattle.text_lines.specs.Numbers.{is_digit}
 use Rattle.nrrd_read.specs.Fields.{Saying, Gives, meaning_of, field_line, field_named, first_fault, value}
-use Rattle.nrrd_read.specs.Nrrd.{split_of, is_first, nrrd_of, volume_of}
+use Rattle.nrrd_read.specs.Nrrd.{split_of, is_first, nrrd_of, voxels_of}
 use Rattle.nrrd.specs.Writing.{coded_by, coded_head_text, coded_line, coded_save, encoding_text, head_in, head_text, kind_text, order_text, rows_of, sizes_text, samples_text, save_text}
 use Rattle.nrrd_read.proofs.Agreeing.{grid_by, grid_is, read_again}
 use Rattle.nrrd_read.specs.Scanning.{numbers_of}
@@ -278,7 +278,7 @@ save_again v rest h =
     let regrouped = append_assoc (head_text v.grid v.kind) (samples_text v.kind v.samples) rest in
     let split = split_again Raw v.kind v.grid (samples_text v.kind v.samples ++ rest) h.grid in
     let layout = layout_again (has_order Raw v.kind) Raw v.kind v.grid refl h.grid in
-    ap nrrd_of regrouped ∙ read_again _ _ _ _ split layout ∙ ap (volume_of v.grid v.kind) (raw_again v rest h)
+    ap nrrd_of regrouped ∙ read_again _ _ _ _ split layout ∙ ap (voxels_of v.grid v.kind) (raw_again v rest h)
 
 -- samples in print are read by the lines of the rows
 pub coded_again : (hex : Bool) (v : Voxels) (rest : List ℕ) → IsVoxels v → nrrd_of (coded_save hex v ++ rest) ≡ Ok (v, length rest + 1)
@@ -287,4 +287,4 @@ coded_again hex v rest h =
     let regrouped = append_assoc (coded_head_text v.grid v.kind hex) body rest in
     let split = split_again (coded_by hex) v.kind v.grid (body ++ rest) h.grid in
     let layout = layout_again (has_order (coded_by hex) v.kind) (coded_by hex) v.kind v.grid refl h.grid in
-    ap nrrd_of regrouped ∙ read_again _ _ _ _ split layout ∙ ap (volume_of v.grid v.kind) (printed_again hex v rest h)
+    ap nrrd_of regrouped ∙ read_again _ _ _ _ split layout ∙ ap (voxels_of v.grid v.kind) (printed_again hex v rest h)

@@ -16,7 +16,7 @@ use Rattle.nrrd_read.specs.declared.layout.Layout.{Layout}
 use Rattle.refusals.specs.declared.nrrd.NrrdFault.{NrrdFault}
 use Rattle.refusals.specs.declared.nrrd.NrrdFault.TheVariants.{MissingField, BadValue, NotThreeAxes, UnsupportedKind, UnsupportedEncoding, SkipUnsupported, Size, NoEndian}
 use Rattle.text_lines.specs.Words.{is_blank, is_word}
-use Rattle.text_lines.specs.Numbers.{number_of, whole_of}
+use Rattle.text_lines.specs.Numbers.{integer_of, whole_of}
 use Rattle.text_lines.specs.Lines.{◌>>=◌}
 use Rattle.refusals.specs.declared.nrrd.Field.TheVariants as fields
 
@@ -95,8 +95,8 @@ layout_of value = do
   axes ← three_axes (whole_of dimension)
   kind ← kind_named kind
   encoding ← encoding_named encoding
-  lines ← no_skip LineSkip (option_map number_of (value LineSkip))
-  bytes ← no_skip ByteSkip (option_map number_of (value ByteSkip))
+  lines ← no_skip LineSkip (option_map integer_of (value LineSkip))
+  bytes ← no_skip ByteSkip (option_map integer_of (value ByteSkip))
   grid ← grid_of sizes
   big_endian ← big_endian_of (has_order encoding kind) (value Endian)
   Ok (record { sizes = grid; kind = kind; encoding = encoding; big_endian = big_endian })

@@ -59,15 +59,15 @@ samples_by Text kind big_endian count body = text_samples kind count body
 samples_by Hex kind big_endian count body = hex_samples kind big_endian count body
 
 -- the volume of these samples
-abbrev pub volume_of : Grid → SampleKind → Result (List ℤ × ℕ) SampleFault → Result (Voxels × ℕ) NrrdFault
-volume_of e kind read = result_map_both (λ r. (record { grid = e; kind = kind; samples = r.0 }, r.1)) fault_of read
+abbrev pub voxels_of : Grid → SampleKind → Result (List ℤ × ℕ) SampleFault → Result (Voxels × ℕ) NrrdFault
+voxels_of e kind read = result_map_both (λ r. (record { grid = e; kind = kind; samples = r.0 }, r.1)) fault_of read
 
 -- the volume in a file, and how many bytes stand after it, or the first refusal
 unfoldable pub nrrd_of : List ℕ → Result (Voxels × ℕ) NrrdFault
 nrrd_of bytes = do
   parts ← split_of bytes
   layout ← layout_of (λ f. value f parts.0)
-  volume_of layout.sizes layout.kind
+  voxels_of layout.sizes layout.kind
       (samples_by layout.encoding layout.kind layout.big_endian (point_count layout.sizes) parts.1)
 
 -- whether memory was wanting

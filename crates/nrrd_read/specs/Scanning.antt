@@ -11,7 +11,7 @@ use Rattle.nrrd_read.specs.declared.meaning.Meaning.{Meaning}
 use Rattle.nrrd_read.specs.declared.meaning.Meaning.TheVariants as seen
 use Rattle.nrrd_read.specs.declared.layout.Layout.{Layout}
 use Rattle.nrrd_read.specs.Fields.{Saying, IsBad, IsUnread, NamesFile, Gives, value}
-use Rattle.nrrd_read.specs.Nrrd.{samples_by, volume_of}
+use Rattle.nrrd_read.specs.Nrrd.{samples_by, voxels_of}
 use Rattle.text_lines.specs.Lines.{◌>>=◌}
 use Rattle.text_lines.specs.Numbers.{whole_of}
 
@@ -118,4 +118,4 @@ numbers_of (Some words) =
 
 -- the volume of a layout in these bytes, and how many bytes stand after it
 abbrev pub measured : Layout → List ℕ → Result (Voxels × ℕ) NrrdFault
-measured l body = volume_of l.sizes l.kind (samples_by l.encoding l.kind l.big_endian (point_count l.sizes) body)
+measured l body = voxels_of l.sizes l.kind (samples_by l.encoding l.kind l.big_endian (point_count l.sizes) body)

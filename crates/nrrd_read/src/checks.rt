@@ -1,7 +1,7 @@
 //! What the values of the fields must be.
 ghost use Rattle.std.specs.Prelude.{◌≡◌, Option, Some, None, Err, map, ok_or, option_map};
 ghost use Rattle.text_lines.specs.Words.{words_of, three_in};
-ghost use Rattle.text_lines.specs.Numbers.{whole_of, number_of};
+ghost use Rattle.text_lines.specs.Numbers.{whole_of, integer_of};
 ghost use Rattle.refusals.specs.declared.nrrd.NrrdFault.TheVariants.{MissingField, UnsupportedEncoding};
 ghost use Rattle.nrrd_read.specs.Checks as checks;
 ghost use Rattle.nrrd_read.specs.Scanning.{map_ok, numbers_of};
@@ -130,7 +130,7 @@ pub fn encoding_of(word: &[u8]) -> Result<Encoding, NrrdFault>
 
 /// A skip that is there must be 0.
 pub fn ask_skip(value: Option<&[u8]>, field: Field) -> Result<(), NrrdFault>
-    ensures { result ≡ checks.no_skip field (option_map number_of (option_map (λ x. x.now) value.entry)) }
+    ensures { result ≡ checks.no_skip field (option_map integer_of (option_map (λ x. x.now) value.entry)) }
 {
     match value {
         None => Ok(()),

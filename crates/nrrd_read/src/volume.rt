@@ -5,7 +5,7 @@ ghost use Rattle.text_samples.specs.Text.{text_samples};
 ghost use Rattle.text_samples.specs.Hex.{hex_samples};
 ghost use Rattle.refusals.specs.declared.nrrd.NrrdFault.TheVariants.{ShortSamples};
 ghost use Rattle.nrrd_read.specs.Scanning.{map_ok, fields_and_bytes, measured, seen_fields};
-ghost use Rattle.nrrd_read.specs.Nrrd.{fault_of, is_first, split_of, nrrd_of, raw_samples, volume_of, Answers};
+ghost use Rattle.nrrd_read.specs.Nrrd.{fault_of, is_first, split_of, nrrd_of, raw_samples, voxels_of, Answers};
 ghost use Rattle.nrrd_read.specs.Files.{file_voxels, seen_volume};
 
 use crate::encoding::Encoding;
@@ -68,7 +68,7 @@ fn short_samples(needed: usize, body: &[u8]) -> NrrdFault
 
 /// The volume whose raw samples these bytes begin with, and the number of bytes after them.
 fn raw_volume(layout: Layout, body: &[u8]) -> Result<(RawVolume<'_>, u64), NrrdFault>
-    ensures { result ≡ volume_of layout.sizes layout.kind
+    ensures { result ≡ voxels_of layout.sizes layout.kind
         (raw_samples layout.kind layout.big_endian (point_count layout.sizes) body.now) }
 {
     let needed = layout.kind.width() as usize * layout.sizes.count() as usize;
@@ -93,7 +93,7 @@ fn fault_of(fault: SampleFault) -> NrrdFault
 
 /// The volume whose samples these bytes say as numbers, and the number of bytes after them.
 fn text_volume(alloc: Global, layout: Layout, body: &[u8]) -> Result<(ReadVolume, u64), NrrdFault>
-    ensures { Answers result (volume_of layout.sizes layout.kind
+    ensures { Answers result (voxels_of layout.sizes layout.kind
         (text_samples layout.kind (point_count layout.sizes) body.now)) }
 {
     let count = u64::from(layout.sizes.count());
@@ -108,7 +108,7 @@ fn text_volume(alloc: Global, layout: Layout, body: &[u8]) -> Result<(ReadVolume
 
 /// The volume whose samples stand in these bytes as hex digits, and the number of bytes after them.
 fn hex_volume(alloc: Global, layout: Layout, body: &[u8]) -> Result<(ReadVolume, u64), NrrdFault>
-    ensures { Answers result (volume_of layout.sizes layout.kind
+    ensures { Answers result (voxels_of layout.sizes layout.kind
         (hex_samples layout.kind layout.big_endian (point_count layout.sizes) body.now)) }
 {
     let count = u64::from(layout.sizes.count());

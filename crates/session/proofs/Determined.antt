@@ -11,7 +11,7 @@ use Rattle.script.specs.declared.command.Command.TheVariants.{Contour}
 use Rattle.script.specs.Commands.{read_of}
 use Rattle.iso_defs.specs.Texts.{line}
 use Rattle.script.specs.Replies.{fault_text, written_text, saved_text}
-use Rattle.session.specs.Lines.{Saying}
+use Rattle.session.specs.Lines.{LineMeaning}
 use Rattle.session.specs.Table.{step_of, writes_of, says_of, Turn, after_writing}
 use Rattle.session.specs.Following.{LineTurn, Followed}
 use Rattle.session.proofs.Running.{contours_apart}
@@ -54,7 +54,7 @@ first_of : (a b : List ℕ) (x y : List (List ℕ)) → a ∷ x ≡ b ∷ y → 
 first_of a b x y e = (cc, cc)
 
 -- what one line leaves
-line_same : (s : State) (f g : Option Files) (says : Saying) (r1 r2 m1 m2 : List (List ℕ)) (s1 s2 : State) (f1 g2 : Option Files) → r1 ++ m1 ≡ r2 ++ m2 → LineTurn s f says r1 s1 f1 → LineTurn s g says r2 s2 g2 → (s1 ≡ s2) × (m1 ≡ m2)
+line_same : (s : State) (f g : Option Files) (says : LineMeaning) (r1 r2 m1 m2 : List (List ℕ)) (s1 s2 : State) (f1 g2 : Option Files) → r1 ++ m1 ≡ r2 ++ m2 → LineTurn s f says r1 s1 f1 → LineTurn s g says r2 s2 g2 → (s1 ≡ s2) × (m1 ≡ m2)
 line_same s f g (Ok None) r1 r2 m1 m2 s1 s2 f1 g2 e a b = (a.1 ∙ sym b.1, sym (ap (λ (r : List (List ℕ)). r ++ m1) a.0) ∙ e ∙ ap (λ (r : List (List ℕ)). r ++ m2) b.0)
 line_same s f g (Err fault) r1 r2 m1 m2 s1 s2 f1 g2 e a b =
     let d = first_of _ _ _ _ (sym (ap (λ (r : List (List ℕ)). r ++ m1) a.0) ∙ e ∙ ap (λ (r : List (List ℕ)). r ++ m2) b.0) in (a.1 ∙ sym b.1, d.1)

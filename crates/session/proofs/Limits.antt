@@ -15,7 +15,7 @@ use Rattle.script.specs.declared.command.Command.{Command}
 use Rattle.script.specs.declared.command.Command.TheVariants as commands
 use Rattle.session.specs.Kept as kept
 use Rattle.session.specs.Kept.{CommandKeeps, LineKeeps, Scene, area_of, cache_after, is_done}
-use Rattle.session.specs.Lines.{Saying}
+use Rattle.session.specs.Lines.{LineMeaning}
 
 put_limits : (cache : Cache) (item : Item) (answer : Offer) (after : Cache) → Puts cache item answer after → after.limits ≡ cache.limits
 put_limits cache item Kept after p = ap (λ (c : Cache). c.limits) p.1
@@ -59,7 +59,7 @@ command_steady w v (commands.Ply name) reply h = refreshed w v _ _ h
 command_steady w v (commands.Obj name) reply h = refreshed w v _ _ h
 command_steady w v command reply h = changed w v command reply h.0 h.1
 
-line_steady : (w v : Scene) (says : Saying) (replies : List (List ℕ)) → LineKeeps w says replies v → IsSteady w v
+line_steady : (w v : Scene) (says : LineMeaning) (replies : List (List ℕ)) → LineKeeps w says replies v → IsSteady w v
 line_steady w v (Ok None) replies h = still w v h.0 h.1
 line_steady w v (Ok (Some c)) replies h = command_steady w v c h.0 h.2
 line_steady w v (Err fault) replies h = still w v h.0 h.1

@@ -16,7 +16,7 @@ use Rattle.mesh_report.specs.Report.{Summary}
 use Rattle.session.specs.Table.{contour_reply, measures_reply, report_reply}
 use Rattle.script.specs.Replies.{fault_text, line_fault_text, written_text, saved_text}
 use Rattle.script.specs.Commands.{read_of}
-use Rattle.session.specs.Lines.{Saying, is_quit, has_no_quit}
+use Rattle.session.specs.Lines.{LineMeaning, is_quit, has_no_quit}
 use Rattle.session.specs.Following.{Followed}
 use Rattle.session.specs.Kept.{Kept, KeptLine, Scene}
 use Rattle.session.specs.Worlds.{Breaks, CountsBy, QuitsLast, Runs, World, is_shelf_error, replies_text, scene_of, shelf_errors}
@@ -117,16 +117,16 @@ ran_stop w v ls ls' Fault s p = (p.0, p.1 ++ ls', ap (λ (m : List (List ℕ)). 
 
 -- ---- one line
 
-of_line : (w v : Scene) (line : List ℕ) (replies : List (List ℕ)) (says : Saying) → says ≡ read_of line → KeptLine w says replies v → KeptLine w (read_of line) replies v
-of_line w v line replies says e t = subst (λ (m : Saying). KeptLine w m replies v) e t
+of_line : (w v : Scene) (line : List ℕ) (replies : List (List ℕ)) (says : LineMeaning) → says ≡ read_of line → KeptLine w says replies v → KeptLine w (read_of line) replies v
+of_line w v line replies says e t = subst (λ (m : LineMeaning). KeptLine w m replies v) e t
 
-one_kept : (w v : Scene) (line : List ℕ) (replies : List (List ℕ)) (says : Saying) → says ≡ read_of line → KeptLine w says replies v → Kept w (line ∷ []) replies v
+one_kept : (w v : Scene) (line : List ℕ) (replies : List (List ℕ)) (says : LineMeaning) → says ≡ read_of line → KeptLine w says replies v → Kept w (line ∷ []) replies v
 one_kept w v line replies says e t = (replies, [], v, sym (append-nil replies), of_line w v line replies says e t, (refl, refl))
 
-no_quit_one : (line : List ℕ) (says : Saying) → says ≡ read_of line → is_quit says ≡ false → has_no_quit (line ∷ []) ≡ true
+no_quit_one : (line : List ℕ) (says : LineMeaning) → says ≡ read_of line → is_quit says ≡ false → has_no_quit (line ∷ []) ≡ true
 no_quit_one line says e q = let t : is_quit (read_of line) ≡ false = ap is_quit (sym e) ∙ q in rw t refl
 
-pub ran_told : (w v : World) (line : List ℕ) (says : Saying) (text : List ℕ) (quits : Bool) (a : After) → says ≡ read_of line → is_quit says ≡ quits
+pub ran_told : (w v : World) (line : List ℕ) (says : LineMeaning) (text : List ℕ) (quits : Bool) (a : After) → says ≡ read_of line → is_quit says ≡ quits
     → KeptLine (scene_of w) says (text ∷ []) (scene_of v) → w.store.faults ≤ v.store.faults → CountsBy w.store.faults v.store.faults (text ∷ []) → Told w.tape v.tape text quits a → Ran w v (line ∷ []) a
 ran_told w v line says text quits On e q t l n d = (
   record {

@@ -17,7 +17,7 @@ use Rattle.edit_log.specs.Log.{filled}
 use Rattle.brick_store.proofs.Replacing.{length-replaced, sample-replaced}
 use Rattle.unpadded_volume.specs.Unpadded.{IsInside, place_of, plane_of, point_by, stored_coordinate}
 use Rattle.unpadded_volume.proofs.Insides.{free, inside_area, inside_is_inner}
-use Rattle.bench_core.specs.Machine.{Entry, IsAbovePad, IsState, State, area_by, changed, checked_level, contour_by, contour_step, fill_at, fill_step, is_of_kind, level_by, level_step, pad_fault, redo_by, redo_step, set_at, set_step, undo_by, undo_step, unless_fault, value_fault, with_sample}
+use Rattle.bench_core.specs.Machine.{Entry, IsAbovePad, IsState, State, area_by, changed, checked_level, contour_by, contour_step, fill_at, fill_step, is_of_kind, level_by, level_step, pad_fault, redo_by, redo_step, set_at, set_step, undo_by, undo_step, level_unless, value_fault, with_sample}
 use Rattle.bench_core.specs.Windows.{stays_unless, window_area, window_fault, window_step}
 use Rattle.bench_core.proofs.States.{changed_state, redone_state, undone_state}
 
@@ -203,18 +203,18 @@ module _ (s s' : State) (is : IsState s) where
   level_to (Ok v) above e = to_changed s.volume.samples v None is.volume (above v refl) (same_ok e)
 
 -- a level that was checked is above the pad
-above_pad : (pad : Option ℤ) (v l : ℤ) → unless_fault (pad_fault pad v) v ≡ Ok l → IsAbovePad pad l
+above_pad : (pad : Option ℤ) (v l : ℤ) → level_unless (pad_fault pad v) v ≡ Ok l → IsAbovePad pad l
 above_pad None v l e = tt
 above_pad (Some pad) v l e = by_test (is_above_pad v pad) refl e
   where
-    by_test : (t : Bool) → is_above_pad v pad ≡ t → unless_fault (cond t None (Some (LevelNotAbovePad v pad))) v ≡ Ok l → is_above_pad l pad ≡ true
+    by_test : (t : Bool) → is_above_pad v pad ≡ t → level_unless (cond t None (Some (LevelNotAbovePad v pad))) v ≡ Ok l → is_above_pad l pad ≡ true
     by_test false t e = absurd (no_fault e)
     by_test true t e = ap (λ (x : ℤ). is_above_pad x pad) (sym (same_level e)) ∙ t
 
 level_above : (pad : Option ℤ) (v l : ℤ) → checked_level pad v ≡ Ok l → IsAbovePad pad l
 level_above pad v l e = by_test (nat_lt (unsigned_abs v) level_limit) e
   where
-    by_test : (t : Bool) → cond t (unless_fault (pad_fault pad v) v) (Err LevelOutside) ≡ Ok l → IsAbovePad pad l
+    by_test : (t : Bool) → cond t (level_unless (pad_fault pad v) v) (Err LevelOutside) ≡ Ok l → IsAbovePad pad l
     by_test false e = absurd (no_fault e)
     by_test true e = above_pad pad v l e
 

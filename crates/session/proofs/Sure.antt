@@ -9,7 +9,7 @@ use Rattle.bench_core.specs.Machine.{State}
 use Rattle.script.specs.Commands.{read_of}
 use Rattle.script.specs.Replies.{fault_text}
 use Rattle.script.specs.declared.command.Command.{Command}
-use Rattle.session.specs.Lines.{Saying}
+use Rattle.session.specs.Lines.{LineMeaning}
 use Rattle.session.specs.Table.{Turn}
 use Rattle.session.specs.Following.{Followed, LineTurn, SureLine, SureTurn, SurelyFollowed}
 use Rattle.session.specs.Worlds.{CountsBy, shelf_errors}
@@ -28,7 +28,7 @@ sure_turn s s' f f' c reply none (inr (inl h)) = inr h
 sure_turn s s' f f' c reply none (inr (inr h)) =
     let one : shelf_errors (reply ∷ []) ≡ 1 = ap (λ (r : List ℕ). shelf_errors (r ∷ [])) h.reply_is ∙ one_error in absurd (omega (arith, one, none))
 
-sure_line : (s s' : State) (f f' : Option Files) (says : Saying) (replies : List (List ℕ)) → shelf_errors replies ≡ 0 → LineTurn s f says replies s' f' → SureLine s f says replies s' f'
+sure_line : (s s' : State) (f f' : Option Files) (says : LineMeaning) (replies : List (List ℕ)) → shelf_errors replies ≡ 0 → LineTurn s f says replies s' f' → SureLine s f says replies s' f'
 sure_line s s' f f' (Ok None) replies none h = h
 sure_line s s' f f' (Ok (Some c)) replies none h = (h.0, h.1, sure_turn s s' f f' c h.0 (sym (ap shelf_errors h.1) ∙ none) h.2)
 sure_line s s' f f' (Err fault) replies none h = h

@@ -13,7 +13,7 @@ use Rattle.script.specs.Replies.{fault_text}
 use Rattle.script.specs.declared.command.Command.{Command}
 use Rattle.script.specs.declared.command.Command.TheVariants.{Set, Fill, Level, Undo, Redo, Contour, Window}
 use Rattle.session.specs.Following.{Followed, LineTurn}
-use Rattle.session.specs.Lines.{Saying}
+use Rattle.session.specs.Lines.{LineMeaning}
 use Rattle.session.specs.Table.{Turn, after_writing, says_of, step_of, writes_of}
 
 step_state : (s s' : State) (c : Command) → IsState s → step_of s c ≡ Ok s' → IsState s'
@@ -36,7 +36,7 @@ turn_state s s' f f' c reply is (inl h) = taken_state s s' f f' c reply (step_of
 turn_state s s' f f' c reply is (inr (inl h)) = subst IsState (sym h.same_state) is
 turn_state s s' f f' c reply is (inr (inr h)) = subst IsState (sym h.same_state) is
 
-line_state : (s s' : State) (f f' : Option Files) (says : Saying) (replies : List (List ℕ)) → IsState s → LineTurn s f says replies s' f' → IsState s'
+line_state : (s s' : State) (f f' : Option Files) (says : LineMeaning) (replies : List (List ℕ)) → IsState s → LineTurn s f says replies s' f' → IsState s'
 line_state s s' f f' (Ok None) replies is h = subst IsState (sym h.1) is
 line_state s s' f f' (Ok (Some c)) replies is h = turn_state s s' f f' c h.0 is h.2
 line_state s s' f f' (Err fault) replies is h = subst IsState (sym h.1) is

@@ -10,7 +10,7 @@ use Rattle.script.specs.Commands.{read_of}
 use Rattle.script.specs.declared.command.Command.{Command}
 use Rattle.script.specs.declared.command.Command.TheVariants.{Set, Fill, Level, Undo, Redo, Work, Ply, Obj, Save, SaveText, SaveHex, Window, Contour, Report, Measure, Quit}
 use Rattle.session.specs.Following.{LineTurn}
-use Rattle.session.specs.Lines.{Saying}
+use Rattle.session.specs.Lines.{LineMeaning}
 
 -- what lines act on: a bench, the files of a shelf, and the counter of classified cells
 pub record Scene : Type 0 where
@@ -71,13 +71,13 @@ CommandKeeps w Measure reply v = CacheFollows w Measure reply v
 CommandKeeps w Quit reply v = CacheFollows w Quit reply v
 
 -- What a line says and its replies. Cache and counter stay where it is no command.
-abbrev pub LineKeeps : Scene → Saying → List (List ℕ) → Scene → Type 0
+abbrev pub LineKeeps : Scene → LineMeaning → List (List ℕ) → Scene → Type 0
 LineKeeps w (Ok None) replies v = (v.bench.cache ≡ w.bench.cache) × (v.steps ≡ w.steps)
 LineKeeps w (Ok (Some command)) replies v = (reply : List ℕ) × (replies ≡ reply ∷ []) × CommandKeeps w command reply v
 LineKeeps w (Err fault) replies v = (v.bench.cache ≡ w.bench.cache) × (v.steps ≡ w.steps)
 
 -- one line: the machine's turn, and what it does to the cache and the counter
-pub record KeptLine (w : Scene) (says : Saying) (replies : List (List ℕ)) (v : Scene) : Type 0 where
+pub record KeptLine (w : Scene) (says : LineMeaning) (replies : List (List ℕ)) (v : Scene) : Type 0 where
   pub turn : LineTurn w.bench.state w.files says replies v.bench.state v.files
   pub keeps : LineKeeps w says replies v
 

@@ -18,9 +18,9 @@ digits_value word =
     then Some (fold with_digit 0 word) else None
 
 -- the number that a word says
-abbrev pub number_of : List ℕ → Option ℤ
-number_of [] = None
-number_of (b ∷ bs) = if b == minus then option_map (λ n. neg_ℤ (pos n)) (digits_value bs)
+abbrev pub integer_of : List ℕ → Option ℤ
+integer_of [] = None
+integer_of (b ∷ bs) = if b == minus then option_map (λ n. neg_ℤ (pos n)) (digits_value bs)
     else option_map pos (digits_value (b ∷ bs))
 
 -- the same without its sign, where it has none
@@ -30,7 +30,7 @@ not_negative (negsuc n) = None
 
 -- a number that is not negative
 abbrev pub whole_of : List ℕ → Option ℕ
-whole_of word = option_and_then not_negative (number_of word)
+whole_of word = option_and_then not_negative (integer_of word)
 
 -- the thousandths that one to three digits behind a point are
 abbrev pub decimals_value : List ℕ → Option ℕ

@@ -1,7 +1,7 @@
 //! Whole numbers of a text.
 
 ghost use Rattle.std.specs.Prelude.{◌≡◌, ◌<◌, ◌^◌, IfSome, pos, neg_ℤ};
-ghost use Rattle.text_lines.specs.Numbers.{digits_value, number_of, whole_of};
+ghost use Rattle.text_lines.specs.Numbers.{digits_value, integer_of, whole_of};
 
 /// The value of one to eighteen digits; none where the word is anything else. Leading zeros are allowed.
 pub fn digits(word: &[u8]) -> Option<u64>
@@ -38,7 +38,7 @@ fn negation_of(n: u64) -> i64
 /// The number of an optional minus sign and one to eighteen digits; none where the word is anything else.
 /// Minus zero is zero.
 pub fn number(word: &[u8]) -> Option<i64>
-    ensures { result ≡ number_of word.now }
+    ensures { result ≡ integer_of word.now }
 {
     if let [b'-', rest @ ..] = word {
         return Some(negation_of(digits(rest)?));

@@ -3,7 +3,7 @@ use Rattle.std.proofs.Common.{◌≡◌, ℕ, zero, suc, true, false, eqb, List,
 use Rattle.std.specs.Prelude.{position}
 use Rattle.std.proofs.lemmas.Bool.{false≢true, eqb-true}
 use Rattle.text_lines.proofs.Places.{decide, FirstAt, NonePass, first_at, none_pass}
-use Rattle.text_samples.specs.Text.{is_separator, longer, words_in, skip_separators}
+use Rattle.text_samples.specs.Text.{is_separator, longer_word, words_in, skip_separators}
 
 words_skip : (bs : List ℕ) → words_in (skip_separators bs) ≡ words_in bs
 words_skip [] = refl
@@ -15,7 +15,7 @@ words_skip (b ∷ bs) =
     (λ f. let s : skip_separators (b ∷ bs) ≡ b ∷ bs = rw f refl in ap words_in s)
 
 -- a byte before another of its word
-pub words_longer : (b c : ℕ) (bs : List ℕ) → is_separator b ≡ false → is_separator c ≡ false → words_in (b ∷ c ∷ bs) ≡ longer b (words_in (c ∷ bs))
+pub words_longer : (b c : ℕ) (bs : List ℕ) → is_separator b ≡ false → is_separator c ≡ false → words_in (b ∷ c ∷ bs) ≡ longer_word b (words_in (c ∷ bs))
 words_longer b c bs f g = rw (f, g) refl
 
 word_at : (bs : List ℕ) (i : ℕ) → FirstAt is_separator bs (suc i)
@@ -25,11 +25,11 @@ word_at (b ∷ []) i h = absurd h.1
 word_at (b ∷ c ∷ bs) zero h =
     let after : words_in (c ∷ bs) ≡ words_in bs = rw h.1 refl in
     rw (h.0, h.1) refl
-word_at (b ∷ c ∷ bs) (suc i) h = words_longer b c bs h.0 h.1.0 ∙ ap (longer b) (word_at (c ∷ bs) i h.1)
+word_at (b ∷ c ∷ bs) (suc i) h = words_longer b c bs h.0 h.1.0 ∙ ap (longer_word b) (word_at (c ∷ bs) i h.1)
 
 word_alone : (b : ℕ) (bs : List ℕ) → NonePass is_separator (b ∷ bs) → words_in (b ∷ bs) ≡ record { text = b ∷ bs; after = [] } ∷ []
 word_alone b [] h = rw h.0 refl
-word_alone b (c ∷ bs) h = words_longer b c bs h.0 h.1.0 ∙ ap (longer b) (word_alone c bs h.1)
+word_alone b (c ∷ bs) h = words_longer b c bs h.0 h.1.0 ∙ ap (longer_word b) (word_alone c bs h.1)
 
 -- behind the separators at the front none comes first
 skipped_first : (text : List ℕ) (b : ℕ) (bs : List ℕ) → skip_separators text ≡ b ∷ bs → is_separator b ≡ false

@@ -4,7 +4,7 @@ use Rattle.iso_defs.specs.Bytes.{tab, carriage_return, space, comma}
 use Rattle.std.specs.List.{enumerate_from}
 use Rattle.iso_base.specs.Volume.{least_of, greatest_of}
 use Rattle.iso_base.specs.declared.kind.SampleKind.{SampleKind}
-use Rattle.text_lines.specs.Numbers.{number_of}
+use Rattle.text_lines.specs.Numbers.{integer_of}
 use Rattle.text_samples.specs.declared.fault.SampleFault.{SampleFault}
 use Rattle.text_samples.specs.declared.fault.SampleFault.TheVariants.{Bad, Short}
 use Rattle.text_lines.specs.Lines.{◌>>=◌, all_or_first}
@@ -19,22 +19,22 @@ pub record Word : Type 0 where
   pub after : List ℕ
 
 -- whether a word ends here
-abbrev pub is_end : List ℕ → Bool
-is_end [] = true
-is_end (b ∷ bs) = is_separator b
+abbrev pub is_word_end : List ℕ → Bool
+is_word_end [] = true
+is_word_end (b ∷ bs) = is_separator b
 
 -- a byte stands before the first word
-abbrev pub longer : ℕ → List Word → List Word
-longer b [] = []
-longer b (w ∷ ws) = record { text = b ∷ w.text; after = w.after } ∷ ws
+abbrev pub longer_word : ℕ → List Word → List Word
+longer_word b [] = []
+longer_word b (w ∷ ws) = record { text = b ∷ w.text; after = w.after } ∷ ws
 
 -- the runs of bytes that are no separators
 abbrev pub words_in : List ℕ → List Word
 words_in [] = []
 words_in (b ∷ bs) =
     if is_separator b then words_in bs else
-    if is_end bs then record { text = b ∷ []; after = bs } ∷ words_in bs else
-    longer b (words_in bs)
+    if is_word_end bs then record { text = b ∷ []; after = bs } ∷ words_in bs else
+    longer_word b (words_in bs)
 
 -- without the separators at the front
 abbrev pub skip_separators : List ℕ → List ℕ
@@ -45,7 +45,7 @@ skip_separators (b ∷ bs) = if is_separator b then skip_separators bs else b �
 unfoldable pub sample_said : SampleKind → List ℕ → Option ℤ
 sample_said kind word =
     option_and_then (λ v. if int_le (least_of kind) v && int_le v (greatest_of kind) then Some v else None)
-    (number_of word)
+    (integer_of word)
 
 -- the sample of the word at a place, or that it says none
 abbrev pub said_at : SampleKind → ℕ × Word → Result ℤ SampleFault
