@@ -1,6 +1,6 @@
 //! The labels of the lattice edges around the row of cells at hand.
 
-ghost use Rattle.std.specs.Prelude.{◌≡◌, ◌≢◌, ◌⊎◌, ℕ, ◌+◌, ◌*◌, ◌%◌, ◌<◌, ◌≤◌, All, IfOk, length, slice_index, slice_set};
+ghost use Rattle.std.specs.Prelude.{◌≡◌, ◌≢◌, ◌⊎◌, IsTrue, ℕ, ◌+◌, ◌*◌, ◌%◌, ◌<◌, ◌≤◌, All, IfOk, length, slice_index, slice_set};
 ghost use Rattle.std.specs.Int.{bit_at};
 ghost use Rattle.iso_defs.specs.Cell.{cell_edge};
 ghost use Rattle.component_labels.specs.Fronts.{none, room, row_name, slot_of};
@@ -44,7 +44,31 @@ fn some_of(labels: &[u32], from: usize) -> u64
     eight.simd_ne(u32x8::splat(NO_LABEL)).to_bitmask()
 }
 
+/// Whether none of the eight labels from a place on stands for one. This saves work and no result rests on it: the contract leaves `false`
+/// free.
+#[inline(always)]
+fn are_none(labels: &[u32], from: usize) -> bool
+    requires { from + 8 ≤ length labels.now }
+    ensures { IsTrue result → (k : ℕ) → k < 8 → slice_index labels.now (from + k) ≡ none }
+{
+    u32x8::from_slice(&labels[from..])
+        .simd_eq(u32x8::splat(NO_LABEL))
+        .all()
+}
+
 impl Front {
+    /// Whether none of the 24 edges from a place on has a label. The contract leaves `false` free.
+    #[inline(always)]
+    pub fn are_unlabelled(&self, place: u32) -> bool
+        requires { place + 24 ≤ room self.now.grid }
+        ensures { IsTrue result → (k : ℕ) → k < 24 → slice_index self.now.labels (place + k) ≡ none }
+    {
+        let from = place as usize;
+        are_none(&self.labels, from)
+            & are_none(&self.labels, from + 8)
+            & are_none(&self.labels, from + 16)
+    }
+
     /// No edge has a label.
     pub fn new(alloc: Global, sizes: Sizes) -> Result<Front, Memory>
         ensures grid { IfOk result (λ f. f.grid ≡ sizes) }
@@ -171,6 +195,7 @@ fn set_each(labels: &mut [u32], places: &[u32; 12], edges: &[u8], label: u32)
 }
 
 /// Gives the edges of a loop a label, which have their labels at some places.
+#[inline(always)]
 pub(crate) fn set_all(front: &mut Front, places: &[u32; 12], shift: u32, edges: &[u8], label: u32)
     requires edges { All (λ e. e < 12) edges.now }
     requires inside { (e : ℕ) → e < 12 → slice_index places.now e + shift < room front.old.grid }

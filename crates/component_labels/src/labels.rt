@@ -1,6 +1,6 @@
 //! Labels of loops, and which of them meet.
 
-ghost use Rattle.std.specs.Prelude.{◌≡◌, ◌≢◌, ℕ, ◌+◌, ◌*◌, ◌%◌, ◌<◌, ◌≤◌, All, IfOk, OnOk, [], length, slice_index, slice_set};
+ghost use Rattle.std.specs.Prelude.{◌≡◌, ◌≢◌, IsTrue, ℕ, ◌+◌, ◌*◌, ◌%◌, ◌<◌, ◌≤◌, All, IfOk, OnOk, [], length, slice_index, slice_set};
 ghost use Rattle.std.specs.Int.{bit_at};
 ghost use Rattle.iso_defs.specs.Cell.{cell_edge};
 ghost use Rattle.part_laws.specs.Meets.{least_joined};
@@ -111,6 +111,8 @@ impl Labels {
     }
 
     /// A new label.
+    // Apart, as few loops have no label.
+    #[inline(never)]
     fn start(&mut self) -> Result<u32, Memory>
         ensures marks { OnOk result (self.new.marks ≡ self.old.marks) }
         ensures count { OnOk result (self.new.count ≡ self.old.count + 1) }
@@ -150,6 +152,8 @@ impl Labels {
 
     /// Notes that the labels of the edges of a loop meet the smallest of them. One more than `NO_LABEL` wraps to zero, so that one comparison tells an
     /// edge that has another label from those that have this one or none.
+    // Apart, as few loops have several labels.
+    #[inline(never)]
     fn join(&mut self, places: &[u32; 12], shift: u32, edges: &[u8], low: u32) -> Result<(), Memory>
         requires edges { All (λ e. e < 12) edges.now }
         requires inside { (e : ℕ) → e < 12 → slice_index places.now e + shift < room self.old.marks.grid }
@@ -173,6 +177,7 @@ impl Labels {
     }
 
     /// The label that a loop gets whose edges have their labels at some places: one that they have, else a new one.
+    #[inline(always)]
     fn label_of(&mut self, places: &[u32; 12], shift: u32, edges: &[u8]) -> Result<u32, Memory>
         requires edges { All (λ e. e < 12) edges.now }
         requires inside { (e : ℕ) → e < 12 → slice_index places.now e + shift < room self.old.marks.grid }
@@ -192,6 +197,7 @@ impl Labels {
     }
 
     /// Gives a loop a label whose edges have their labels at some places: the loop's edges have it from then on.
+    #[inline(always)]
     pub fn add_loop(&mut self, places: &[u32; 12], shift: u32, edges: &[u8]) -> Result<u32, Memory>
         requires edges { All (λ e. e < 12) edges.now }
         requires inside { (e : ℕ) → e < 12 → slice_index places.now e + shift < room self.old.marks.grid }
@@ -220,6 +226,15 @@ impl Labels {
         ensures bound { result + 3 * self.now.marks.grid.nx ≤ room self.now.marks.grid }
     {
         self.front.row_place(row)
+    }
+
+    /// Whether none of the 24 edges from a place on has a label. The contract leaves `false` free.
+    #[inline(always)]
+    pub fn are_unlabelled(&self, place: u32) -> bool
+        requires { place + 24 ≤ room self.now.marks.grid }
+        ensures { IsTrue result → (k : ℕ) → k < 24 → slice_index self.now.marks.labels (place + k) ≡ none }
+    {
+        self.front.are_unlabelled(place)
     }
 
     /// Which of the eight edges from a place on have labels: each has a bit, the first the lowest.

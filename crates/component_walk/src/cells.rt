@@ -107,6 +107,8 @@ fn cell_at(sizes: &Sizes, x: u32, y: u32, z: u32) -> Cell
 
 /// Labels the loops of the cells of a row from a place to before an end, eight at most: of those that have loops, one by one. So there is one branch
 /// whose way a processor would have to guess for all of them.
+// Apart, so that what goes over the rows does not take its registers.
+#[inline(never)]
 pub fn add_cells<T: Tally, H: Heights>(
     field: &H,
     walked: &mut Walked<T>,

@@ -54,8 +54,14 @@ fn labelled_among(labels: &Labels, place: u32, count: u32) -> u64
 
 /// Leaves up to 24 edges behind from a place on, those that may have labels one by one. So there is one branch whose way a processor would have to
 /// guess for all of them.
-#[inline(always)]
-fn leave_some(labels: &mut Labels, edges: &mut Passed, place: u32, count: u32) -> Result<(), Memory>
+// Apart, since many rows of bricks have no labels.
+#[inline(never)]
+fn leave_labelled(
+    labels: &mut Labels,
+    edges: &mut Passed,
+    place: u32,
+    count: u32,
+) -> Result<(), Memory>
     requires place { place + count ≤ room labels.old.marks.grid }
     requires some { 0 < count }
     requires few { count ≤ 24 }
@@ -73,7 +79,23 @@ fn leave_some(labels: &mut Labels, edges: &mut Passed, place: u32, count: u32) -
     Ok(())
 }
 
+/// Leaves up to 24 edges behind from a place on: at once where none of them has a label.
+#[inline(always)]
+fn leave_some(labels: &mut Labels, edges: &mut Passed, place: u32, count: u32) -> Result<(), Memory>
+    requires place { place + count ≤ room labels.old.marks.grid }
+    requires some { 0 < count }
+    requires few { count ≤ 24 }
+    requires state { CanLeave place count labels.old edges.old }
+    ensures { OnOk result (HasLeft place count labels.old edges.old labels.new edges.new) }
+{
+    if count == 24 && labels.are_unlabelled(place) {
+        return Ok(());
+    }
+    leave_labelled(labels, edges, place, count)
+}
+
 /// Leaves so many edges behind from a place on.
+#[inline(always)]
 pub fn leave_edges(
     labels: &mut Labels,
     edges: &mut Passed,

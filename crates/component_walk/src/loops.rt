@@ -40,8 +40,10 @@ impl<T: Tally> Walked<T> {
         })
     }
 
-    /// Nothing is known of new labels.
-    fn know(&mut self) -> Result<(), Memory>
+    /// Nothing is known of the labels beyond those that have been added up.
+    // Apart, as few loops make one.
+    #[inline(never)]
+    fn know_more(&mut self) -> Result<(), Memory>
         requires tallies { length self.old.tallies.items ≤ self.old.labels.count }
         requires edges { length self.old.edges.crossings.items ≡ length self.old.tallies.items }
         ensures labels { OnOk result (self.new.labels ≡ self.old.labels) }
@@ -57,6 +59,24 @@ impl<T: Tally> Walked<T> {
             let _ = at;
             self.tallies.push(T::none())?;
             self.edges.crossings.push(0)?;
+        }
+        Ok(())
+    }
+
+    /// Nothing is known of new labels, if there are any.
+    #[inline(always)]
+    fn know(&mut self) -> Result<(), Memory>
+        requires tallies { length self.old.tallies.items ≤ self.old.labels.count }
+        requires edges { length self.old.edges.crossings.items ≡ length self.old.tallies.items }
+        ensures labels { OnOk result (self.new.labels ≡ self.old.labels) }
+        ensures order { OnOk result (self.new.edges.order.items ≡ self.old.edges.order.items) }
+        ensures passed { OnOk result (self.new.edges.count ≡ self.old.edges.count) }
+        ensures longer { OnOk result (IsLonger T.value T.fits (length self.old.tallies.items) self.old.labels.count
+            self.old.tallies.items self.new.tallies.items self.old.edges.crossings.items
+            self.new.edges.crossings.items) }
+    {
+        if self.tallies.len() < self.labels.count() as usize {
+            return self.know_more();
         }
         Ok(())
     }

@@ -2,7 +2,7 @@ use Rattle.std.proofs.Common.{◌≡◌, ◌+◌, get_or}
 use Rattle.component_labels.specs.Fronts.{none}
 use Rattle.component_walk.specs.Passed.{HasLeft}
 use Rattle.row_bits.proofs.UnsetBits.{IsTold}
-use Rattle.component_walk.proofs.leaving.leave_some.Given as goal
+use Rattle.component_walk.proofs.leaving.leave_labelled.Given as goal
 
 abbrev pub invariant-loop-bits : goal.invariant-loop-bits
 invariant-loop-bits l = record {

@@ -1,6 +1,6 @@
 use Rattle.std.proofs.Common.{◌≡◌, ◌≤◌, length}
 use Rattle.component_walk.specs.Walks.{IsLonger}
-use Rattle.component_walk.proofs.loops.Walked.know.Given as goal
+use Rattle.component_walk.proofs.loops.Walked.know_more.Given as goal
 
 abbrev pub invariant-loop-at : goal.invariant-loop-at
 invariant-loop-at g l = record {
