@@ -30,7 +30,7 @@ sign_told : (level : ℤ) (copies : List ℤ) (signs : List ℕ) (place : ℕ) �
 sign_told level copies signs place is low = ap (λ l. get_or l place 0) is ∙ get_or-map (sign_of level) copies place (pos 0) 0 low
 
 -- and where the signs are told of a part of the copies
-part_told : {X : Type 0} (value : X → ℤ) (xs : List X) (level : ℤ) (signs : List ℕ) (start count m k : ℕ) → m ≡ count
+pub part_told : {X : Type 0} (value : X → ℤ) (xs : List X) (level : ℤ) (signs : List ℕ) (start count m k : ℕ) → m ≡ count
     → signs ≡ map (sign_of level) (map value (take m (drop start xs))) → start + count ≤ length xs → k < count
     → get_or signs k 0 ≡ sign_of level (sample (map value xs) (start + k))
 part_told value xs level signs start count m k e is room low =

@@ -244,7 +244,7 @@ pub fn extract_brick<L: Ledger>(
 
 /// Puts the numbers of the cases of a row of eight cells without an ambiguous face into an empty list.
 #[inline(always)]
-fn push_plain<L: Ledger>(
+pub(crate) fn push_plain<L: Ledger>(
     block: &Block<'_>,
     signs: &[u8; 8],
     row: u8,
@@ -267,7 +267,7 @@ fn push_plain<L: Ledger>(
 
 /// Puts the numbers of the cases of a row of cells into an empty list.
 #[inline(always)]
-fn push_cases<T: Packed, L: Ledger>(
+pub(crate) fn push_cases<T: Packed, L: Ledger>(
     block: &Block<'_>,
     copies: &[T],
     signs: &[u8; 8],

@@ -5,5 +5,7 @@ mod block;
 mod entries;
 mod lanes;
 mod signs;
+mod slices;
 
 pub use entries::{extract_brick, extract_row};
+pub use slices::SignSlice;
