@@ -14,7 +14,7 @@ use Rattle.mesh_rows.specs.Rows.{AreEdges, row_names, row_places}
 use Rattle.brick_rows.proofs.NextBricks.{at_row}
 use Rattle.stitch.specs.declared.recent.RecentLists.{RecentLists}
 use Rattle.stitch.specs.Cells.{AreListed}
-use Rattle.stitch.specs.Recent.{AreRecent, AreWithin, IsKept, IsPut}
+use Rattle.stitch.specs.Recent.{AreRecent, AreWithin, HasNone, IsKept, IsPut}
 use Rattle.stitch.proofs.AskedRows.{row_y, row_z}
 
 -- the numbers of rows
@@ -69,9 +69,9 @@ known_more v old new key list are within each edges places cells = record {
     | inl put ↦ put.same_list ∙ places r (sym put.same_key)
     | inr was ↦ are.places r l low was
   ];
-  cells = λ r l low kept. elim (each (3 * r + 2) l kept) [
+  cells = λ r l low in_y in_z kept. elim (each (3 * r + 2) l kept) [
     | inl put ↦ subst (HasCells v (r % v.grid.ny) (r / v.grid.ny)) (sym put.same_list) (cells r (sym put.same_key))
-    | inr was ↦ are.cells r l low was
+    | inr was ↦ are.cells r l low in_y in_z was
   ];
 }
 
@@ -114,7 +114,18 @@ module _ (v : Leveled) (lists : RecentLists) (y z key : ℕ) (list : List ℕ) (
       by_coordinates v.grid (λ y z. list ≡ row_places v y z) y z low_y
       (are.places (y + v.grid.ny * z) list (row_low v.grid y z low_y low_z) (subst (λ k. IsKept lists k list) at kept))
 
-  pub cells_kept : key ≡ 3 * (y + v.grid.ny * z) + 2 → HasCells v y z list
-  cells_kept at =
+  pub cells_kept : y + 1 < v.grid.ny → z + 1 < v.grid.nz → key ≡ 3 * (y + v.grid.ny * z) + 2 → HasCells v y z list
+  cells_kept in_y in_z at =
+      let here_y = row_y v.grid.ny y z low_y in
+      let here_z = row_z v.grid.ny y z low_y in
       by_coordinates v.grid (λ y z. HasCells v y z list) y z low_y
-      (are.cells (y + v.grid.ny * z) list (row_low v.grid y z low_y low_z) (subst (λ k. IsKept lists k list) at kept))
+      (are.cells (y + v.grid.ny * z) list (row_low v.grid y z low_y low_z) (omega (arith, here_y, in_y)) (omega (arith, here_z, in_z)) (subst (λ k. IsKept lists k list) at kept))
+
+-- nothing is known
+pub known_none : (v : Leveled) (lists : RecentLists) → AreWithin lists → HasNone lists → AreRecent v lists
+known_none v lists within nothing = record {
+  within = within;
+  edges = λ r list low kept. absurd (nothing.none (3 * r) list kept);
+  places = λ r list low kept. absurd (nothing.none (3 * r + 1) list kept);
+  cells = λ r list low in_y in_z kept. absurd (nothing.none (3 * r + 2) list kept);
+}

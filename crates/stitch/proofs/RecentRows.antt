@@ -17,8 +17,8 @@ same_part xs ys a n room longer each =
 
 -- one list more is put behind the others
 module _ (old new : RecentLists) (key : ℕ) (list : List ℕ) (within : AreWithin old) (same_most : new.most ≡ old.most)
-    (tags : new.tags.now ≡ set old.tags.now (key % 49152) (key / 49152)) (starts : new.starts.now ≡ set old.starts.now (key % 49152) (length (numbers_of old)))
-    (counts : new.counts.now ≡ set old.counts.now (key % 49152) (length list))
+    (tags : new.tags.value ≡ set old.tags.value (key % 49152) (key / 49152)) (starts : new.starts.value ≡ set old.starts.value (key % 49152) (length (numbers_of old)))
+    (counts : new.counts.value ≡ set old.counts.value (key % 49152) (length list))
     (room : length (numbers_of old) + length list ≤ old.most)
     (numbers : numbers_of new ≡ numbers_of old ++ list) where
   abbrev next : ℕ
@@ -39,14 +39,14 @@ module _ (old new : RecentLists) (key : ℕ) (list : List ℕ) (within : AreWith
   abbrev place : ℕ → ℕ
   place k = k % 49152
 
-  own_tag : get_or new.tags.now (place key) 0 ≡ key / 49152
-  own_tag = ap (λ l. get_or l (place key) 0) tags ∙ get_or-set_same old.tags.now (place key) (key / 49152) 0 (omega (arith, within.tags))
+  own_tag : get_or new.tags.value (place key) 0 ≡ key / 49152
+  own_tag = ap (λ l. get_or l (place key) 0) tags ∙ get_or-set_same old.tags.value (place key) (key / 49152) 0 (omega (arith, within.tags))
 
-  own_start : get_or new.starts.now (place key) 0 ≡ next
-  own_start = ap (λ l. get_or l (place key) 0) starts ∙ get_or-set_same old.starts.now (place key) next 0 (omega (arith, within.starts))
+  own_start : get_or new.starts.value (place key) 0 ≡ next
+  own_start = ap (λ l. get_or l (place key) 0) starts ∙ get_or-set_same old.starts.value (place key) next 0 (omega (arith, within.starts))
 
-  own_count : get_or new.counts.now (place key) 0 ≡ length list
-  own_count = ap (λ l. get_or l (place key) 0) counts ∙ get_or-set_same old.counts.now (place key) (length list) 0 (omega (arith, within.counts))
+  own_count : get_or new.counts.value (place key) 0 ≡ length list
+  own_count = ap (λ l. get_or l (place key) 0) counts ∙ get_or-set_same old.counts.value (place key) (length list) 0 (omega (arith, within.counts))
 
   written : take (length list) (drop next (numbers_of new)) ≡ list
   written =
@@ -58,27 +58,27 @@ module _ (old new : RecentLists) (key : ℕ) (list : List ℕ) (within : AreWith
 
   same_place : (k : ℕ) (l : List ℕ) → place k ≡ place key → IsKept new k l → IsPut key list k l
   same_place k l same kept =
-      let tag : k / 49152 ≡ key / 49152 = sym kept.noted.tag ∙ (ap (λ p. get_or new.tags.now p 0) same ∙ own_tag) in
-      let count : get_or new.counts.now (place k) 0 ≡ length list = ap (λ p. get_or new.counts.now p 0) same ∙ own_count in
-      let start : get_or new.starts.now (place k) 0 ≡ next = ap (λ p. get_or new.starts.now p 0) same ∙ own_start in
+      let tag : k / 49152 ≡ key / 49152 = sym kept.noted.tag ∙ (ap (λ p. get_or new.tags.value p 0) same ∙ own_tag) in
+      let count : get_or new.counts.value (place k) 0 ≡ length list = ap (λ p. get_or new.counts.value p 0) same ∙ own_count in
+      let start : get_or new.starts.value (place k) 0 ≡ next = ap (λ p. get_or new.starts.value p 0) same ∙ own_start in
       record {
         same_key = omega (arith, tag, same);
         same_list = kept.list_is ∙ (ap₂ (λ n s. take n (drop s (numbers_of new))) count start ∙ written);
       }
 
-  same_start : (k : ℕ) → (k ≡ place key → ⊥) → get_or new.starts.now k 0 ≡ get_or old.starts.now k 0
-  same_start k other = ap (λ l. get_or l k 0) starts ∙ get_or-set_other old.starts.now (place key) k _ 0 other
+  same_start : (k : ℕ) → (k ≡ place key → ⊥) → get_or new.starts.value k 0 ≡ get_or old.starts.value k 0
+  same_start k other = ap (λ l. get_or l k 0) starts ∙ get_or-set_other old.starts.value (place key) k _ 0 other
 
-  same_count : (k : ℕ) → (k ≡ place key → ⊥) → get_or new.counts.now k 0 ≡ get_or old.counts.now k 0
-  same_count k other = ap (λ l. get_or l k 0) counts ∙ get_or-set_other old.counts.now (place key) k _ 0 other
+  same_count : (k : ℕ) → (k ≡ place key → ⊥) → get_or new.counts.value k 0 ≡ get_or old.counts.value k 0
+  same_count k other = ap (λ l. get_or l k 0) counts ∙ get_or-set_other old.counts.value (place key) k _ 0 other
 
   other_place : (k : ℕ) (l : List ℕ) → (place k ≡ place key → ⊥) → IsKept new k l → IsKept old k l
   other_place k l other kept =
-      let tag : get_or new.tags.now (place k) 0 ≡ get_or old.tags.now (place k) 0 = ap (λ l. get_or l (place k) 0) tags ∙ get_or-set_other old.tags.now (place key) (place k) _ 0 other in
+      let tag : get_or new.tags.value (place k) 0 ≡ get_or old.tags.value (place k) 0 = ap (λ l. get_or l (place k) 0) tags ∙ get_or-set_other old.tags.value (place key) (place k) _ 0 other in
       let start = same_start (place k) other in
       let count = same_count (place k) other in
-      let s : ℕ = get_or old.starts.now (place k) 0 in
-      let n : ℕ = get_or old.counts.now (place k) 0 in
+      let s : ℕ = get_or old.starts.value (place k) 0 in
+      let n : ℕ = get_or old.counts.value (place k) 0 in
       let some : s < 4294967295 = omega (arith, kept.noted.some, start) in
       let lies : s + n ≤ length (numbers_of old) = within.each (place k) (omega arith) some in
       record {
@@ -97,7 +97,7 @@ module _ (old new : RecentLists) (key : ℕ) (list : List ℕ) (within : AreWith
   ]
 
   abbrev IsBefore : ℕ → Type 0
-  IsBefore k = get_or new.starts.now k 0 < 4294967295 → get_or new.starts.now k 0 + get_or new.counts.now k 0 ≤ length (numbers_of new)
+  IsBefore k = get_or new.starts.value k 0 < 4294967295 → get_or new.starts.value k 0 + get_or new.counts.value k 0 ≤ length (numbers_of new)
 
   before_at : (k : ℕ) → k < 49152 → IsBefore k
   before_at k low = elim (cases_lt k (place key)) [
@@ -120,9 +120,9 @@ module _ (old new : RecentLists) (key : ℕ) (list : List ℕ) (within : AreWith
 
   pub put_within : AreWithin new
   put_within = record {
-    tags = ap length tags ∙ (length-set old.tags.now (place key) _ ∙ within.tags);
-    starts = ap length starts ∙ (length-set old.starts.now (place key) _ ∙ within.starts);
-    counts = ap length counts ∙ (length-set old.counts.now (place key) _ ∙ within.counts);
+    tags = ap length tags ∙ (length-set old.tags.value (place key) _ ∙ within.tags);
+    starts = ap length starts ∙ (length-set old.starts.value (place key) _ ∙ within.starts);
+    counts = ap length counts ∙ (length-set old.counts.value (place key) _ ∙ within.counts);
     most = omega (arith, within.most, same_most);
     each = before_at;
     few = omega (arith, long, room, same_most);

@@ -4,3 +4,4 @@ pub mod Asked
 pub mod Kept
 pub mod Recent
 pub mod Cells
+pub mod Rooms

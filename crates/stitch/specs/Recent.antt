@@ -16,15 +16,15 @@ numbers_in None = []
 
 -- the numbers of the lists that were put
 abbrev pub numbers_of : RecentLists → List ℕ
-numbers_of lists = numbers_in lists.numbers.now
+numbers_of lists = numbers_in lists.numbers
 
 -- the lists that are noted lie among the numbers that were put, and these are no more than may be
 pub record AreWithin (lists : RecentLists) : Type 0 where
-  pub tags : length lists.tags.now ≡ 49152
-  pub starts : length lists.starts.now ≡ 49152
-  pub counts : length lists.counts.now ≡ 49152
+  pub tags : length lists.tags.value ≡ 49152
+  pub starts : length lists.starts.value ≡ 49152
+  pub counts : length lists.counts.value ≡ 49152
   pub most : lists.most < 2 ^ 31
-  pub each : (k : ℕ) → k < 49152 → slice_index lists.starts.now k < 4294967295 → slice_index lists.starts.now k + slice_index lists.counts.now k ≤ length (numbers_of lists)
+  pub each : (k : ℕ) → k < 49152 → slice_index lists.starts.value k < 4294967295 → slice_index lists.starts.value k + slice_index lists.counts.value k ≤ length (numbers_of lists)
   pub few : length (numbers_of lists) ≤ lists.most
 
 -- a list is noted at the place of a key, and is its own
@@ -33,12 +33,22 @@ pub record AreNoted (tags starts : List ℕ) (key : ℕ) : Type 0 where
   pub some : slice_index starts (key % 49152) < 4294967295
 
 abbrev pub IsNoted : RecentLists → ℕ → Type 0
-IsNoted lists key = AreNoted lists.tags.now lists.starts.now key
+IsNoted lists key = AreNoted lists.tags.value lists.starts.value key
 
 -- this list is kept under a key
 pub record IsKept (lists : RecentLists) (key : ℕ) (list : List ℕ) : Type 0 where
   pub noted : IsNoted lists key
-  pub list_is : list ≡ take (slice_index lists.counts.now (key % 49152)) (drop (slice_index lists.starts.now (key % 49152)) (numbers_of lists))
+  pub list_is : list ≡ take (slice_index lists.counts.value (key % 49152)) (drop (slice_index lists.starts.value (key % 49152)) (numbers_of lists))
+
+-- no list is kept
+pub record HasNone (lists : RecentLists) : Type 0 where
+  pub none : (key : ℕ) (list : List ℕ) → IsKept lists key list → ⊥
+
+-- no list of the keys from one to before another is kept any more, and each one that is was kept before
+pub record IsWithoutKeys (from end : ℕ) (before after : RecentLists) : Type 0 where
+  pub within : AreWithin before → AreWithin after
+  pub none : (key : ℕ) (list : List ℕ) → from ≤ key → key < end → IsKept after key list → ⊥
+  pub kept : (key : ℕ) (list : List ℕ) → IsKept after key list → IsKept before key list
 
 -- this is the list that was put under this key
 pub record IsPut (key : ℕ) (list : List ℕ) (k : ℕ) (l : List ℕ) : Type 0 where
@@ -51,11 +61,11 @@ pub record AreRecent (v : Leveled) (lists : RecentLists) : Type 0 where
   pub within : AreWithin lists
   pub edges : (r : ℕ) (list : List ℕ) → r < row_count v.grid → IsKept lists (3 * r) list → AreEdges v (r % v.grid.ny) (r / v.grid.ny) list
   pub places : (r : ℕ) (list : List ℕ) → r < row_count v.grid → IsKept lists (3 * r + 1) list → list ≡ row_places v (r % v.grid.ny) (r / v.grid.ny)
-  pub cells : (r : ℕ) (list : List ℕ) → r < row_count v.grid → IsKept lists (3 * r + 2) list
-      → AreListed v (r % v.grid.ny) (r / v.grid.ny) (take (length list / 2) list) (drop (length list / 2) list)
+  pub cells : (r : ℕ) (list : List ℕ) → r < row_count v.grid → r % v.grid.ny + 1 < v.grid.ny → r / v.grid.ny + 1 < v.grid.nz
+      → IsKept lists (3 * r + 2) list → AreListed v (r % v.grid.ny) (r / v.grid.ny) (take (length list / 2) list) (drop (length list / 2) list)
 
 -- what is known of the rows of a volume
 pub record AreKnown (v : Leveled) (known : KnownRows) : Type 0 where
-  pub even : AreMarked v known.even.now
-  pub odd : AreMarked v known.odd.now
+  pub even : AreMarked v known.even.value
+  pub odd : AreMarked v known.odd.value
   pub recent : AreRecent v known.recent

@@ -1,9 +1,12 @@
 //! Lists of numbers that were asked for last, each under a key.
 //!
 //! Why: DECISIONS.md, "Where edges are crossed is kept for a list, and computed again for bricks".
-ghost use Rattle.std.specs.Prelude.{◌≡◌, ◌⊎◌, ℕ, ◌+◌, ◌/◌, ◌%◌, ◌^◌, ◌<◌, ◌≤◌, ◌++◌, List, [], drop, length, set, slice_index, take};
+ghost use Rattle.std.specs.Prelude.{◌≡◌, ◌⊎◌, ℕ, ◌+◌, ◌/◌, ◌%◌, ◌^◌, ◌<◌, ◌≤◌, ◌++◌, IfOk, List, [], drop, length, set, slice_index, take};
 ghost use Rattle.std.specs.Bool.{OnTrue};
-ghost use Rattle.stitch.specs.Recent.{AreNoted, AreWithin, IsKept, IsNoted, IsPut, numbers_in, numbers_of};
+ghost use Rattle.stitch.specs.Recent.{AreNoted, AreWithin, HasNone, IsKept, IsNoted, IsPut, IsWithoutKeys, numbers_in, numbers_of};
+
+use iso_base::Memory;
+use std::alloc::Global;
 
 /// The places for lists: three for each of 16,384 rows, which are all rows of a volume of 128 points along each axis.
 pub const LIST_PLACES: usize = 49_152;
@@ -14,27 +17,34 @@ const MOST_NUMBERS: usize = (1 << 31) - 1;
 /// Stands in place of where a list begins where none is noted.
 const NO_LIST: u32 = u32::MAX;
 
-/// Room for lists, of which nothing is known: buffers of whoever asks for them. The more numbers there is room for, the more lists are
-/// kept, and none where there is none.
-#[derive(Drop)]
-pub struct ListRoom<'a> {
-    pub tags: &'a mut [u8; LIST_PLACES],
-    pub starts: &'a mut [u32; LIST_PLACES],
-    pub counts: &'a mut [u16; LIST_PLACES],
-    pub numbers: &'a mut Option<Vec<u16>>,
-}
-
 /// Lists of numbers, each under a key. A key has a place, by its remainder, where it is noted how often the number of places goes into
 /// the key whose list was put there last, where among the numbers that list begins, and how long it is. Each list is put behind the one
 /// before, and where there is no more room, all are let go: none that is noted is ever written over. `most` is how many numbers there
-/// may be.
+/// may be: the more, the more lists are kept, and none where there is no room.
 #[derive(Drop)]
-pub struct RecentLists<'a> {
-    pub tags: &'a mut [u8; LIST_PLACES],
-    pub starts: &'a mut [u32; LIST_PLACES],
-    pub counts: &'a mut [u16; LIST_PLACES],
-    pub numbers: &'a mut Option<Vec<u16>>,
+pub struct RecentLists {
+    pub tags: Box<[u8; LIST_PLACES]>,
+    pub starts: Box<[u32; LIST_PLACES]>,
+    pub counts: Box<[u16; LIST_PLACES]>,
+    pub numbers: Option<Vec<u16>>,
     pub most: usize,
+}
+
+// Each of these is apart, so that the table is the only one in its frame, and gone from the stack then.
+
+#[inline(never)]
+fn new_tags(alloc: Global) -> Result<Box<[u8; LIST_PLACES]>, Memory> {
+    Ok(Box::new(alloc, [0; LIST_PLACES])?)
+}
+
+#[inline(never)]
+fn new_starts(alloc: Global) -> Result<Box<[u32; LIST_PLACES]>, Memory> {
+    Ok(Box::new(alloc, [0; LIST_PLACES])?)
+}
+
+#[inline(never)]
+fn new_counts(alloc: Global) -> Result<Box<[u16; LIST_PLACES]>, Memory> {
+    Ok(Box::new(alloc, [0; LIST_PLACES])?)
 }
 
 /// Where the list of a key is noted.
@@ -133,35 +143,44 @@ fn part_of<'n>(
     &numbers_in(room)[start..start + counts[place] as usize]
 }
 
-impl<'a> RecentLists<'a> {
-    /// No lists.
-    pub fn new(room: ListRoom<'a>) -> RecentLists<'a>
-        ensures within { AreWithin result }
-        ensures none { (key : ℕ) → (list : List ℕ) → IsKept result key list → ⊥ }
+impl RecentLists {
+    /// No lists, and room for their numbers.
+    pub fn new(alloc: Global, numbers: Option<Vec<u16>>) -> Result<RecentLists, Memory>
+        ensures within { IfOk result AreWithin }
+        ensures none { IfOk result HasNone }
     {
-        let most = most_in(room.numbers);
+        let most = most_in(&numbers);
         let mut lists = RecentLists {
-            tags: room.tags,
-            starts: room.starts,
-            counts: room.counts,
-            numbers: room.numbers,
+            tags: new_tags(alloc)?,
+            starts: new_starts(alloc)?,
+            counts: new_counts(alloc)?,
+            numbers,
             most,
         };
         lists.forget();
-        lists
+        Ok(lists)
     }
 
     /// Lets all lists go.
-    fn forget(&mut self)
-        requires { self.old.most < 2 ^ 31 }
-        ensures within { AreWithin self.new }
-        ensures none { (key : ℕ) → (list : List ℕ) → IsKept self.new key list → ⊥ }
+    pub fn forget(&mut self)
+        ensures within { self.old.most < 2 ^ 31 → AreWithin self.new }
+        ensures none { HasNone self.new }
         ensures most { self.new.most ≡ self.old.most }
         ensures numbers { numbers_of self.new ≡ [] }
     {
-        tell_places(self.tags, self.starts, self.counts);
+        tell_places(&self.tags, &self.starts, &self.counts);
         self.starts.fill(NO_LIST);
-        clear(self.numbers);
+        clear(&mut self.numbers);
+    }
+
+    /// Lets the lists of the keys from one to before another go, and those that stand in their places.
+    pub fn forget_keys(&mut self, from: u32, end: u32)
+        ensures { IsWithoutKeys from end self.old self.new }
+    {
+        tell_places(&self.tags, &self.starts, &self.counts);
+        for key in from..end {
+            self.starts[place_of(key)] = NO_LIST;
+        }
     }
 
     /// Whether the list of a key is kept.
@@ -171,7 +190,7 @@ impl<'a> RecentLists<'a> {
         requires key { key < 2 ^ 23 }
         ensures { OnTrue result (IsNoted self.now key) }
     {
-        is_noted(self.tags, self.starts, key)
+        is_noted(&self.tags, &self.starts, key)
     }
 
     /// The list of a key that is kept.
@@ -181,7 +200,7 @@ impl<'a> RecentLists<'a> {
         requires noted { IsNoted self.now key }
         ensures { IsKept self.now key result.now }
     {
-        part_of(self.starts, self.counts, self.numbers, place_of(key))
+        part_of(&self.starts, &self.counts, &self.numbers, place_of(key))
     }
 
     /// Lets all lists go if so many numbers more do not fit behind them.
@@ -193,7 +212,7 @@ impl<'a> RecentLists<'a> {
         ensures kept { (k : ℕ) → (l : List ℕ) → IsKept self.new k l → IsKept self.old k l }
         ensures room { length (numbers_of self.new) + count ≤ self.new.most }
     {
-        if self.most - numbers_in(self.numbers).len() < count {
+        if self.most - numbers_in(&self.numbers).len() < count {
             self.forget();
         }
     }
@@ -204,10 +223,10 @@ impl<'a> RecentLists<'a> {
         requires key { key < 2 ^ 23 }
         requires few { count ≤ 4096 }
         requires low { start < 2 ^ 31 }
-        ensures tags { self.new.tags.now ≡ set self.old.tags.now (key % 49152) (key / 49152) }
-        ensures starts { self.new.starts.now ≡ set self.old.starts.now (key % 49152) start }
-        ensures counts { self.new.counts.now ≡ set self.old.counts.now (key % 49152) count }
-        ensures numbers { self.new.numbers.now ≡ self.old.numbers.now }
+        ensures tags { self.new.tags.value ≡ set self.old.tags.value (key % 49152) (key / 49152) }
+        ensures starts { self.new.starts.value ≡ set self.old.starts.value (key % 49152) start }
+        ensures counts { self.new.counts.value ≡ set self.old.counts.value (key % 49152) count }
+        ensures numbers { self.new.numbers ≡ self.old.numbers }
         ensures most { self.new.most ≡ self.old.most }
     {
         let place = place_of(key);
@@ -228,8 +247,8 @@ impl<'a> RecentLists<'a> {
             return;
         }
         self.make_room(list.len());
-        let start = numbers_in(self.numbers).len();
-        if push_list(list, self.numbers) {
+        let start = numbers_in(&self.numbers).len();
+        if push_list(list, &mut self.numbers) {
             self.note(key, start, list.len());
         } else {
             self.forget();

@@ -1,15 +1,16 @@
 //! What is known of the rows of a volume in bricks.
-ghost use Rattle.std.specs.Prelude.{◌≡◌, ◌+◌, ◌*◌, ◌/◌, ◌^◌, ◌<◌, ◌≤◌, ◌++◌, IfSome, drop, length, take};
-ghost use Rattle.flat_mesh.specs.Lattice.{heights};
+ghost use Rattle.std.specs.Prelude.{◌≡◌, ◌+◌, ◌*◌, ◌/◌, ◌^◌, ◌<◌, ◌≤◌, ◌++◌, IfOk, IfSome, drop, length, take};
+ghost use Rattle.flat_mesh.specs.Lattice.{Leveled, heights};
 ghost use Rattle.mesh_rows.specs.Rows.{AreActive, AreCases, AreEdges, row_names, row_places};
 ghost use Rattle.brick_rows.specs.Bricks.{AreMarked};
 ghost use Rattle.brick_rows.specs.Named.{NamesCases, asked_along};
-ghost use Rattle.stitch.specs.Recent.{AreKnown};
+ghost use Rattle.stitch.specs.Recent.{AreKnown, AreRecent};
 
-use crate::recent::{ListRoom, RecentLists};
+use crate::recent::RecentLists;
 use brick_rows::{ActiveRow, BricksAtLevel, CellRows, case_row, flag_row, place_row};
-use iso_base::{LONGEST_ROW, ROW_EDGES, Steps};
+use iso_base::{LONGEST_ROW, Memory, ROW_EDGES, Steps};
 use row_bits::{CASES, list_edges};
+use std::alloc::Global;
 use std::sync::ledger::Ledger;
 
 /// Whether a slice of points lies in a slice of bricks of even number.
@@ -116,45 +117,49 @@ fn case_marked<R: CellRows, L: Ledger>(
     case_row(field, active, rows, &mut all[..nx], steps);
 }
 
-/// Room for what is known of rows, of which nothing is known.
-#[derive(Drop)]
-pub struct KnownRoom<'a> {
-    pub lists: ListRoom<'a>,
-    pub even: &'a mut ActiveRow,
-    pub odd: &'a mut ActiveRow,
-}
-
 /// What is known of the rows of a volume: the lists of those that were asked for last, buffers for the flags, the crossing edges and
 /// the cases of one, and the bricks that hold those rows, in slices of bricks of even and of odd number: a traversal goes to and fro
-/// between two slices of points.
+/// between two slices of points. The lists stay from one traversal to the next.
 #[derive(Drop)]
-pub struct KnownRows<'a> {
-    pub even: &'a mut ActiveRow,
-    pub odd: &'a mut ActiveRow,
-    pub recent: RecentLists<'a>,
-    flags: [u8; LONGEST_ROW],
-    list: [u16; ROW_EDGES],
-    pub cases: [u16; CASES],
+pub struct KnownRows {
+    pub even: Box<ActiveRow>,
+    pub odd: Box<ActiveRow>,
+    pub recent: RecentLists,
+    flags: Box<[u8; LONGEST_ROW]>,
+    list: Box<[u16; ROW_EDGES]>,
+    pub cases: Box<[u16; CASES]>,
 }
 
-impl<'a> KnownRows<'a> {
-    /// Nothing is known.
-    pub fn new(field: &BricksAtLevel, room: KnownRoom<'a>) -> KnownRows<'a>
-        ensures { AreKnown field.now result }
+// Apart, so that what is moved is gone from the stack then.
+#[inline(never)]
+fn new_row(alloc: Global) -> Result<Box<ActiveRow>, Memory> {
+    Ok(Box::new(alloc, ActiveRow::new())?)
+}
+
+impl KnownRows {
+    /// Nothing is known, and there is room for the numbers of lists.
+    pub fn new(alloc: Global, numbers: Option<Vec<u16>>) -> Result<KnownRows, Memory>
+        ensures { IfOk result (λ r. (v : Leveled) → AreRecent v r.recent) }
+    {
+        Ok(KnownRows {
+            even: new_row(alloc)?,
+            odd: new_row(alloc)?,
+            recent: RecentLists::new(alloc, numbers)?,
+            flags: Box::new(alloc, [0; LONGEST_ROW])?,
+            list: Box::new(alloc, [0; ROW_EDGES])?,
+            cases: Box::new(alloc, [0; CASES])?,
+        })
+    }
+
+    /// Forgets the bricks of the last traversal. The lists have to be those of the volume.
+    pub fn begin(&mut self, field: &BricksAtLevel)
+        requires { AreRecent field.now self.old.recent }
+        ensures { AreKnown field.now self.new }
     {
         // Reading the sizes brings in what is true of every volume at a level.
         let _ = field.sizes();
-        let KnownRoom { lists, even, odd } = room;
-        even.forget();
-        odd.forget();
-        KnownRows {
-            even,
-            odd,
-            recent: RecentLists::new(lists),
-            flags: [0; LONGEST_ROW],
-            list: [0; ROW_EDGES],
-            cases: [0; CASES],
-        }
+        self.even.forget();
+        self.odd.forget();
     }
 
     /// Lists the crossing edges of a row of points, and says how many there are.
@@ -163,15 +168,15 @@ impl<'a> KnownRows<'a> {
         requires z { z < field.now.grid.nz }
         requires known { AreKnown field.now self.old }
         ensures few { result ≤ 3 * field.now.grid.nx }
-        ensures edges { AreEdges field.now y z (take result self.new.list) }
+        ensures edges { AreEdges field.now y z (take result self.new.list.value) }
         ensures known { AreKnown field.now self.new }
     {
         if is_even(z) {
             self.even.mark(field, y, z);
-            list_marked(field, self.even, &mut self.flags, &mut self.list)
+            list_marked(field, &self.even, &mut self.flags, &mut self.list)
         } else {
             self.odd.mark(field, y, z);
-            list_marked(field, self.odd, &mut self.flags, &mut self.list)
+            list_marked(field, &self.odd, &mut self.flags, &mut self.list)
         }
     }
 
@@ -183,7 +188,7 @@ impl<'a> KnownRows<'a> {
         requires key { key ≡ 3 * (y + field.now.grid.ny * z) }
         requires low { key < 2 ^ 23 }
         ensures few { result ≤ 3 * field.now.grid.nx }
-        ensures edges { AreEdges field.now y z (take result self.new.list) }
+        ensures edges { AreEdges field.now y z (take result self.new.list.value) }
         ensures known { AreKnown field.now self.new }
     {
         // Reading the sizes brings in what is true of every volume at a level.
@@ -281,7 +286,7 @@ impl<'a> KnownRows<'a> {
         requires z { z + 1 < field.now.grid.nz }
         requires known { AreKnown field.now self.old }
         requires named { NamesCases (R.named rows.old) field.now.grid (heights field.now) }
-        ensures cases { AreCases field.now y z self.new.cases }
+        ensures cases { AreCases field.now y z self.new.cases.value }
         ensures known { AreKnown field.now self.new }
         ensures same { R.named rows.new ≡ R.named rows.old }
         ensures least { steps.old ≤ steps.new }
@@ -290,10 +295,10 @@ impl<'a> KnownRows<'a> {
     {
         if is_even(z) {
             self.even.mark(field, y, z);
-            case_marked(field, self.even, rows, &mut self.cases, steps);
+            case_marked(field, &self.even, rows, &mut self.cases, steps);
         } else {
             self.odd.mark(field, y, z);
-            case_marked(field, self.odd, rows, &mut self.cases, steps);
+            case_marked(field, &self.odd, rows, &mut self.cases, steps);
         }
     }
 
@@ -307,8 +312,8 @@ impl<'a> KnownRows<'a> {
         places: &mut [u16; LONGEST_ROW],
         cases: &mut [u16; LONGEST_ROW],
     ) -> Option<usize>
-        requires y { y < field.now.grid.ny }
-        requires z { z < field.now.grid.nz }
+        requires y { y + 1 < field.now.grid.ny }
+        requires z { z + 1 < field.now.grid.nz }
         requires known { AreKnown field.now self.now }
         ensures cells { IfSome result (λ n. AreActive field.now y z (take n places.new) (take n cases.new)) }
         ensures few { IfSome result (λ n. n < field.now.grid.nx) }

@@ -10,10 +10,10 @@ ghost use Rattle.mesh_rows.specs.Rows.{AreCases};
 ghost use Rattle.brick_rows.specs.Named.{NamesCases, asked_along, asked_among};
 ghost use Rattle.stitch.specs.Asked.{asked_in_row};
 ghost use Rattle.stitch.specs.Kept.{StoreKept};
-ghost use Rattle.stitch.specs.Recent.{AreKnown};
+ghost use Rattle.stitch.specs.Recent.{AreKnown, AreRecent};
 
 use crate::counts::count_all;
-use crate::row_memory::{KnownRoom, KnownRows};
+use crate::row_memory::KnownRows;
 use brick_rows::{BricksAtLevel, CellRows};
 use flat_mesh::{Cell, Heights};
 use iso_base::{LONGEST_ROW, ROW_EDGES, Sizes, Steps};
@@ -26,10 +26,10 @@ use std::sync::ledger::Ledger;
 #[derive(Drop)]
 pub struct StoreRows<'a, R: CellRows, L: Ledger> {
     field: &'a BricksAtLevel<'a>,
-    known: KnownRows<'a>,
+    known: &'a mut KnownRows,
     rows: &'a mut R,
     steps: &'a mut Steps<L>,
-    ghost known_are: { AreKnown field.now known },
+    ghost known_are: { AreKnown field.now known.now },
     ghost named: { NamesCases (R.named rows.now) field.now.grid (heights field.now) },
 }
 
@@ -38,21 +38,24 @@ impl<'a, R: CellRows, L: Ledger> StoreRows<'a, R, L> {
     pub fn new(
         field: &'a BricksAtLevel<'a>,
         rows: &'a mut R,
-        room: KnownRoom<'a>,
+        known: &'a mut KnownRows,
         steps: &'a mut Steps<L>,
     ) -> StoreRows<'a, R, L>
-        requires { NamesCases (R.named rows.old) field.now.grid (heights field.now) }
+        requires named { NamesCases (R.named rows.old) field.now.grid (heights field.now) }
+        requires right { AreRecent field.now known.old.recent }
         ensures field { result.field.now ≡ field.now }
         ensures same_rows { result.rows.ghost_name ≡ rows.entry.ghost_name }
         ensures rows { result.rows.now ≡ rows.old }
         ensures same_steps { result.steps.ghost_name ≡ steps.entry.ghost_name }
         ensures steps { result.steps.now ≡ steps.old }
+        ensures same_known { result.known.ghost_name ≡ known.entry.ghost_name }
     {
         // Reading the sizes brings in what is true of every volume at a level.
         let _ = field.sizes();
+        known.begin(field);
         StoreRows {
             field,
-            known: KnownRows::new(field, room),
+            known,
             rows,
             steps,
         }
@@ -62,11 +65,12 @@ impl<'a, R: CellRows, L: Ledger> StoreRows<'a, R, L> {
     fn case_cells(&mut self, y: u32, z: u32)
         requires y { y + 1 < self.old.field.now.grid.ny }
         requires z { z + 1 < self.old.field.now.grid.nz }
-        ensures cases { AreCases self.old.field.now y z self.new.known.cases }
+        ensures cases { AreCases self.old.field.now y z self.new.known.now.cases.value }
         ensures field { self.new.field.now ≡ self.old.field.now }
         ensures same { R.named self.new.rows.now ≡ R.named self.old.rows.now }
         ensures same_rows { self.new.rows.ghost_name ≡ self.old.rows.ghost_name }
         ensures same_steps { self.new.steps.ghost_name ≡ self.old.steps.ghost_name }
+        ensures same_known { self.new.known.ghost_name ≡ self.old.known.ghost_name }
         ensures least { self.old.steps.now ≤ self.new.steps.now }
         ensures most { self.new.steps.now ≤ self.old.steps.now + 8 * asked_along self.old.field.now.grid
             (heights self.old.field.now) (R.named self.old.rows.now) y z }
@@ -96,6 +100,7 @@ impl<'a, R: CellRows, L: Ledger> MeshRows for StoreRows<'a, R, L> {
       names = R.named r.rows.now;
       rows = r.rows.ghost_name;
       steps = r.steps.ghost_name;
+      known = r.known.ghost_name;
     } };
 
     ghost row_cost = { λ k row. 8 * asked_in_row k.volume k.names row };

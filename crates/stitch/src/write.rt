@@ -10,11 +10,11 @@ ghost use Rattle.mesh_lines.specs.Lines.{text_of, written_of};
 ghost use Rattle.mesh_lines.specs.Padded.{obj_written, ply_written, scratch_obj};
 ghost use Rattle.span_tree.specs.Spans.{IsRightFor};
 ghost use Rattle.brick_rows.specs.Named.{NamesCases, asked_among};
+ghost use Rattle.brick_rows.specs.Rows.{at_level};
 ghost use Rattle.stitch.specs.Origins.{origin_for};
+ghost use Rattle.stitch.specs.Recent.{AreRecent};
 
-use crate::recent::ListRoom;
 use crate::room::RowRoom;
-use crate::row_memory::KnownRoom;
 use crate::store::StoreRows;
 use brick_rows::{BricksAtLevel, CellRows};
 use brick_store::BrickStore;
@@ -47,10 +47,12 @@ fn write_in<R: CellRows, K: Sink, L: Ledger>(
 ) -> Result<Written, Failed>
     requires named { NamesCases (R.named rows.old) field.now.grid (heights field.now) }
     requires ranks { room.old.ranks.grid ≡ field.now.grid }
+    requires right { AreRecent field.now room.old.known.recent }
     ensures text { Puts (K.seen sink.old) (K.seen sink.new) result
         (text_of style (mesh_of field.now.grid (heights field.now))) }
     ensures written { IfOk result (λ w. w ≡ written_of style (mesh_of field.now.grid (heights field.now))) }
     ensures ranks { room.new.ranks.grid ≡ room.old.ranks.grid }
+    ensures right { AreRecent field.now room.new.known.recent }
     ensures same { R.named rows.new ≡ R.named rows.old }
     ensures least { steps.old ≤ steps.new }
     ensures most { steps.new
@@ -59,27 +61,14 @@ fn write_in<R: CellRows, K: Sink, L: Ledger>(
 {
     // Reading the sizes brings in what is true of every volume at a level.
     let _ = field.sizes();
-    let mut numbers = room.ranks.take_room();
-    let lists = ListRoom {
-        tags: room.tags.as_mut(),
-        starts: room.starts.as_mut(),
-        counts: room.counts.as_mut(),
-        numbers: &mut numbers,
-    };
-    let known = KnownRoom {
-        lists,
-        even: room.even.as_mut(),
-        odd: room.odd.as_mut(),
-    };
-    let mut store = StoreRows::new(field, rows, known, steps);
-    let written = write_mesh(&mut store, style, &mut room.ranks, sink);
-    room.ranks.set_room(numbers);
-    written
+    let mut store = StoreRows::new(field, rows, &mut room.known, steps);
+    write_mesh(&mut store, style, &mut room.ranks, sink)
 }
 
 /// Appends the text of the mesh of a volume in bricks at a level, as PLY, and says how many vertices, faces and bytes were
 /// written. The mesh is never held, and no memory is taken. `Failed` comes only where the sink's count rose; a front of the
-/// text was then taken. Each active brick is asked once for its counts and each of its rows at most twice, and no other brick.
+/// text was then taken. Each active brick is asked once for its counts and each of its rows at most twice, and no other brick. The lists
+/// of rows in the room have to be right for the volume, and are so afterwards, also where the write failed.
 pub fn write_ply<R: CellRows, K: Sink, L: Ledger>(
     store: &BrickStore,
     tree: &SpanTree,
@@ -92,11 +81,13 @@ pub fn write_ply<R: CellRows, K: Sink, L: Ledger>(
     requires tree { IsRightFor tree.now store.now }
     requires named { NamesCases (R.named rows.old) store.now.grid (field store.now.samples level) }
     requires ranks { room.old.ranks.grid ≡ store.now.grid }
+    requires right { AreRecent (at_level store.now level) room.old.known.recent }
     ensures text { Puts (K.seen sink.old) (K.seen sink.new) result
         (scratch_ply (is_some store.now.pad) store.now.grid (field store.now.samples level)) }
     ensures written { IfOk result (λ w. w ≡ ply_written (is_some store.now.pad)
         (mesh_of store.now.grid (field store.now.samples level))) }
     ensures ranks { room.new.ranks.grid ≡ room.old.ranks.grid }
+    ensures right { AreRecent (at_level store.now level) room.new.known.recent }
     ensures same { R.named rows.new ≡ R.named rows.old }
     ensures least { steps.old ≤ steps.new }
     ensures most { steps.new ≤ steps.old + 1536 * asked_among store.now.grid (field store.now.samples level)
@@ -125,11 +116,13 @@ pub fn write_obj<R: CellRows, K: Sink, L: Ledger>(
     requires tree { IsRightFor tree.now store.now }
     requires named { NamesCases (R.named rows.old) store.now.grid (field store.now.samples level) }
     requires ranks { room.old.ranks.grid ≡ store.now.grid }
+    requires right { AreRecent (at_level store.now level) room.old.known.recent }
     ensures text { Puts (K.seen sink.old) (K.seen sink.new) result
         (scratch_obj (is_some store.now.pad) store.now.grid (field store.now.samples level)) }
     ensures written { IfOk result (λ w. w ≡ obj_written (is_some store.now.pad)
         (mesh_of store.now.grid (field store.now.samples level))) }
     ensures ranks { room.new.ranks.grid ≡ room.old.ranks.grid }
+    ensures right { AreRecent (at_level store.now level) room.new.known.recent }
     ensures same { R.named rows.new ≡ R.named rows.old }
     ensures least { steps.old ≤ steps.new }
     ensures most { steps.new ≤ steps.old + 1536 * asked_among store.now.grid (field store.now.samples level)

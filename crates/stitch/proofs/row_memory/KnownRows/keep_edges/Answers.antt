@@ -1,4 +1,5 @@
-use Rattle.std.proofs.Common.{arith}
+use Rattle.std.proofs.Common.{◌≡◌, arith, subst, sym, take}
+use Rattle.mesh_rows.specs.Rows.{AreEdges}
 use Rattle.stitch.proofs.KnownLists.{edges_long, known_edges, names_few}
 use Rattle.stitch.proofs.row_memory.KnownRows.keep_edges.Goals as goal
 
@@ -11,9 +12,12 @@ put-requires-clause-few c =
     omega (arith, count, names_few c.args.field.now c.args.y c.args.z, c.sizes.ensures.leveled.grid.x.most)
 
 pub returns-clause-known : goal.returns-clause-known
-returns-clause-known c = record {
-  even = c.list_anew-count.ensures.known.even;
-  odd = c.list_anew-count.ensures.known.odd;
-  recent = known_edges c.args.field.now c.list_anew-count.new.self.recent c.put.new.self c.args.y c.args.z c.args.key _ c.requires.y c.requires.key
-      c.list_anew-count.ensures.known.recent c.put.ensures.within c.put.ensures.each c.list_anew-count.ensures.edges;
-}
+returns-clause-known c =
+    let same : c.deref.result.now ≡ c.list_anew-count.new.self.list.value = cc in
+    let edges = subst (λ l. AreEdges c.args.field.now c.args.y c.args.z (take c.list_anew-count.result l)) (sym same) c.list_anew-count.ensures.edges in
+    record {
+      even = c.list_anew-count.ensures.known.even;
+      odd = c.list_anew-count.ensures.known.odd;
+      recent = known_edges c.args.field.now c.list_anew-count.new.self.recent c.put.new.self c.args.y c.args.z c.args.key _ c.requires.y c.requires.key
+          c.list_anew-count.ensures.known.recent c.put.ensures.within c.put.ensures.each edges;
+    }

@@ -10,16 +10,19 @@ pub keep_cells-requires-clause-cells : goal.keep_cells-requires-clause-cells
 keep_cells-requires-clause-cells g c =
     let v : Leveled = c.case_cells.new.self.field.now in
     let width : c.nx-nx.result ≡ v.grid.nx = c.nx-nx.ensures.value ∙ ap (λ (g : Grid). g.nx) c.sizes.ensures.value in
-    let are : AreCases v c.args.y c.args.z c.case_cells.new.self.known.cases
-    = subst (λ (v : Leveled). AreCases v c.args.y c.args.z c.case_cells.new.self.known.cases) (sym c.case_cells.ensures.field) c.case_cells.ensures.cases in
-    cells_active v c.args.y c.args.z c.nx-nx.result c.case_cells.new.self.known.cases _ _ width are c.list_cases-count.ensures.places c.list_cases-count.ensures.cases
+    let same : c.deref.result.now ≡ c.case_cells.new.self.known.now.cases.value = cc in
+    let are : AreCases v c.args.y c.args.z c.deref.result.now
+    = subst (λ (v : Leveled). AreCases v c.args.y c.args.z c.deref.result.now) (sym c.case_cells.ensures.field)
+    (subst (AreCases c.args.self.now.field.now c.args.y c.args.z) (sym same) c.case_cells.ensures.cases) in
+    cells_active v c.args.y c.args.z c.nx-nx.result c.deref.result.now _ _ width are c.list_cases-count.ensures.places c.list_cases-count.ensures.cases
 
 pub returns-clause-cells : goal.returns-clause-cells
 returns-clause-cells g c =
     let v : Leveled = c.args.self.now.field.now in
     let width : c.nx-nx.result ≡ v.grid.nx
     = c.nx-nx.ensures.value ∙ (ap (λ (g : Grid). g.nx) c.sizes.ensures.value ∙ ap (λ (v : Leveled). v.grid.nx) c.case_cells.ensures.field) in
-    cells_active v c.args.y c.args.z c.nx-nx.result c.case_cells.new.self.known.cases _ _ width c.case_cells.ensures.cases c.list_cases-count.ensures.places c.list_cases-count.ensures.cases
+    let same : c.deref.result.now ≡ c.case_cells.new.self.known.now.cases.value = cc in
+    cells_active v c.args.y c.args.z c.nx-nx.result c.deref.result.now _ _ width (subst (AreCases v c.args.y c.args.z) (sym same) c.case_cells.ensures.cases) c.list_cases-count.ensures.places c.list_cases-count.ensures.cases
 
 pub returns-clause-most : goal.returns-clause-most
 returns-clause-most g c =
