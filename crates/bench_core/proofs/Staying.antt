@@ -12,7 +12,7 @@ use Rattle.iso_defs.specs.Grid.{Grid, coordinate, point_count}
 use Rattle.iso_defs.specs.Bricks.{brick_count, brick_point, brick_start, in_brick}
 use Rattle.iso_defs.proofs.Points.{x_index, y_index, z_index, index_in}
 use Rattle.iso_base.specs.Points.{point_at}
-use Rattle.iso_base.specs.Volume.{Volume, IsVolume, sample}
+use Rattle.iso_base.specs.Volume.{Volume, IsVolume, sample, shifted}
 use Rattle.triangle_laws.proofs.Lists.{In, in_filter}
 use Rattle.voxel_list.specs.Areas.{Area, between, is_in_area}
 use Rattle.brick_store.proofs.BrickNumbers as numbers
@@ -25,6 +25,8 @@ use Rattle.mesh_cache.specs.Economy.{IsRight, Refresh, SameSamples, is_waiting, 
 use Rattle.mesh_cache.proofs.Refreshing.{refresh_bounded, refresh_right}
 use Rattle.mesh_cache.proofs.Turns.{all_below}
 use Rattle.mesh_cache.proofs.Points.{right_stays}
+use Rattle.cached_mesh.specs.declared.room.MeshRoom.{MeshRoom}
+use Rattle.cached_mesh.specs.Rooms.{IsRoomFor}
 use Rattle.cached_mesh.proofs.Waits.{fewer_wait}
 use Rattle.edit_log.specs.declared.change.Change.{Change}
 use Rattle.edit_log.specs.declared.change.Change.TheVariants as changes
@@ -32,7 +34,7 @@ use Rattle.edit_log.specs.Log.{area_place, replaced}
 use Rattle.edit_log.specs.Changes.{Moment, after, area_of, before, moment}
 use Rattle.brick_store.proofs.Replacing.{sample-replaced}
 use Rattle.bench_core.specs.Machine.{State}
-use Rattle.bench_core.specs.Keeping.{IsKept, Refreshes, Workbench, bricks_of, holds_some, touched, turn_steps, waiting_bricks, without_bricks, without_points, write_steps}
+use Rattle.bench_core.specs.Keeping.{Forgets, IsKept, MovesIn, Refreshes, Workbench, bricks_of, holds_some, touched, turn_steps, waiting_bricks, without_bricks, without_points, write_steps}
 use Rattle.bench_core.proofs.Touching.{without_none}
 
 -- ---- an empty cache beside a right tree
@@ -143,9 +145,10 @@ box_agrees v a samples off = record {
 }
 
 -- one sample
-one_agrees : (v : Volume) (i : ℕ) (value : ℤ) → AgreeBut v (record v { samples = slice_set v.samples i value }) (bricks_of v.grid (between (point_at v.grid i) (point_at v.grid i)))
-one_agrees v i value = box_agrees v (between (point_at v.grid i) (point_at v.grid i)) (slice_set v.samples i value)
-    (λ p low out. sym (get_or-set_other v.samples i p value (pos 0) (λ e. clash (is_in_area v.grid (between (point_at v.grid i) (point_at v.grid i)) p) (subst (λ n. is_in_area v.grid (between (point_at v.grid i) (point_at v.grid i)) n ≡ true) (sym e) here) out)))
+one_same : (v : Volume) (i : ℕ) (value : ℤ) (p : ℕ) → is_in_area v.grid (between (point_at v.grid i) (point_at v.grid i)) p ≡ false
+    → sample v.samples p ≡ sample (slice_set v.samples i value) p
+one_same v i value p out = sym (get_or-set_other v.samples i p value (pos 0)
+    (λ e. clash (is_in_area v.grid (between (point_at v.grid i) (point_at v.grid i)) p) (subst (λ n. is_in_area v.grid (between (point_at v.grid i) (point_at v.grid i)) n ≡ true) (sym e) here) out))
   where
     clash : (b : Bool) → b ≡ true → b ≡ false → ⊥
     clash true e f = cc
@@ -167,11 +170,17 @@ one_agrees v i value = box_agrees v (between (point_at v.grid i) (point_at v.gri
       high (coordinate v.grid 2 i),
     ) refl
 
+one_agrees : (v : Volume) (i : ℕ) (value : ℤ) → AgreeBut v (record v { samples = slice_set v.samples i value }) (bricks_of v.grid (between (point_at v.grid i) (point_at v.grid i)))
+one_agrees v i value = box_agrees v (between (point_at v.grid i) (point_at v.grid i)) (slice_set v.samples i value) (λ p low out. one_same v i value p out)
+
 -- samples replaced in a box
+others_stay : (v : Volume) (a : Area) (value : ℕ → ℤ) → IsVolume v → (p : ℕ) → p < point_count v.grid → is_in_area v.grid a p ≡ false
+    → sample v.samples p ≡ sample (replaced (is_in_area v.grid a) value v.samples) p
+others_stay v a value is p low out = sym (sample-replaced (is_in_area v.grid a) value v.samples p (subst (λ n. p < n) (sym is.count) low)
+    ∙ ap (λ b. cond b (value p) (sample v.samples p)) out)
+
 replaced_agrees : (v : Volume) (a : Area) (value : ℕ → ℤ) → IsVolume v → AgreeBut v (record v { samples = replaced (is_in_area v.grid a) value v.samples }) (bricks_of v.grid a)
-replaced_agrees v a value is = box_agrees v a (replaced (is_in_area v.grid a) value v.samples)
-    (λ p low out. sym (sample-replaced (is_in_area v.grid a) value v.samples p (subst (λ n. p < n) (sym is.count) low)
-    ∙ ap (λ b. cond b (value p) (sample v.samples p)) out))
+replaced_agrees v a value is = box_agrees v a (replaced (is_in_area v.grid a) value v.samples) (others_stay v a value is)
 
 same_agrees : (v : Volume) → AgreeBut v v []
 same_agrees v = record { grid = refl; samples = λ b x y z low free hx hy hz inside. refl }
@@ -186,6 +195,39 @@ pub before_agrees : (c : Change) (m : Moment) → IsVolume m.volume → AgreeBut
 before_agrees (changes.One index old new) m is = one_agrees m.volume index old
 before_agrees (changes.Area a old new) m is = replaced_agrees m.volume a (λ p. sample old (area_place m.volume.grid a p)) is
 before_agrees (changes.LevelWas old new) m is = same_agrees m.volume
+
+-- ---- the lists of rows
+
+-- values are the same where samples are
+box_moves : (v : Volume) (level : ℤ) (a : Area) (samples : List ℤ)
+    → ((p : ℕ) → p < point_count v.grid → is_in_area v.grid a p ≡ false → sample v.samples p ≡ sample samples p)
+    → MovesIn (Some a) (moment v level) (moment (record v { samples = samples }) level)
+box_moves v level a samples off = record { same_grid = refl; others = λ p low out. ap (λ s. shifted s level) (off p low out) }
+
+-- a change that is made, or taken back, leaves the values off the box of its points
+pub after_moves : (c : Change) (m : Moment) → IsVolume m.volume → MovesIn (area_of m.volume.grid c) m (after c m)
+after_moves (changes.One index old new) m is = box_moves m.volume m.level (between (point_at m.volume.grid index) (point_at m.volume.grid index)) (slice_set m.volume.samples index new)
+    (λ p low out. one_same m.volume index new p out)
+after_moves (changes.Area a old new) m is = box_moves m.volume m.level a (replaced (is_in_area m.volume.grid a) (λ _. new) m.volume.samples) (others_stay m.volume a (λ _. new) is)
+after_moves (changes.LevelWas old new) m is = refl
+
+pub before_moves : (c : Change) (m : Moment) → IsVolume m.volume → MovesIn (area_of m.volume.grid c) m (before c m)
+before_moves (changes.One index old new) m is = box_moves m.volume m.level (between (point_at m.volume.grid index) (point_at m.volume.grid index)) (slice_set m.volume.samples index old)
+    (λ p low out. one_same m.volume index old p out)
+before_moves (changes.Area a old new) m is = box_moves m.volume m.level a (replaced (is_in_area m.volume.grid a) (λ p. sample old (area_place m.volume.grid a p)) m.volume.samples)
+    (others_stay m.volume a (λ p. sample old (area_place m.volume.grid a p)) is)
+before_moves (changes.LevelWas old new) m is = refl
+
+-- the room after the lists of a change's rows were let go, with the volume and the level that are there then
+pub room_moved : (v w : Volume) (level to : ℤ) (next : Moment) (points area : Option Area) (room room' : MeshRoom)
+    → MovesIn points (moment v level) next → moment w to ≡ next → area ≡ points
+    → Forgets area room room' → IsRoomFor v level room → IsRoomFor w to room'
+room_moved v w level to next points area room room' moves at same forgotten fits =
+    by_area points (subst (MovesIn points (moment v level)) (sym at) moves) (subst (λ a. Forgets a room room') same forgotten)
+  where
+    by_area : (points : Option Area) → MovesIn points (moment v level) (moment w to) → Forgets points room room' → IsRoomFor w to room'
+    by_area None moves forgotten = forgotten v w level to moves fits
+    by_area (Some a) moves forgotten = forgotten v w level to moves fits
 
 -- ---- what is kept, once a change was followed
 

@@ -12,6 +12,10 @@ use Rattle.span_tree.specs.Spans.{Tree, IsRightFor}
 use Rattle.mesh_cache.specs.Cache.{Cache, Limits, empty_cache, with_items}
 use Rattle.mesh_cache.specs.Economy.{IsRight, Refresh, waiting}
 use Rattle.unpadded_volume.specs.Unpadded.{place_of}
+use Rattle.brick_rows.specs.Rows.{at_level}
+use Rattle.cached_mesh.specs.declared.room.MeshRoom.{MeshRoom}
+use Rattle.cached_mesh.specs.Rooms.{IsRoomFor, SameOutside}
+use Rattle.edit_log.specs.Changes.{Moment}
 use Rattle.bench_core.specs.Machine.{Entry, State, area_by}
 
 -- what contracts see of a bench: the machine's state, and what is kept of its mesh
@@ -80,6 +84,17 @@ without_points g (Some a) cache = without_bricks (bricks_of g a) cache
 abbrev pub Keeps : {T : Type 0} → Workbench → Workbench → Result T BenchFault → Option Area → Type 0
 Keeps old new result area = MatchResult result (λ _. new.cache
     ≡ without_points old.state.volume.grid area old.cache) (λ _. new.cache ≡ old.cache)
+
+-- two volumes at levels have the same values off a box; where there is no box, the same sizes alone
+abbrev pub MovesIn : Option Area → Moment → Moment → Type 0
+MovesIn None m n = m.volume.grid ≡ n.volume.grid
+MovesIn (Some a) m n = SameOutside a (at_level m.volume m.level) (at_level n.volume n.level)
+
+-- a room that fitted the one fits the other, once what rests on the samples of that box was let go, or all where there is none
+abbrev pub Forgets : Option Area → MeshRoom → MeshRoom → Type 0
+Forgets None old new = (v w : Volume) (level to : ℤ) → v.grid ≡ w.grid → IsRoomFor v level old → IsRoomFor w to new
+Forgets (Some a) old new = (v w : Volume) (level to : ℤ) → SameOutside a (at_level v level) (at_level w to)
+    → IsRoomFor v level old → IsRoomFor w to new
 
 -- ---- what a refresh makes
 

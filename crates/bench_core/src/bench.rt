@@ -21,7 +21,7 @@ use crate::edits::{area_change, is_in_range, one_change};
 use crate::fault::BeginFault;
 use crate::follow::follow;
 use crate::mesh_numbers::{walked_measures, walked_numbers};
-use crate::room::room_of;
+use crate::room::{forget_rows, room_of};
 use crate::windows::{Window, write_window};
 use brick_store::BrickStore;
 use cached_mesh::{KeptVolume, MeshRoom, refresh_bricks, write_mesh};
@@ -55,7 +55,7 @@ pub struct Bench {
 }
 
 impl Model for Bench {
-    ghost use Rattle.std.specs.Prelude.{◌≡◌};
+    ghost use Rattle.cached_mesh.specs.Rooms.{IsRoomFor};
     ghost use Rattle.bench_core.specs.History.{IsHistory, state_of};
     ghost use Rattle.bench_core.specs.Keeping.{IsKept, Workbench};
 
@@ -64,7 +64,7 @@ impl Model for Bench {
     ghost view = { λ b. record { state = state_of b.store b.level b.log; cache = b.cache } };
 
     ghost invariant = { λ b. IsHistory b.store b.level b.log
-        × (IsKept b.store b.tree b.cache × (b.room.rows.ranks.grid ≡ b.store.grid)) };
+        × (IsKept b.store b.tree b.cache × IsRoomFor b.store b.level b.room) };
 }
 
 // How many points one `fill` may change.
@@ -242,7 +242,9 @@ impl Bench {
         change.make(&mut self.store, &mut self.level);
         // Reading the sizes brings in what is true of every volume.
         let _ = self.store.sizes();
+        let same_area = area;
         follow(&mut self.tree, &mut self.cache, &self.store, area, value);
+        forget_rows(&mut self.room, same_area);
         self.log.push(change);
     }
 
@@ -260,7 +262,9 @@ impl Bench {
         // Reading the sizes brings in what is true of every volume.
         let _ = self.store.sizes();
         change.take_back(&mut self.store, &mut self.level);
+        let same_area = area;
         follow(&mut self.tree, &mut self.cache, &self.store, area, None);
+        forget_rows(&mut self.room, same_area);
         Ok(())
     }
 
@@ -279,7 +283,9 @@ impl Bench {
         // Reading the sizes brings in what is true of every volume.
         let _ = self.store.sizes();
         change.make(&mut self.store, &mut self.level);
+        let same_area = area;
         follow(&mut self.tree, &mut self.cache, &self.store, area, filled);
+        forget_rows(&mut self.room, same_area);
         Ok(())
     }
 

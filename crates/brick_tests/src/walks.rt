@@ -5,6 +5,8 @@ ghost use Rattle.iso_defs.specs.Grid.{point_count};
 ghost use Rattle.iso_base.specs.Volume.{IsSample, field};
 ghost use Rattle.span_tree.specs.Spans.{IsRightFor};
 ghost use Rattle.brick_rows.specs.Named.{counts_of_entries};
+ghost use Rattle.brick_rows.specs.Rows.{at_level};
+ghost use Rattle.stitch.specs.Recent.{AreRecent};
 
 use crate::stores::sizes_of;
 use crate::texts::{Text, text_of};
@@ -129,6 +131,7 @@ fn counted_walk<L: Ledger>(
 ) -> Result<Written, Failed>
     requires tree { IsRightFor tree.now store.now }
     requires ranks { room.old.ranks.grid ≡ store.now.grid }
+    requires right { AreRecent (at_level store.now level) room.old.known.recent }
     requires named { blank.name ≡ L.name }
     requires shares { blank.parts ≡ L.parts }
     requires one { blank.parts ≡ 1 }

@@ -2,3 +2,4 @@ pub mod Kept
 pub mod Texts
 pub mod Slices
 pub mod Writers
+pub mod Rooms

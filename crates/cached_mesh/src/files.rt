@@ -8,6 +8,7 @@ ghost use Rattle.flat_mesh.specs.Mesh.{mesh_of};
 ghost use Rattle.mesh_lines.specs.Padded.{two_way_written};
 ghost use Rattle.mesh_cache.specs.Economy.{IsRight, waiting};
 ghost use Rattle.span_tree.specs.Spans.{IsRightFor};
+ghost use Rattle.cached_mesh.specs.Rooms.{IsRoomFor};
 ghost use Rattle.cached_mesh.specs.Texts.{scratch_text};
 
 use crate::room::MeshRoom;
@@ -45,13 +46,13 @@ fn put_mesh<K: Sink, L: Ledger>(
 ) -> Result<Written, Failed>
     requires tree { IsRightFor volume.now.tree.now volume.now.store.now }
     requires items { IsRight volume.now.store.now.grid volume.now.store.now.samples volume.now.cache.now.items }
-    requires ranks { room.old.rows.ranks.grid ≡ volume.now.store.now.grid }
+    requires room { IsRoomFor volume.now.store.now volume.now.level room.old }
     ensures text { Puts (K.seen sink.old) (K.seen sink.new) result
         (scratch_text format volume.now.store.now volume.now.level) }
     ensures written { let v = volume.now.store.now in
         IfOk result (λ w. w ≡ two_way_written format (is_some v.pad)
         (mesh_of v.grid (field v.samples volume.now.level))) }
-    ensures ranks { room.new.rows.ranks.grid ≡ room.old.rows.ranks.grid }
+    ensures room { IsRoomFor volume.now.store.now volume.now.level room.new }
     ensures least { steps.old ≤ steps.new }
     ensures most { let v = volume.now.store.now in
         steps.new ≤ steps.old + 1536 * length (waiting v.grid v.samples volume.now.level volume.now.cache.now.items) }
@@ -118,7 +119,7 @@ impl<'a, L: Ledger> FileText for MeshText<'a, L> {
     ghost stays = { λ t. record {
       same_room = refl;
       same_steps = refl;
-      ranks = refl;
+      room = λ fits. fits;
       least = le_refl t.steps.now;
       most = le-add_right t.steps.now (1536 * length (waiting_in t));
     } };
@@ -131,7 +132,7 @@ impl<'a, L: Ledger> FileText for MeshText<'a, L> {
 /// Makes the name's file the text of the mesh of a volume at a level, as it is from scratch. The text is written as it is made,
 /// and no memory is taken. A brick that is kept at the level gives its entries, and the counter rises by at most 1,536 for each
 /// other active brick. `Failed` comes only where the shelf's count rose; the file is then as before or a front of the text, and
-/// all other files are as before.
+/// all other files are as before. The room's lists of rows have to be right for the volume at the level, and are so afterwards.
 pub fn write_mesh<H: Shelf, L: Ledger>(
     shelf: &mut H,
     name: &str,
@@ -142,13 +143,13 @@ pub fn write_mesh<H: Shelf, L: Ledger>(
 ) -> Result<Written, Failed>
     requires tree { IsRightFor volume.now.tree.now volume.now.store.now }
     requires items { IsRight volume.now.store.now.grid volume.now.store.now.samples volume.now.cache.now.items }
-    requires ranks { room.old.rows.ranks.grid ≡ volume.now.store.now.grid }
+    requires room { IsRoomFor volume.now.store.now volume.now.level room.old }
     ensures file { Stores (H.seen shelf.old) (H.seen shelf.new) result name.now
         (scratch_text format volume.now.store.now volume.now.level) }
     ensures written { let v = volume.now.store.now in
         IfOk result (λ w. w ≡ two_way_written format (is_some v.pad)
         (mesh_of v.grid (field v.samples volume.now.level))) }
-    ensures ranks { room.new.rows.ranks.grid ≡ room.old.rows.ranks.grid }
+    ensures room { IsRoomFor volume.now.store.now volume.now.level room.new }
     ensures least { steps.old ≤ steps.new }
     ensures most { let v = volume.now.store.now in
         steps.new ≤ steps.old + 1536 * length (waiting v.grid v.samples volume.now.level volume.now.cache.now.items) }

@@ -1,13 +1,17 @@
 //! Room for what a write of a mesh keeps.
 //!
 //! Why: DECISIONS.md, "Room for lists outlives a write".
-ghost use Rattle.std.specs.Prelude.{◌≡◌, IfOk};
+ghost use Rattle.std.specs.Prelude.{◌≡◌, ℤ, IfOk};
+ghost use Rattle.iso_base.specs.Volume.{Volume};
+ghost use Rattle.brick_rows.specs.Rows.{at_level};
+ghost use Rattle.cached_mesh.specs.Rooms.{IsRoomFor, SameOutside};
 
 use crate::slices::{SLICE_BRICKS, Slices, no_slices};
 use edge_points::RowRanks;
 use iso_base::Memory;
 use std::alloc::Global;
 use stitch::RowRoom;
+use voxel_list::FillBox;
 
 /// Room for what a write of a mesh keeps of rows, and for the cases of bricks that it takes from the cache.
 #[derive(Drop)]
@@ -25,12 +29,28 @@ fn new_held(alloc: Global) -> Result<Box<[Slices; SLICE_BRICKS as usize]>, Memor
 impl MeshRoom {
     /// Room for writes of volumes with rows of these ranks.
     pub fn new(alloc: Global, ranks: RowRanks) -> Result<MeshRoom, Memory>
-        ensures { IfOk result (λ r. r.rows.ranks ≡ ranks) }
+        ensures ranks { IfOk result (λ r. r.rows.ranks ≡ ranks) }
+        ensures room { IfOk result (λ r. (v : Volume) (level : ℤ) → v.grid ≡ ranks.grid → IsRoomFor v level r) }
     {
         let rows = RowRoom::new(alloc, ranks)?;
         Ok(MeshRoom {
             rows,
             held: new_held(alloc)?,
         })
+    }
+
+    /// Lets all lists of rows go.
+    pub fn forget(&mut self)
+        ensures { (v w : Volume) (level to : ℤ) → v.grid ≡ w.grid → IsRoomFor v level self.old → IsRoomFor w to self.new }
+    {
+        self.rows.forget();
+    }
+
+    /// Lets the lists of the rows go that rest on samples of a box.
+    pub fn forget_box(&mut self, area: &FillBox)
+        ensures { (v w : Volume) (level to : ℤ) → SameOutside area.now (at_level v level) (at_level w to)
+            → IsRoomFor v level self.old → IsRoomFor w to self.new }
+    {
+        self.rows.forget_box(area);
     }
 }

@@ -1,5 +1,4 @@
-use Rattle.std.proofs.Common.{◌∙◌, ap, sym, subst, rules}
-use Rattle.edge_points.specs.Rows.{RowNumbers}
+use Rattle.std.proofs.Common.{sym, subst, rules}
 use Rattle.mesh_cache.specs.Cache.{Cache}
 use Rattle.bench_core.specs.Keeping.{IsKept}
 use Rattle.bench_core.specs.History.{IsHistory}
@@ -11,4 +10,4 @@ invariant_of-result c =
     let history : IsHistory c.args.store c.args.level c.in_ok-log.log = search rules in
     let kept : IsKept c.args.store c.in_ok-tree.tree c.in_ok-cache.cache
     = subst (λ (k : Cache). IsKept c.args.store c.in_ok-tree.tree k) (sym c.in_ok-cache.ensures) (kept_first c.args.store c.in_ok-tree.tree c.args.capacity c.in_ok-tree.ensures) in
-    (history, (kept, ap (λ (r : RowNumbers). r.grid) c.in_ok-room.ensures ∙ c.sizes.ensures.value))
+    (history, (kept, c.in_ok-room.ensures c.args.store c.args.level (sym c.sizes.ensures.value)))

@@ -4,7 +4,7 @@ use Rattle.bench_core.specs.Keeping.{Workbench, without_points}
 use Rattle.bench_core.specs.Machine.{IsAbovePad, changed}
 use Rattle.bench_core.proofs.Histories.{made}
 use Rattle.bench_core.proofs.Filling.{filled_after}
-use Rattle.bench_core.proofs.Staying.{after_agrees, followed, grid_fits, tree_fits}
+use Rattle.bench_core.proofs.Staying.{after_agrees, after_moves, followed, room_moved, tree_fits}
 use Rattle.bench_core.proofs.bench.Bench.make.Goals as goal
 
 pub area-area-requires : goal.area-area-requires
@@ -39,8 +39,8 @@ invariant_of-self c =
       (
         (followed b.store c.make.new.store c.make.new.level (after change (moment b.store b.level)) (area_of b.store.grid change) c.area-area.result b.tree c.follow.new.tree b.cache c.follow.new.cache
             (after_agrees change (moment b.store b.level) c.self.invariant.0.state.volume) c.self.invariant.1.0 c.make.ensures c.area-area.ensures c.follow.ensures.tree c.follow.ensures.cache).0,
-        grid_fits b.store c.make.new.store c.make.new.level (after change (moment b.store b.level)) (area_of b.store.grid change) b.room.rows.ranks.grid
-            (after_agrees change (moment b.store b.level) c.self.invariant.0.state.volume) c.self.invariant.1.1 c.make.ensures,
+        room_moved b.store c.make.new.store b.level c.make.new.level (after change (moment b.store b.level)) (area_of b.store.grid change) c.area-area.result b.room c.forget_rows.new.room
+            (after_moves change (moment b.store b.level) c.self.invariant.0.state.volume) c.make.ensures c.area-area.ensures c.forget_rows.ensures c.self.invariant.1.1,
       ),
     )
 

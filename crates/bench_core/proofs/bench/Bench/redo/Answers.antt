@@ -5,7 +5,7 @@ use Rattle.bench_core.specs.Keeping.{Workbench, first_area, without_points}
 use Rattle.bench_core.specs.History.{IsHistory, state_of}
 use Rattle.bench_core.proofs.Histories.{made_again, nothing_forward, next_points, next_suits}
 use Rattle.bench_core.proofs.Filling.{filled_after}
-use Rattle.bench_core.proofs.Staying.{after_agrees, followed, grid_fits, tree_fits}
+use Rattle.bench_core.proofs.Staying.{after_agrees, after_moves, followed, room_moved, tree_fits}
 use Rattle.bench_core.proofs.bench.Bench.redo.Goals as goal
 
 pub invariant_of-self : goal.invariant_of-self
@@ -55,8 +55,8 @@ invariant_of-self-2 c =
       (
         (followed b.store c.make.new.store c.make.new.level (after change (moment b.store b.level)) (area_of b.store.grid change) c.area-area.result b.tree c.follow.new.tree b.cache c.follow.new.cache
             (after_agrees change (moment b.store b.level) c.self.invariant.0.state.volume) c.self.invariant.1.0 c.make.ensures c.area-area.ensures c.follow.ensures.tree c.follow.ensures.cache).0,
-        grid_fits b.store c.make.new.store c.make.new.level (after change (moment b.store b.level)) (area_of b.store.grid change) b.room.rows.ranks.grid
-            (after_agrees change (moment b.store b.level) c.self.invariant.0.state.volume) c.self.invariant.1.1 c.make.ensures,
+        room_moved b.store c.make.new.store b.level c.make.new.level (after change (moment b.store b.level)) (area_of b.store.grid change) c.area-area.result b.room c.forget_rows.new.room
+            (after_moves change (moment b.store b.level) c.self.invariant.0.state.volume) c.make.ensures c.area-area.ensures c.forget_rows.ensures c.self.invariant.1.1,
       ),
     )
 

@@ -4,7 +4,7 @@ use Rattle.bench_core.specs.Machine.{undo_step}
 use Rattle.bench_core.specs.Keeping.{Workbench, first_area, without_points}
 use Rattle.bench_core.specs.History.{IsHistory, state_of}
 use Rattle.bench_core.proofs.Histories.{taken_back, nothing_back, newest_points, newest_suits}
-use Rattle.bench_core.proofs.Staying.{before_agrees, followed, grid_fits, tree_fits}
+use Rattle.bench_core.proofs.Staying.{before_agrees, before_moves, followed, room_moved, tree_fits}
 use Rattle.bench_core.proofs.bench.Bench.undo.Goals as goal
 
 pub invariant_of-self : goal.invariant_of-self
@@ -48,8 +48,8 @@ invariant_of-self-2 c =
       (
         (followed b.store c.take_back.new.store c.take_back.new.level (before change (moment b.store b.level)) (area_of b.store.grid change) c.area-area.result b.tree c.follow.new.tree b.cache c.follow.new.cache
             (before_agrees change (moment b.store b.level) c.self.invariant.0.state.volume) c.self.invariant.1.0 c.take_back.ensures c.area-area.ensures c.follow.ensures.tree c.follow.ensures.cache).0,
-        grid_fits b.store c.take_back.new.store c.take_back.new.level (before change (moment b.store b.level)) (area_of b.store.grid change) b.room.rows.ranks.grid
-            (before_agrees change (moment b.store b.level) c.self.invariant.0.state.volume) c.self.invariant.1.1 c.take_back.ensures,
+        room_moved b.store c.take_back.new.store b.level c.take_back.new.level (before change (moment b.store b.level)) (area_of b.store.grid change) c.area-area.result b.room c.forget_rows.new.room
+            (before_moves change (moment b.store b.level) c.self.invariant.0.state.volume) c.take_back.ensures c.area-area.ensures c.forget_rows.ensures c.self.invariant.1.1,
       ),
     )
 

@@ -1,4 +1,4 @@
-use Rattle.std.proofs.Common.{◌∙◌, subst}
+use Rattle.std.proofs.Common.{subst}
 use Rattle.std.proofs.lemmas.Result.{err_from_is_err_and}
 use Rattle.bench_core.specs.History.{state_of}
 use Rattle.bench_core.specs.Keeping.{Workbench}
@@ -9,7 +9,7 @@ use Rattle.bench_core.proofs.Surfaces.{watertight_of}
 use Rattle.bench_core.proofs.bench.Bench.write_kept.Goals as goal
 
 pub invariant_of-self : goal.invariant_of-self
-invariant_of-self g c = (c.self.invariant.0, (c.self.invariant.1.0, c.write_mesh.ensures.ranks ∙ c.self.invariant.1.1))
+invariant_of-self g c = (c.self.invariant.0, (c.self.invariant.1.0, c.write_mesh.ensures.room))
 
 pub returns-clause-file : goal.returns-clause-file
 returns-clause-file g c =
