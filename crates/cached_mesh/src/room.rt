@@ -41,7 +41,8 @@ impl MeshRoom {
 
     /// Lets all lists of rows go.
     pub fn forget(&mut self)
-        ensures { (v w : Volume) (level to : ℤ) → v.grid ≡ w.grid → IsRoomFor v level self.old → IsRoomFor w to self.new }
+        ensures { (v w : Volume) (level to : ℤ) → v.grid ≡ w.grid
+            → IsRoomFor v level self.old → IsRoomFor w to self.new }
     {
         self.rows.forget();
     }
