@@ -4,4 +4,5 @@ pub mod Ascending
 pub mod Waits
 pub mod Names
 pub mod Filled
+pub mod Signing
 pub mod Counted

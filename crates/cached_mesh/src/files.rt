@@ -11,6 +11,7 @@ ghost use Rattle.span_tree.specs.Spans.{IsRightFor};
 ghost use Rattle.cached_mesh.specs.Rooms.{IsRoomFor};
 ghost use Rattle.cached_mesh.specs.Texts.{scratch_text};
 
+use crate::held::{Held, clear_signs};
 use crate::room::MeshRoom;
 use crate::rows::CachedRows;
 use crate::slices::clear_slices;
@@ -61,7 +62,9 @@ fn put_mesh<K: Sink, L: Ledger>(
     let level = volume.level;
     let held = room.held.as_mut();
     clear_slices(held);
-    let mut rows = CachedRows::new(store, cache, level, held);
+    let signed = room.signed.as_mut();
+    clear_signs(signed);
+    let mut rows = CachedRows::new(store, cache, level, Held::new(held, signed));
     match format {
         TwoWayFormat::Ply => write_ply(store, tree, level, &mut rows, &mut room.rows, sink, steps),
         TwoWayFormat::Obj => write_obj(store, tree, level, &mut rows, &mut room.rows, sink, steps),

@@ -4,6 +4,7 @@
 mod counts;
 mod entries;
 mod files;
+mod held;
 mod refresh;
 mod room;
 mod rows;
@@ -11,6 +12,7 @@ mod slices;
 
 pub use counts::count_entries;
 pub use files::{KeptVolume, write_mesh};
+pub use held::{Held, no_signs};
 pub use refresh::refresh_bricks;
 pub use room::MeshRoom;
 pub use rows::CachedRows;

@@ -6,6 +6,7 @@ ghost use Rattle.iso_base.specs.Volume.{Volume};
 ghost use Rattle.brick_rows.specs.Rows.{at_level};
 ghost use Rattle.cached_mesh.specs.Rooms.{IsRoomFor, SameOutside};
 
+use crate::held::{SignSlices, no_signs};
 use crate::slices::{SLICE_BRICKS, Slices, no_slices};
 use edge_points::RowRanks;
 use iso_base::Memory;
@@ -18,12 +19,19 @@ use voxel_list::FillBox;
 pub struct MeshRoom {
     pub rows: RowRoom,
     pub held: Box<[Slices; SLICE_BRICKS as usize]>,
+    pub signed: Box<SignSlices>,
 }
 
 /// A buffer with no slices. Apart, so that what is moved is gone from the stack then.
 #[inline(never)]
 fn new_held(alloc: Global) -> Result<Box<[Slices; SLICE_BRICKS as usize]>, Memory> {
     Ok(Box::new(alloc, no_slices())?)
+}
+
+/// A buffer with no sign bytes, apart for the same reason.
+#[inline(never)]
+fn new_signed(alloc: Global) -> Result<Box<SignSlices>, Memory> {
+    Ok(Box::new(alloc, no_signs())?)
 }
 
 impl MeshRoom {
@@ -36,6 +44,7 @@ impl MeshRoom {
         Ok(MeshRoom {
             rows,
             held: new_held(alloc)?,
+            signed: new_signed(alloc)?,
         })
     }
 

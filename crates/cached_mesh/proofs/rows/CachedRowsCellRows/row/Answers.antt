@@ -1,4 +1,4 @@
-use Rattle.std.proofs.Common.{◌≡◌, ◌∙◌, true, false, cond, ℕ, Bool, ap, subst, sym, arith}
+use Rattle.std.proofs.Common.{◌≡◌, ◌∙◌, true, false, cond, ℕ, Bool, ap, ap₂, subst, sym, arith}
 use Rattle.iso_defs.specs.Bricks.{row_cases}
 use Rattle.iso_base.specs.Volume.{field}
 use Rattle.mesh_cache.specs.Economy.{is_fresh}
@@ -24,16 +24,18 @@ returns-then-hold-clause-cases g c =
     let row = subst (λ (k : Kept). IsCellRow k.volume.grid c.args.brick.0 c.args.y c.args.z) (sym c.self.view_is) c.requires in
     let k : Kept = record { volume = c.self.inside.store.now; level = c.self.inside.level; cache = c.self.inside.cache.now } in
     c.fill_row.ensures
-    ∙ (row_held r.store.now r.level r.cache.now.items c.args.brick.0 c.args.z _ (c.hold.ensures.held _ _ (omega (arith, c.hold.ensures.places))) (c.if-hold.ensures.here.here _) c.args.y row
+    ∙ (row_held r.store.now r.level r.cache.now.items c.args.brick.0 c.args.z _ (c.hold.ensures.held.slices _ _ (omega (arith, c.hold.ensures.held.places))) ((c.hold.ensures.cased c.if-hold.true).here _) c.args.y row
     ∙ (named_here k true c.args.brick.0 c.args.y c.args.z (sym c.hold.ensures.kept ∙ c.if-hold.true)
     ∙ ap (λ (k : Kept). (named_by k).cases c.args.brick.0 c.args.y c.args.z) c.self.view_is))
 
 pub returns-clause-cases : goal.returns-clause-cases
 returns-clause-cases g c =
     let k : Kept = record { volume = c.self.inside.store.now; level = c.self.inside.level; cache = c.self.inside.cache.now } in
+    let s = (c.hold.ensures.signed c.if-hold.false).here _ in
     c.extract_row.ensures.cases
+    ∙ (ap₂ (λ brick z. row_cases k.volume.grid (field k.volume.samples k.level) brick c.args.y z) s.same_brick s.same_slice
     ∙ (named_here k false c.args.brick.0 c.args.y c.args.z (sym c.hold.ensures.kept ∙ c.if-hold.false)
-    ∙ ap (λ (k : Kept). (named_by k).cases c.args.brick.0 c.args.y c.args.z) c.self.view_is)
+    ∙ ap (λ (k : Kept). (named_by k).cases c.args.brick.0 c.args.y c.args.z) c.self.view_is))
 
 pub returns-clause-most : goal.returns-clause-most
 returns-clause-most g c =
