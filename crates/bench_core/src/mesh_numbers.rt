@@ -11,7 +11,7 @@ ghost use Rattle.mesh_report.specs.Report.{summary_of};
 ghost use Rattle.span_tree.specs.Spans.{IsRightFor};
 
 use brick_store::BrickStore;
-use cached_mesh::{CachedRows, no_slices};
+use cached_mesh::{CachedRows, Held, no_signs, no_slices};
 use component_walk::{part_measures, part_numbers};
 use iso_base::{Level, Memory, Steps};
 use measure::Measures;
@@ -23,6 +23,8 @@ use std::alloc::Global;
 use std::marker::Brand;
 use std::sync::ledger::{Blank, Ledger};
 
+// Apart, so that the slices are not on the stack of commands that walk over no rows.
+#[inline(never)]
 fn counted_numbers<L: Ledger>(
     blank: Blank,
     alloc: Global,
@@ -41,8 +43,10 @@ fn counted_numbers<L: Ledger>(
         (triangles store.now.grid (field store.now.samples level))) }
 {
     let (book, share) = blank.open::<L>();
-    let mut held = no_slices();
-    let mut rows = CachedRows::new(store, cache, level, &mut held);
+    let mut slices = no_slices();
+    let mut signed = no_signs();
+    let held = Held::new(&mut slices, &mut signed);
+    let mut rows = CachedRows::new(store, cache, level, held);
     let mut steps = Steps::new(book, share);
     part_numbers(alloc, store, tree, level, &mut rows, &mut steps)
 }
@@ -64,6 +68,8 @@ pub fn walked_numbers(
     counted_numbers::<Brand>(Blank::new(1), alloc, store, tree, cache, level)
 }
 
+// Apart for the same reason.
+#[inline(never)]
 fn counted_measures<L: Ledger>(
     blank: Blank,
     alloc: Global,
@@ -80,8 +86,10 @@ fn counted_measures<L: Ledger>(
     ensures { IfOk result (λ m. m ≡ measures_at store.now level) }
 {
     let (book, share) = blank.open::<L>();
-    let mut held = no_slices();
-    let mut rows = CachedRows::new(store, cache, level, &mut held);
+    let mut slices = no_slices();
+    let mut signed = no_signs();
+    let held = Held::new(&mut slices, &mut signed);
+    let mut rows = CachedRows::new(store, cache, level, held);
     let mut steps = Steps::new(book, share);
     part_measures(alloc, store, tree, level, &mut rows, &mut steps)
 }
