@@ -5,6 +5,7 @@ pub mod RowPlaces
 pub mod Corners
 pub mod RowCases
 pub mod Counted
+pub mod Tallied
 pub mod Ends
 pub mod PointEnds
 pub mod PutCases

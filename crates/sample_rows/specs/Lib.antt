@@ -5,3 +5,4 @@ pub mod Ends
 pub mod Kept
 pub mod Lists
 pub mod Parts
+pub mod Counted

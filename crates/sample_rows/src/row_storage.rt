@@ -201,7 +201,7 @@ fn add_slice<S: Samples>(
 }
 
 /// Makes the signs of the next slice, if there is one.
-fn make_next<S: Samples>(field: &ListField<S>, z: u32, signs: &mut SliceSigns)
+pub fn make_next<S: Samples>(field: &ListField<S>, z: u32, signs: &mut SliceSigns)
     requires z { z < field.now.grid.nz }
     requires near { AreSliceSigns field.now z signs.old.near.items }
     requires count { length signs.old.far.items ≡ field.now.grid.nx * field.now.grid.ny }
@@ -238,7 +238,10 @@ fn add_slices<S: Samples>(
 }
 
 /// The signs of the first slice, and room for those of the next one.
-fn first_signs<S: Samples>(alloc: Global, field: &ListField<S>) -> Result<SliceSigns, AllocError>
+pub fn first_signs<S: Samples>(
+    alloc: Global,
+    field: &ListField<S>,
+) -> Result<SliceSigns, AllocError>
     ensures near { IfOk result (λ s. AreSliceSigns field.now 0 s.near.items) }
     ensures far { IfOk result (λ s. length s.far.items ≡ field.now.grid.nx * field.now.grid.ny) }
 {

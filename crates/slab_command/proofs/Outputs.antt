@@ -1,5 +1,5 @@
 -- What a slab gives: files and a line, or why it gives none.
-use Rattle.std.proofs.Common.{◌≡◌, ℕ, ◌-◌, Bool, true, false, List, [], None, Some, Ok, Err, refl, sym, ap, ◌∙◌, subst, if◌then◌else◌, arith}
+use Rattle.std.proofs.Common.{◌≡◌, ℕ, ◌-◌, ◌*◌, Bool, true, false, List, [], None, Some, Ok, Err, refl, sym, ap, ◌∙◌, subst, if◌then◌else◌, arith}
 use Rattle.std.specs.Prelude.{Option, Result, is_some, nat_lt}
 use Rattle.iso_base.specs.Volume.{Voxels}
 use Rattle.byte_streams.specs.Seen.{Files, Tape}
@@ -8,6 +8,8 @@ use Rattle.iso_io.specs.Shelves.{Store}
 use Rattle.list_mesh.specs.Parts.{Part}
 use Rattle.mesh_walk.specs.Spans.{edge_count}
 use Rattle.mesh_walk.specs.declared.parts.PartCounts.{PartCounts}
+use Rattle.sample_rows.specs.Counted.{AreRowCounts}
+use Rattle.sample_rows.specs.declared.slice_counts.SliceCounts.{SliceCounts}
 use Rattle.nrrd_read.specs.Nrrd.{Fails, nrrd_of}
 use Rattle.program.specs.declared.answer.Answer.TheVariants as answers
 use Rattle.program.specs.declared.answer.VolumeFault.TheVariants.{Nrrd}
@@ -94,6 +96,12 @@ same_counts p c e f g =
     ∙ (ap (λ (n : ℕ). record { edges = (counts_of p).edges; centres = n; faces = c.faces }) f
     ∙ ap (λ (n : ℕ). record { edges = (counts_of p).edges; centres = (counts_of p).centres; faces = n }) g)
 
+-- those of slices that were counted are those of the part
+pub slices_counted : (v : Leveled) (slices : ℕ) (counts : SliceCounts) (c : PartCounts) → AreRowCounts v (v.grid.ny * slices) counts
+    → c.edges ≡ counts.edges → c.centres ≡ counts.cells.centres → c.faces ≡ counts.cells.faces → c ≡ counts_of (record { volume = v; slices = slices })
+slices_counted v slices counts c are e f g =
+    same_counts (record { volume = v; slices = slices }) c (e ∙ are.edges) (f ∙ are.cells.centres) (g ∙ are.cells.faces)
+
 -- the line of a part is that of its numbers
 pub line_of : (job : SlabJob) (p : Part) (output : Output) → output_of job p ≡ Ok output → counts_text p.slices (counts_of p) ≡ output.line
 line_of job p output e = line_with p job.slab job.files output e
@@ -142,22 +150,19 @@ no_files job p s e = (
   omega arith,
 )
 
-module _ (job : SlabJob) (p : Part) (files : SlabFiles) (s s' : Store) (are : job.files ≡ Some files) where
-  by_numbers : output_of job p ≡ with_numbers p job.slab files (check_numbers files (edge_count p.volume) (counts_of p).centres)
-  by_numbers = ap (λ (files : Option SlabFiles). with_files_of job.slab files p) are
-
+module _ (slab : Slab) (p : Part) (files : SlabFiles) (s s' : Store) where
   abbrev made_output : Output
-  made_output = record { files = part_files p job.slab files; line = counts_text p.slices (counts_of p) }
+  made_output = record { files = part_files p slab files; line = counts_text p.slices (counts_of p) }
 
   -- the numbers fit, and the files were made, or the shelf failed at one
   module _ (x : Unit {0}) (fits : check_numbers files (edge_count p.volume) (counts_of p).centres ≡ Ok x) where
-    given : output_of job p ≡ Ok made_output
-    given = by_numbers ∙ ap (with_numbers p job.slab files) fits
+    given : with_files_of slab (Some files) p ≡ Ok made_output
+    given = ap (with_numbers p slab files) fits
 
-    pub files_made : {T E : Type 0} (y : T) → StoresAll {E = E} s s' (Ok y) (part_files p job.slab files) → MakesFiles {T = Unit {0}} (output_of job p) s s' (Ok tt)
+    pub files_made : {T E : Type 0} (y : T) → StoresAll {E = E} s s' (Ok y) (part_files p slab files) → MakesFiles {T = Unit {0}} (with_files_of slab (Some files) p) s s' (Ok tt)
     files_made y h = (made_output, given, h.changed, h.cause.later)
 
-    pub files_cut : {T E : Type 0} (e : E) → StoresAll {T = T} s s' (Err e) (part_files p job.slab files) → MakesFiles {T = Unit {0}} (output_of job p) s s' (Err (Common answers.ShelfFault))
+    pub files_cut : {T E : Type 0} (e : E) → StoresAll {T = T} s s' (Err e) (part_files p slab files) → MakesFiles {T = Unit {0}} (with_files_of slab (Some files) p) s s' (Err (Common answers.ShelfFault))
     files_cut e h = (made_output, given, h.changed, h.cause.failed)
 
 -- files that were cut are files that there were to be

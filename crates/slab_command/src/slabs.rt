@@ -1,28 +1,31 @@
 //! A slab of a volume in the input: counted, and written where there are to be files.
 
-ghost use Rattle.std.specs.Prelude.{◌≡◌, All, IfErr, IfOk, IfSome, Ok, Err, Some, length};
+ghost use Rattle.std.specs.Prelude.{◌≡◌, All, IfErr, IfOk, IfSome, Ok, Err, None, Some, length};
 ghost use Rattle.iso_defs.specs.Grid.{point_count};
 ghost use Rattle.iso_base.specs.Volume.{IsSample, Voxels};
 ghost use Rattle.flat_mesh.specs.Lattice.{Leveled};
 ghost use Rattle.byte_streams.specs.Seen.{ReadsWithin};
+ghost use Rattle.iso_io.specs.Shelves.{Store};
 ghost use Rattle.command_terms.specs.Volumes.{volume_limit};
 ghost use Rattle.slab_command.specs.Outcome.{GivesOutput, IsReason, IsRefusal, MakesFiles, PutsLine, ServesSlab, call_between};
-ghost use Rattle.slab_command.specs.Parts.{counts_of, output_by, output_of, slab_given};
+ghost use Rattle.slab_command.specs.Parts.{counts_of, output_by, slab_given, with_files_of};
 ghost use Rattle.slab_command.specs.Slabs.{ends_of, owned_part, padded, refused, with_pad};
 ghost use Rattle.slab_command.specs.Words.{AreSound};
 
 use crate::answer::SlabAnswer;
-use crate::asked::{Slab, SlabJob};
+use crate::asked::{Slab, SlabFiles, SlabJob};
 use crate::counts::{check_numbers, counts_line, owned_slices};
 use crate::files::write_files;
 use command_terms::{NoVolume, bytes_of_input};
 use iso_base::Sizes;
 use iso_io::{Failed, Shelf, Sink, Source, write_all_of};
 use list_mesh::ListPart;
+use mesh_walk::PartCounts;
 use nrrd_read::{FileVolume, RawVolume, read_file_volume};
 use padded_samples::{Ends, PaddedSlab};
 use program::{Answer, VolumeFault};
 use raw_samples::with_samples;
+use sample_rows::count_slices;
 use samples::Samples;
 use std::alloc::Global;
 
@@ -93,25 +96,68 @@ fn put_line<K: Sink>(line: &str, output: &mut K) -> SlabAnswer
     }
 }
 
-/// Makes the files of a part that has so many centres, where there are to be any.
+/// Makes the files of a part that has so many centres.
 fn make_files<S: Samples, H: Shelf>(
     part: ListPart<'_, S>,
     centres: u32,
-    job: &SlabJob,
+    slab: Slab,
+    files: &SlabFiles,
     shelf: &mut H,
 ) -> Result<(), SlabAnswer>
-    requires files { IfSome job.now.files AreSound }
+    requires files { AreSound files.now }
     requires centres { centres ≡ (counts_of part).centres }
-    ensures { MakesFiles (output_of job.now part.entry) (H.seen shelf.old) (H.seen shelf.new) result }
+    ensures { MakesFiles (with_files_of slab (Some files.now) part.entry) (H.seen shelf.old) (H.seen shelf.new) result }
 {
-    let files = match &job.files {
-        None => return Ok(()),
-        Some(files) => files,
-    };
     check_numbers(files, part.volume_edges(), centres)?;
-    match write_files(part, job.slab, files, shelf) {
+    match write_files(part, slab, files, shelf) {
         Ok(()) => Ok(()),
         Err(Failed) => Err(SlabAnswer::from(Answer::ShelfFault)),
+    }
+}
+
+/// How many slices a slab owns, and what these have of the mesh, of which no list is made.
+fn count_owned<S: Samples>(
+    alloc: Global,
+    slab: Slab,
+    sizes: Sizes,
+    samples: &S,
+) -> Result<(u32, PartCounts), SlabAnswer>
+    requires count { length (S.list samples.now) ≡ point_count sizes }
+    requires samples { All IsSample (S.list samples.now) }
+    ensures slices { (v : Leveled) → v ≡ record { grid = sizes; samples = S.list samples.now; level = slab.level }
+        → IfOk result (λ owned. owned_part slab v ≡ Ok (record { volume = v; slices = owned.0 })) }
+    ensures counts { (v : Leveled) → v ≡ record { grid = sizes; samples = S.list samples.now; level = slab.level }
+        → IfOk result (λ owned. owned.1 ≡ counts_of (record { volume = v; slices = owned.0 })) }
+    ensures fault { (v : Leveled) → v.grid ≡ sizes → IfErr result (IsReason (owned_part slab v)) }
+{
+    let level = slab.level;
+    let slices = owned_slices(slab, sizes.nz())?;
+    let counts = count_slices(alloc, sizes, samples, level, slices)?;
+    let part = PartCounts {
+        edges: counts.edges,
+        centres: counts.cells.centres,
+        faces: counts.cells.faces,
+    };
+    Ok((slices, part))
+}
+
+/// Counts a slab, and writes the line alone.
+fn count_stored<S: Samples, K: Sink>(
+    alloc: Global,
+    slab: Slab,
+    sizes: Sizes,
+    samples: &S,
+    output: &mut K,
+) -> SlabAnswer
+    requires count { length (S.list samples.now) ≡ point_count sizes }
+    requires samples { All IsSample (S.list samples.now) }
+    ensures { (v : Leveled) → v ≡ record { grid = sizes; samples = S.list samples.now; level = slab.level }
+        → (store : Store) → GivesOutput (output_by (record { slab = slab; files = None }) (owned_part slab v))
+        store store (K.seen output.old) (K.seen output.new) result }
+{
+    match count_owned(alloc, slab, sizes, samples) {
+        Ok((slices, counts)) => put_line(counts_line(slices, counts).as_str(), output),
+        Err(answer) => answer,
     }
 }
 
@@ -133,13 +179,17 @@ fn serve_stored<S: Samples, K: Sink, H: Shelf>(
         → GivesOutput (output_by job.now (owned_part job.now.slab v))
         (H.seen shelf.old) (H.seen shelf.new) (K.seen output.old) (K.seen output.new) result }
 {
+    let files = match &job.files {
+        None => return count_stored(alloc, job.slab, sizes, samples, output),
+        Some(files) => files,
+    };
     let mut part = match part_of(alloc, job.slab, sizes, samples) {
         Ok(part) => part,
         Err(answer) => return answer,
     };
     let counts = part.count();
     let line = counts_line(part.slices(), counts);
-    match make_files(part, counts.centres, job, shelf) {
+    match make_files(part, counts.centres, job.slab, files, shelf) {
         Ok(()) => put_line(line.as_str(), output),
         Err(answer) => answer,
     }
