@@ -18,7 +18,7 @@ use samples::{Samples, each_corner};
 use std::marker::Model;
 
 /// Samples are copied row by row where a row has more crossing edges than one for so many points.
-const FEW: usize = 8;
+const FEW: usize = 2;
 
 /// A volume in a list at a level. Contracts see its grid, its samples and the level.
 #[derive(Drop)]
