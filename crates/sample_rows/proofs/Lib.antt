@@ -1,4 +1,8 @@
 pub mod QuietCases
+pub mod MixedCases
+pub mod MixedRows
+pub mod MixedLists
+pub mod SixteenLanes
 pub mod Numbered
 pub mod SignRows
 pub mod RowPlaces

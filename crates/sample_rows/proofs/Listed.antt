@@ -22,10 +22,13 @@ same_filter p q a zero same = refl
 same_filter p q a (suc n) same =
     ap₂ (λ b l. cond {A = List ℕ} b (a ∷ l) l) (same a (omega arith) (omega arith)) (same_filter p q (a + 1) n (λ k least most. same k (omega (arith, least)) (omega (arith, most))))
 
-pub active_same : (all cases : List ℕ) (n : ℕ) → ((k : ℕ) → k < n → get_or all k 0 ≡ get_or cases k 0) → active_among all 0 n ≡ active_among cases 0 n
+pub active_alike : (all cases : List ℕ) (n : ℕ) → ((k : ℕ) → k < n → eqb (get_or all k 0) 0 ≡ eqb (get_or cases k 0) 0) → active_among all 0 n ≡ active_among cases 0 n
 unfolding active_among
-active_same all cases n same =
-    same_filter (λ x. not (eqb (get_or all x 0) 0)) (λ x. not (eqb (get_or cases x 0) 0)) 0 n (λ k _ most. ap (λ c. not (eqb c 0)) (same k (omega (arith, most))))
+active_alike all cases n same =
+    same_filter (λ x. not (eqb (get_or all x 0) 0)) (λ x. not (eqb (get_or cases x 0) 0)) 0 n (λ k _ most. ap not (same k (omega (arith, most))))
+
+pub active_same : (all cases : List ℕ) (n : ℕ) → ((k : ℕ) → k < n → get_or all k 0 ≡ get_or cases k 0) → active_among all 0 n ≡ active_among cases 0 n
+active_same all cases n same = active_alike all cases n (λ k low. ap (λ c. eqb c 0) (same k low))
 
 -- one number of a row more
 pub number_set : (numbers all : List ℕ) (x : ℕ) → x < length all → ((k : ℕ) → k < x → get_or all k 0 ≡ get_or numbers k 0 / 8) → (k : ℕ) → k < x + 1

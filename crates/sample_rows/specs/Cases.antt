@@ -33,6 +33,10 @@ abbrev pub AreBytes : Leveled → ℕ → ℕ → List ℕ → Type 0
 AreBytes v y z bytes = (x : ℕ) → x + 1 < v.grid.nx
     → bits_of 8 (slice_index bytes x) ≡ signs_at v (index v.grid x y z)
 
+-- those of the cells that begin in a row of points, if it begins any
+abbrev pub AreRowBytes : Leveled → ℕ → ℕ → List ℕ → Type 0
+AreRowBytes v y z bytes = y + 1 < v.grid.ny → z + 1 < v.grid.nz → AreBytes v y z bytes
+
 -- bits that tell which of 64 cells of a row from a place on may have loops
 pub record AreMixed (v : Leveled) (y z low bits : ℕ) : Type 0 where
   pub none : (k : ℕ) → k < 64 → low + k + 1 < v.grid.nx → bit_at bits k ≡ 0 → loops_at v (index v.grid (low + k) y z) ≡ []

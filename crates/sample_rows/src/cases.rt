@@ -8,10 +8,11 @@ ghost use Rattle.flat_mesh.specs.Centres.{IsCellAt};
 ghost use Rattle.flat_mesh.specs.Rows.{IsSignRow, byte_of, row_start};
 ghost use Rattle.mesh_rows.specs.Counts.{AreCounts};
 ghost use Rattle.mesh_rows.specs.Rows.{AreCases, AreCasesTo};
-ghost use Rattle.sample_rows.specs.Cases.{AreBytes, AreCasesBut, AreMixed, ArePut, AreRowCases, HaveRoom};
+ghost use Rattle.sample_rows.specs.Cases.{AreBytes, AreCasesBut, AreMixed, ArePut, AreRowBytes, AreRowCases, HaveRoom};
 ghost use Rattle.sample_rows.specs.Signs.{AreRowSigns};
 
 use crate::counts::count_cell;
+use crate::lanes::fill_many_bytes;
 use crate::signs::RowSigns;
 use case_table::{ambiguous_set, row_of};
 use flat_mesh::{Cell, Heights, cell_case, cell_row};
@@ -187,6 +188,27 @@ fn fill_cases<H: Heights>(
     counts
 }
 
+/// Writes the sign bytes of a row of cells at the front of a buffer, from their four rows of signs.
+#[inline(always)]
+fn fill_cell_bytes(near: &[u8], up: &[u8], far: &[u8], both: &[u8], bytes: &mut [u8])
+    requires some { 0 < length near.now }
+    requires near { IsSignRow (length near.now) near.now }
+    requires up { IsSignRow (length near.now) up.now }
+    requires far { IsSignRow (length near.now) far.now }
+    requires both { IsSignRow (length near.now) both.now }
+    requires room { length near.now ≤ length bytes.old }
+    ensures bytes { (x : ℕ) → x + 1 < length near.now
+        → slice_index bytes.new x ≡ byte_of near.now up.now far.now both.now x }
+    ensures behind { (x : ℕ) → length near.now ≤ x → slice_index bytes.new x ≡ slice_index bytes.old x }
+{
+    let count = near.len();
+    if count > 16 {
+        fill_many_bytes(near, up, far, both, bytes);
+    } else {
+        cell_row(near, up, far, both, &mut bytes[..count]);
+    }
+}
+
 /// Writes the sign bytes of a row of cells at the front of a buffer, from their four rows of signs, and a 0 behind them.
 #[inline(always)]
 fn fill_front_bytes(near: &[u8], up: &[u8], far: &[u8], both: &[u8], bytes: &mut [u8])
@@ -201,9 +223,8 @@ fn fill_front_bytes(near: &[u8], up: &[u8], far: &[u8], both: &[u8], bytes: &mut
     ensures last { slice_index bytes.new (length near.now - 1) ≡ 0 }
     ensures behind { (x : ℕ) → length near.now ≤ x → slice_index bytes.new x ≡ slice_index bytes.old x }
 {
-    let count = near.len();
-    cell_row(near, up, far, both, &mut bytes[..count]);
-    bytes[count - 1] = 0;
+    fill_cell_bytes(near, up, far, both, bytes);
+    bytes[near.len() - 1] = 0;
 }
 
 /// Buffers for a row of cells: their sign bytes, and the numbers of their cases.
@@ -254,6 +275,7 @@ pub fn fill_row<H: Heights>(
     requires count { length row.old.cases.items ≡ (H.leveled field.now).grid.nx }
     requires counts { AreCounts (H.leveled field.now) (row_start (H.leveled field.now).grid y z) counts }
     ensures cases { AreRowCases (H.leveled field.now) y z row.new.cases.items }
+    ensures bytes { AreRowBytes (H.leveled field.now) y z row.new.bytes.items }
     ensures counts { let g = (H.leveled field.now).grid in
         AreCounts (H.leveled field.now) (row_start g (y + 1) z) result }
     ensures room { HaveRoom (H.leveled field.now).grid row.new.bytes.items }
@@ -261,6 +283,7 @@ pub fn fill_row<H: Heights>(
     let sizes = field.sizes();
     row.cases.fill(0);
     if y + 1 == sizes.ny() || z + 1 == sizes.nz() {
+        row.bytes.fill(0);
         return counts;
     }
     fill_bytes(field, signs, y, z, &mut row.bytes);

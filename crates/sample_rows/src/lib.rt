@@ -9,6 +9,7 @@
 mod cases;
 mod counts;
 mod field;
+mod lanes;
 mod lists;
 mod parts;
 mod places;

@@ -1,16 +1,17 @@
 //! The crossing edges and the active cells of a row, listed as the row is kept.
-ghost use Rattle.std.specs.Prelude.{◌≡◌, ◌+◌, ◌-◌, ◌*◌, ◌/◌, ◌%◌, ◌<◌, ◌≤◌, length, map, slice_index, take};
+ghost use Rattle.std.specs.Prelude.{◌≡◌, ℕ, ◌+◌, ◌-◌, ◌*◌, ◌/◌, ◌%◌, ◌<◌, ◌≤◌, ◌++◌, length, map, slice_index, take};
 ghost use Rattle.row_bits.specs.Active.{active_among};
 ghost use Rattle.row_bits.specs.Edges.{edges_among};
 ghost use Rattle.mesh_rows.specs.Rows.{AreEdges};
-ghost use Rattle.sample_rows.specs.Lists.{cases_of, flags_of};
-ghost use Rattle.sample_rows.specs.Cases.{AreRowCases};
+ghost use Rattle.sample_rows.specs.Lists.{cases_of, flags_of, mixed_of};
+ghost use Rattle.sample_rows.specs.Cases.{AreRowBytes, AreRowCases, HaveRoom};
 ghost use Rattle.sample_rows.specs.Parts.{AreCells, HaveAllRows, part_cases, part_places};
 
+use crate::cases::CaseBuffers;
 use crate::parts::{RowPart, RowParts, numbers_from, part_of};
 use flat_mesh::Heights;
 use iso_base::{LONGEST_ROW, ROW_EDGES};
-use row_bits::{CASES, list_cases, list_edges};
+use row_bits::{CASES, list_cases, list_edges, mixed_at};
 
 /// Buffers for a row that is kept whole: the flags of its points, and the cases of the cells that begin at them. They are made once, since
 /// what stands in them is written over, and to clear them for each row takes long.
@@ -68,10 +69,9 @@ pub fn list_whole_cells(
     list_cases(all, numbers.len() - 1, places, cases)
 }
 
-/// Buffers for a row of cells: the numbers of their cases, and the active ones among them, by how far each is along x, with its case.
+/// Buffers for the active cells of a row: how far each is along x, and its case.
 #[derive(Drop)]
 pub struct CellLists {
-    pub all: [u16; CASES],
     pub places: [u16; LONGEST_ROW],
     pub cases: [u16; LONGEST_ROW],
 }
@@ -80,33 +80,73 @@ impl CellLists {
     /// Lists of nothing.
     pub fn new() -> CellLists {
         CellLists {
-            all: [0; CASES],
             places: [0; LONGEST_ROW],
             cases: [0; LONGEST_ROW],
         }
     }
 }
 
-/// Lists the active cells of a row at the front of its buffers, by the cases of all, and says how many there are.
+/// Lists the active cells of 64 of a row behind others, bit after bit of those that have crossing edges, and says where the next go.
+#[inline(always)]
+fn list_many(bytes: &[u8], from: usize, cases: &[u16], lists: &mut CellLists, at: usize) -> usize
+    requires many { from + 64 ≤ length bytes.now }
+    requires rest { (x : ℕ) → length cases.now ≤ x + 1 → slice_index bytes.now x ≡ 0 }
+    requires few { length cases.now ≤ 1026 }
+    requires room { at + length (active_among (mixed_of bytes.now) from 64) ≤ 1026 }
+    requires before { take at lists.old.cases ≡ map (slice_index cases.now) (take at lists.old.places) }
+    ensures places { take result lists.new.places
+        ≡ take at lists.old.places ++ active_among (mixed_of bytes.now) from 64 }
+    ensures cases { take result lists.new.cases ≡ map (slice_index cases.now) (take result lists.new.places) }
+    ensures end { result ≡ at + length (active_among (mixed_of bytes.now) from 64) }
+{
+    let mut at = at;
+    let mut rest = mixed_at(bytes, from);
+    while rest != 0 {
+        let x = from + rest.trailing_zeros() as usize;
+        lists.places[at] = x as u16;
+        lists.cases[at] = cases[x];
+        at += 1;
+        rest &= rest - 1;
+    }
+    at
+}
+
+/// Lists those of a row at the front of its buffers, by the sign bytes of its cells and the cases of its points.
+#[inline(always)]
+fn list_by_bytes(bytes: &[u8], cases: &[u16], lists: &mut CellLists) -> usize
+    requires runs { length bytes.now % 64 ≡ 0 }
+    requires room { length cases.now ≤ length bytes.now }
+    requires rest { (x : ℕ) → length cases.now ≤ x + 1 → slice_index bytes.now x ≡ 0 }
+    requires some { 0 < length cases.now }
+    requires few { length cases.now ≤ 1026 }
+    ensures places { take result lists.new.places ≡ active_among (mixed_of bytes.now) 0 (length cases.now - 1) }
+    ensures cases { take result lists.new.cases ≡ map (slice_index cases.now) (take result lists.new.places) }
+    ensures count { result < length cases.now }
+    ensures small { (x : ℕ) → slice_index bytes.now x < 256 }
+{
+    let mut at = 0;
+    for many in 0..bytes.len() / 64 {
+        at = list_many(bytes, 64 * many, cases, lists, at);
+    }
+    at
+}
+
+/// Lists the active cells of a row at the front of its buffers, by the sign bytes and the cases of all, and says how many there are.
 pub fn list_row<H: Heights>(
     field: &H,
     y: u32,
     z: u32,
-    cases: &[u16],
+    row: &CaseBuffers,
     lists: &mut CellLists,
 ) -> usize
-    requires cases { AreRowCases (H.leveled field.now) y z cases.now }
+    requires cases { AreRowCases (H.leveled field.now) y z row.now.cases.items }
+    requires bytes { AreRowBytes (H.leveled field.now) y z row.now.bytes.items }
+    requires room { HaveRoom (H.leveled field.now).grid row.now.bytes.items }
     ensures few { result < (H.leveled field.now).grid.nx }
     ensures cells { AreCells (H.leveled field.now) y z (take result lists.new.places) (take result lists.new.cases) }
 {
     let _ = (field.sizes(), y, z);
-    copy_front(cases, &mut lists.all);
-    list_cases(
-        &lists.all,
-        cases.len() - 1,
-        &mut lists.places,
-        &mut lists.cases,
-    )
+    list_by_bytes(&row.bytes, &row.cases, lists)
 }
 
 /// Copies a list to the front of a buffer.

@@ -3,7 +3,7 @@ ghost use Rattle.std.specs.Prelude.{◌≡◌, ℕ, ◌+◌, ◌*◌, ◌<◌, �
 ghost use Rattle.flat_mesh.specs.Rows.{row_start};
 ghost use Rattle.mesh_rows.specs.Counts.{AreCounts};
 ghost use Rattle.mesh_rows.specs.Rows.{AreEdges, AreFlags, IsStill};
-ghost use Rattle.sample_rows.specs.Cases.{AreRowCases, HasNoLoops};
+ghost use Rattle.sample_rows.specs.Cases.{AreRowBytes, AreRowCases, HasNoLoops};
 ghost use Rattle.sample_rows.specs.Kept.{AreAllKept, AreKept, HaveBuffers};
 ghost use Rattle.sample_rows.specs.Parts.{AreNumbers, HaveRows};
 ghost use Rattle.sample_rows.specs.Signs.{AreRowSigns, AreSlices, AreSliceSigns};
@@ -76,7 +76,8 @@ fn keep_whole<S: Samples>(
     add_whole(field, y, z, &row.numbers, rows)
 }
 
-/// Keeps a row of points as what it has. `row` has the cases of the cells that begin at them, and so many crossing edges.
+/// Keeps a row of points as what it has. `row` has the sign bytes and the cases of the cells that begin at them, and so many crossing
+/// edges.
 fn keep_few<S: Samples>(
     field: &ListField<S>,
     y: u32,
@@ -91,12 +92,13 @@ fn keep_few<S: Samples>(
     requires few { edges ≤ 3078 }
     requires edges { AreEdges field.now y z (take edges row.old.edges.edges) }
     requires cases { AreRowCases field.now y z row.old.cells.cases.items }
+    requires bytes { AreRowBytes field.now y z row.old.cells.bytes.items }
     requires rows { HaveRows field.now (y + field.now.grid.ny * z) rows.old }
     ensures rows { IfOk result (λ _. HaveRows field.now (y + field.now.grid.ny * z + 1) rows.new) }
     ensures buffers { HaveBuffers field.now.grid row.new }
 {
     let _ = field.sizes();
-    let cells = list_row(field, y, z, &row.cells.cases, &mut row.active);
+    let cells = list_row(field, y, z, &row.cells, &mut row.active);
     let few = FewLists {
         edges: &row.edges.edges[..edges],
         places: &row.active.places[..cells],
